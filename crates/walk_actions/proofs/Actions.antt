@@ -8,12 +8,12 @@ use Rattle.surf_model.specs.Moves.{Leads, apply, apply_all}
 use Rattle.surf_model.specs.Replacements.{Replaces}
 use Rattle.surf_model.specs.declared.moves.Move.{Move}
 use Rattle.surf_model.specs.declared.moves.Move.TheVariants.{Insert, Remove, Across}
-use Rattle.surf_model.proofs.EdgeLemmas.{step_edge, step_within, back_within, there_and_back as back_and_there}
+use Rattle.surf_model.proofs.EdgeLemmas.{step_edge, step_within}
 use Rattle.surf_model.proofs.RoundLemmas.{corner_after, meet}
 use Rattle.surf_model.proofs.ReplacementLemmas.{by_replacing}
 use Rattle.surf_model.proofs.ContextLemmas.{first_answer, stays_walk}
 use Rattle.walk_actions.specs.Actions.{run, walked, beyond, EachDart, EachDartOf, ActsAlong, Acts, IsEdge, AreDarts, RoundIsNothing, FacesActAsNothing, CrossesOnly}
-use Rattle.walk_actions.proofs.Corners.{next_back, after_more, once_round, steps_to, corners_beyond}
+use Rattle.walk_actions.proofs.Corners.{next_back, next_forth, after_more, once_round, steps_to, corners_beyond}
 use Rattle.walk_actions.proofs.Runs.{end_from, end_from-append, end_beyond, each_front, each_behind, each_on, each_round, edges_of, edges_are_darts, run-append, run-more, walked-round}
 
 -- where states are told apart by equality
@@ -60,11 +60,13 @@ pub record GoAlike {State : Type 0} (IsDart : ℕ → ℕ → Type 0) (Same : St
 abbrev pub round : {State : Type 0} → (State → ℕ → ℕ → State) → List ℕ → Bool → State → ℕ → ℕ → State
 round act ring rising s t k = run act s (get_or ring t 0) (beyond ring rising t k)
 
--- k steps by rising places and l steps by falling ones act alike from corner t
-abbrev TwoWays : {State : Type 0} → (State → State → Type 0) → (State → ℕ → ℕ → State) → (ℕ → State → Type 0) → List ℕ → ℕ → ℕ → ℕ → Type 0
-TwoWays {State} Same act IsAt ring k l t =
+-- k steps in a direction and l steps in the other one act alike from corner t
+abbrev TwoWays : {State : Type 0} → (State → State → Type 0) → (State → ℕ → ℕ → State) → (ℕ → State → Type 0) → List ℕ → Bool → ℕ → ℕ → ℕ
+    → Type 0
+TwoWays {State} Same act IsAt ring rising k l t =
     (s : State) → IsAt (get_or ring t 0) s
-    → AreSameAt Same IsAt (get_or ring (corner_after true (length ring) t k) 0) (round act ring true s t k) (round act ring false s t l)
+    → AreSameAt Same IsAt (get_or ring (corner_after rising (length ring) t k) 0) (round act ring rising s t k)
+    (round act ring (not rising) s t l)
 
 module _ {State : Type 0} (IsDart : ℕ → ℕ → Type 0) (Same : State → State → Type 0) (act : State → ℕ → ℕ → State)
     (IsAt : ℕ → State → Type 0) (acts : ActsAlong IsDart Same act IsAt)
@@ -200,98 +202,103 @@ module _ {State : Type 0} (IsDart : ℕ → ℕ → Type 0) (Same : State → St
             round_alike rising (next_corner rising (length ring) t) k (step_within rising (length ring) t l)
             (stepped (get_or ring (next_corner rising (length ring) t) 0) (step rising t l) h)
 
-        -- from the next corner one step fewer, and one step more the other way
-        from_next : (k l t : ℕ) → t < length ring → TwoWays Same act IsAt ring (suc k) l t
-            → TwoWays Same act IsAt ring k (suc l) (next_corner true (length ring) t)
-        from_next k l t within ways s at =
-            let m : ℕ = length ring in
-            let next : ℕ = next_corner true m t in
-            let u : ℕ = get_or ring t 0 in
-            let v : ℕ = get_or ring next 0 in
-            let dart : IsDart u v = step true t within in
-            let before : State = act s v u in
-            let again : AreSameAt Same IsAt v (act before u v) s =
-            there_and_back v u s (turn u v dart) dart at in
-            subst
-            (λ (x : ℕ). AreSameAt Same IsAt (get_or ring (corner_after true m next k) 0) (round act ring true s next k)
-            (round act ring false (act s v (get_or ring x 0)) x l))
-            (sym (next_back true m t within))
-            (joined
-            (round_alike true next k (step_within true m t within) (turned again))
-            (ways before (acts.stays v u s (turn u v dart) at)))
+        module _ (rising : Bool) where
+          -- from the next corner one step fewer, and one step more the other way
+          from_next : (k l t : ℕ) → t < length ring → TwoWays Same act IsAt ring rising (suc k) l t
+              → TwoWays Same act IsAt ring rising k (suc l) (next_corner rising (length ring) t)
+          from_next k l t within ways s at =
+              let m : ℕ = length ring in
+              let next : ℕ = next_corner rising m t in
+              let u : ℕ = get_or ring t 0 in
+              let v : ℕ = get_or ring next 0 in
+              let dart : IsDart u v = step rising t within in
+              let before : State = act s v u in
+              let again : AreSameAt Same IsAt v (act before u v) s = there_and_back v u s (turn u v dart) dart at in
+              subst
+              (λ (x : ℕ). AreSameAt Same IsAt (get_or ring (corner_after rising m next k) 0) (round act ring rising s next k)
+              (round act ring (not rising) (act s v (get_or ring x 0)) x l))
+              (sym (next_back rising m t within))
+              (joined (round_alike rising next k (step_within rising m t within) (turned again))
+              (ways before (acts.stays v u s (turn u v dart) at)))
 
-        -- where once round from a corner changes nothing, once round from the next one does not
-        round_from_next : (k t : ℕ) → length ring ≡ suc k → t < length ring → TwoWays Same act IsAt ring (suc k) 0 t
-            → TwoWays Same act IsAt ring (suc k) 0 (next_corner true (length ring) t)
-        round_from_next k t size within ways s at =
-            let m : ℕ = length ring in
-            let next : ℕ = next_corner true m t in
-            let u : ℕ = get_or ring t 0 in
-            let v : ℕ = get_or ring next 0 in
-            let dart : IsDart u v = step true t within in
-            let most : State = round act ring true s next k in
-            let home : corner_after true m next k ≡ t = ap (corner_after true m t) (sym size) ∙ once_round true m t within in
-            let on : corner_after true m next (suc k) ≡ next = after_more true m next k ∙ ap (next_corner true m) home in
-            let back : AreSameAt Same IsAt u most (act s v u) =
-            subst (λ (x : ℕ). AreSameAt Same IsAt (get_or ring x 0) most (act s v u)) home
-            (subst (λ (x : ℕ). AreSameAt Same IsAt (get_or ring (corner_after true m next k) 0) most (act s v (get_or ring x 0)))
-            (next_back true m t within) (from_next k 0 t within ways s at)) in
-            let whole : AreSameAt Same IsAt v (act most u v) s =
-            joined (stepped v dart back)
-            (there_and_back v u s (turn u v dart) dart at) in
-            let read : round act ring true s next (suc k) ≡ act most u v =
-            run-more act s ring true next k
-            ∙ ap (λ (x : ℕ). act most (get_or ring x 0) (get_or ring (corner_after true m next (suc k)) 0)) home
-            ∙ ap (λ (x : ℕ). act most u (get_or ring x 0)) on in
-            subst (λ (x : ℕ). AreSameAt Same IsAt (get_or ring x 0) (round act ring true s next (suc k)) s) (sym on)
-            (subst (λ (x : State). AreSameAt Same IsAt v x s) (sym read) whole)
+          -- where once round from a corner changes nothing, once round from the next one does not
+          round_from_next : (k t : ℕ) → length ring ≡ suc k → t < length ring → TwoWays Same act IsAt ring rising (suc k) 0 t
+              → TwoWays Same act IsAt ring rising (suc k) 0 (next_corner rising (length ring) t)
+          round_from_next k t size within ways s at =
+              let m : ℕ = length ring in
+              let next : ℕ = next_corner rising m t in
+              let u : ℕ = get_or ring t 0 in
+              let v : ℕ = get_or ring next 0 in
+              let dart : IsDart u v = step rising t within in
+              let most : State = round act ring rising s next k in
+              let home : corner_after rising m next k ≡ t = ap (corner_after rising m t) (sym size) ∙ once_round rising m t within in
+              let on : corner_after rising m next (suc k) ≡ next = after_more rising m next k ∙ ap (next_corner rising m) home in
+              let back : AreSameAt Same IsAt u most (act s v u) =
+              subst (λ (x : ℕ). AreSameAt Same IsAt (get_or ring x 0) most (act s v u)) home
+              (subst (λ (x : ℕ). AreSameAt Same IsAt (get_or ring (corner_after rising m next k) 0) most (act s v (get_or ring x 0)))
+              (next_back rising m t within) (from_next k 0 t within ways s at)) in
+              let whole : AreSameAt Same IsAt v (act most u v) s =
+              joined (stepped v dart back) (there_and_back v u s (turn u v dart) dart at) in
+              let read : round act ring rising s next (suc k) ≡ act most u v =
+              run-more act s ring rising next k
+              ∙ ap (λ (x : ℕ). act most (get_or ring x 0) (get_or ring (corner_after rising m next (suc k)) 0)) home
+              ∙ ap (λ (x : ℕ). act most u (get_or ring x 0)) on in
+              subst (λ (x : ℕ). AreSameAt Same IsAt (get_or ring x 0) (round act ring rising s next (suc k)) s) (sym on)
+              (subst (λ (x : State). AreSameAt Same IsAt v x s) (sym read) whole)
 
-        -- so from each corner behind
-        round_on : (k j t : ℕ) → length ring ≡ suc k → t < length ring → TwoWays Same act IsAt ring (suc k) 0 t
-            → TwoWays Same act IsAt ring (suc k) 0 (corner_after true (length ring) t j)
-        round_on k zero t size within ways = ways
-        round_on k (suc j) t size within ways =
-            round_on k j (next_corner true (length ring) t) size (step_within true (length ring) t within)
-            (round_from_next k t size within ways)
+          -- so from each corner behind
+          round_on : (k j t : ℕ) → length ring ≡ suc k → t < length ring → TwoWays Same act IsAt ring rising (suc k) 0 t
+              → TwoWays Same act IsAt ring rising (suc k) 0 (corner_after rising (length ring) t j)
+          round_on k zero t size within ways = ways
+          round_on k (suc j) t size within ways =
+              round_on k j (next_corner rising (length ring) t) size (step_within rising (length ring) t within)
+              (round_from_next k t size within ways)
 
-        round_anywhere : (t c : ℕ) → t < length ring → RoundIsNothing Same act IsAt ring t → c < length ring
-            → TwoWays Same act IsAt ring (length ring) 0 c
-        round_anywhere t c within nothing c_in =
-            let m : ℕ = length ring in
-            let size : m ≡ suc (m - 1) = omega arith in
-            let way = steps_to m t c within c_in in
-            subst (λ (x : ℕ). TwoWays Same act IsAt ring m 0 x) way.1
-            (subst (λ (n : ℕ). TwoWays Same act IsAt ring n 0 (corner_after true m t way.0)) (sym size)
-            (round_on (m - 1) way.0 t size within (subst (λ (n : ℕ). TwoWays Same act IsAt ring n 0 t) size (λ s at. record {
-              first = (round_alike true t m within (itself (get_or ring t 0) s at)).first;
-              second = subst (λ (x : ℕ). IsAt (get_or ring x 0) s) (sym (once_round true m t within)) at;
-              same = subst (λ (x : State). Same x s) (walked-round act s ring true t m) (nothing s at);
-            }))))
+          module _ (t : ℕ) (within : t < length ring) (nothing : RoundIsNothing Same act IsAt ring rising t) where
+            round_anywhere : (c : ℕ) → c < length ring → TwoWays Same act IsAt ring rising (length ring) 0 c
+            round_anywhere c c_in =
+                let m : ℕ = length ring in
+                let size : m ≡ suc (m - 1) = omega arith in
+                let way = steps_to rising m t c within c_in in
+                subst (λ (x : ℕ). TwoWays Same act IsAt ring rising m 0 x) way.1
+                (subst (λ (n : ℕ). TwoWays Same act IsAt ring rising n 0 (corner_after rising m t way.0)) (sym size)
+                (round_on (m - 1) way.0 t size within (subst (λ (n : ℕ). TwoWays Same act IsAt ring rising n 0 t) size (λ s at. record {
+                  first = (round_alike rising t m within (itself (get_or ring t 0) s at)).first;
+                  second = subst (λ (x : ℕ). IsAt (get_or ring x 0) s) (sym (once_round rising m t within)) at;
+                  same = subst (λ (x : State). Same x s) (walked-round act s ring rising t m) (nothing s at);
+                }))))
 
-        -- and the two ways from a corner to another act alike
-        two_ways : (l k t : ℕ) → k + l ≡ length ring → t < length ring
-            → ((c : ℕ) → c < length ring → TwoWays Same act IsAt ring (length ring) 0 c) → TwoWays Same act IsAt ring k l t
-        two_ways zero k t all within rounds =
-            let whole : length ring ≡ k = omega arith in
-            subst (λ (n : ℕ). TwoWays Same act IsAt ring n 0 t) whole (rounds t within)
-        two_ways (suc l) k t all within rounds =
-            let before : ℕ = next_corner false (length ring) t in
-            let before_in : before < length ring = back_within (length ring) t within in
-            subst (TwoWays Same act IsAt ring k (suc l)) (back_and_there (length ring) t within)
-            (from_next k l before before_in (two_ways l (suc k) before (omega arith) before_in rounds))
+            -- and the two ways from a corner to another act alike
+            two_ways : (l k c : ℕ) → k + l ≡ length ring → c < length ring → TwoWays Same act IsAt ring rising k l c
+            two_ways zero k c all c_in =
+                let whole : length ring ≡ k = omega arith in
+                subst (λ (n : ℕ). TwoWays Same act IsAt ring rising n 0 c) whole (round_anywhere c c_in)
+            two_ways (suc l) k c all c_in =
+                let before : ℕ = next_corner (not rising) (length ring) c in
+                let before_in : before < length ring = step_within (not rising) (length ring) c c_in in
+                subst (TwoWays Same act IsAt ring rising k (suc l)) (next_forth rising (length ring) c c_in)
+                (from_next k l before before_in (two_ways l (suc k) before (omega arith) before_in))
 
-        ways_alike : (t : ℕ) → t < length ring → RoundIsNothing Same act IsAt ring t
+            other_way : (c taken : ℕ) → c < length ring → taken ≤ length ring → (s : State) → IsAt (get_or ring c 0) s
+                → AreSameAt Same IsAt (get_or ring (corner_after (not rising) (length ring) c taken) 0)
+                (round act ring (not rising) s c taken) (round act ring rising s c (length ring - taken))
+            other_way c taken c_in few s at =
+                let m : ℕ = length ring in
+                let left : m - (m - taken) ≡ taken = omega arith in
+                subst (λ (x : ℕ). AreSameAt Same IsAt (get_or ring x 0) (round act ring (not rising) s c taken)
+                (round act ring rising s c (m - taken)))
+                (meet rising m c (m - taken) c_in (omega arith) ∙ ap (corner_after (not rising) m c) left)
+                (turned (two_ways taken (m - taken) c (omega arith) c_in s at))
+
+        ways_alike : (rising : Bool) (t : ℕ) → t < length ring → RoundIsNothing Same act IsAt ring rising t
             → (forward : Bool) (c taken : ℕ) → c < length ring → taken ≤ length ring → (s : State) → IsAt (get_or ring c 0) s
             → AreSameAt Same IsAt (get_or ring (corner_after forward (length ring) c taken) 0) (round act ring forward s c taken)
             (round act ring (not forward) s c (length ring - taken))
-        ways_alike t within nothing true c taken c_in few s at =
-            two_ways (length ring - taken) taken c (omega arith) c_in (λ x x_in. round_anywhere t x within nothing x_in) s at
-        ways_alike t within nothing false c taken c_in few s at =
-            let m : ℕ = length ring in
-            subst (λ (x : ℕ). AreSameAt Same IsAt (get_or ring x 0) (round act ring false s c taken) (round act ring true s c (m - taken)))
-            (sym (meet false m c taken c_in few))
-            (turned
-            (two_ways taken (m - taken) c (omega arith) c_in (λ x x_in. round_anywhere t x within nothing x_in) s at))
+        ways_alike true t l nothing true c taken c_in few s at = two_ways true t l nothing (length ring - taken) taken c (omega arith) c_in s at
+        ways_alike false t l nothing false c taken c_in few s at =
+            two_ways false t l nothing (length ring - taken) taken c (omega arith) c_in s at
+        ways_alike true t l nothing false c taken c_in few s at = other_way true t l nothing c taken c_in few s at
+        ways_alike false t l nothing true c taken c_in few s at = other_way false t l nothing c taken c_in few s at
 
     -- Moves.
     module _ (mesh : FaceList) (dart : AreDarts mesh IsDart) (May : ℕ → Type 0) (faces : FacesActAsNothing mesh Same act IsAt May) where
@@ -346,7 +353,7 @@ module _ {State : Type 0} (IsDart : ℕ → ℕ → Type 0) (Same : State → St
               alike = λ s d at.
                   subst (λ (x : ℕ). AreSameAt Same IsAt x (round act ring forward s corner taken)
                   (round act ring (not forward) s corner (m - taken))) (sym ended)
-                  (ways_alike dart.turned ring steps once.0 once.1 once.2 forward corner taken h.1 h.2 s at);
+                  (ways_alike dart.turned ring steps once.0 once.1 once.2 once.3 forward corner taken h.1 h.2 s at);
             };
           }
 

@@ -4,12 +4,16 @@ use Rattle.std.proofs.lemmas.Bool.{cases_lt}
 use Rattle.std.proofs.lemmas.Bool.Decides.{nat_tests}
 use Rattle.surf_model.specs.FaceLists.{next_corner, corners_from}
 use Rattle.surf_model.proofs.EdgeLemmas.{step_within}
-use Rattle.surf_model.proofs.RoundLemmas.{corner_after, rises, rises_past, meet}
+use Rattle.surf_model.proofs.RoundLemmas.{corner_after, rises, rises_past, falls, falls_past, meet}
 use Rattle.walk_actions.specs.Actions.{beyond}
 
 pub next_back : (rising : Bool) (m t : ℕ) → t < m → next_corner (not rising) m (next_corner rising m t) ≡ t
 next_back true m t l = grind (arith, nat_tests)
 next_back false m t l = grind (arith, nat_tests)
+
+pub next_forth : (rising : Bool) (m t : ℕ) → t < m → next_corner rising m (next_corner (not rising) m t) ≡ t
+next_forth true m t l = next_back false m t l
+next_forth false m t l = next_back true m t l
 
 pub after_within : (rising : Bool) (m t k : ℕ) → t < m → corner_after rising m t k < m
 after_within rising m t zero l = l
@@ -19,6 +23,12 @@ after_within rising m t (suc k) l = after_within rising m (next_corner rising m 
 pub after_more : (rising : Bool) (m t k : ℕ) → corner_after rising m t (suc k) ≡ next_corner rising m (corner_after rising m t k)
 after_more rising m t zero = refl
 after_more rising m t (suc k) = after_more rising m (next_corner rising m t) k
+
+pub after_add : (rising : Bool) (m t j k : ℕ) → corner_after rising m t (j + k) ≡ corner_after rising m (corner_after rising m t j) k
+after_add rising m t zero k = let none : 0 + k ≡ k = omega arith in ap (corner_after rising m t) none
+after_add rising m t (suc j) k =
+    let up : suc j + k ≡ suc (j + k) = omega arith in
+    ap (corner_after rising m t) up ∙ after_add rising m (next_corner rising m t) j k
 
 -- as many steps back
 pub after_back : (rising : Bool) (m t k : ℕ) → t < m → corner_after (not rising) m (corner_after rising m t k) k ≡ t
@@ -34,11 +44,16 @@ once_round rising m t l =
     meet rising m t m l (omega arith) ∙ ap (corner_after (not rising) m t) none
 
 -- so many steps lead from a corner to another
-pub steps_to : (m t to : ℕ) → t < m → to < m → (k : ℕ) × (corner_after true m t k ≡ to)
-steps_to m t to l b =
+pub steps_to : (rising : Bool) (m t to : ℕ) → t < m → to < m → (k : ℕ) × (corner_after rising m t k ≡ to)
+steps_to true m t to l b =
     elim (cases_lt to t) [
       | inl less ↦ (to + m - t, rises_past m t (to + m - t) l (omega arith) (omega arith) ∙ omega arith)
       | inr more ↦ (to - t, rises m t (to - t) l (omega arith) ∙ omega arith)
+    ]
+steps_to false m t to l b =
+    elim (cases_lt t to) [
+      | inl less ↦ (t + m - to, falls_past m t (t + m - to) l (omega arith) (omega arith) ∙ omega arith)
+      | inr more ↦ (t - to, falls m t (t - to) l (omega arith) ∙ omega arith)
     ]
 
 pub corners_beyond : (ring : List ℕ) (rising : Bool) (t k : ℕ) → corners_from ring rising t k ≡ get_or ring t 0 ∷ beyond ring rising t k

@@ -69,6 +69,10 @@ pub each_any : (u : ℕ) (vs : List ℕ) → EachDart (λ (a b : ℕ). Unit {0})
 each_any u [] = tt
 each_any u (v ∷ vs) = (tt, each_any v vs)
 
+pub each_any_of : (walk : List ℕ) → EachDartOf (λ (a b : ℕ). Unit {0}) walk
+each_any_of [] = tt
+each_any_of (u ∷ us) = each_any u us
+
 module _ {State : Type 0} (act : State → ℕ → ℕ → State) where
   pub run-append : (s : State) (u : ℕ) (xs ys : List ℕ) → run act s u (xs ++ ys) ≡ run act (run act s u xs) (end_from u xs) ys
   run-append s u [] ys = refl

@@ -1,5 +1,5 @@
 -- Darts that act on states, and what the darts of a walk make of a state, one after the other.
-use Rattle.std.specs.Prelude.{ℕ, zero, suc, ◌<◌, Bool, true, List, [], ◌∷◌, length, slice_index, IsTrue}
+use Rattle.std.specs.Prelude.{ℕ, zero, suc, ◌<◌, Bool, List, [], ◌∷◌, length, slice_index, IsTrue}
 use Rattle.surf_model.specs.FaceLists.{FaceList, face_at, next_corner, corners_from, is_edge}
 use Rattle.surf_model.specs.declared.moves.Move.{Move}
 use Rattle.surf_model.specs.declared.moves.Move.TheVariants.{Insert, Remove, Across}
@@ -55,18 +55,19 @@ pub record AreDarts (mesh : FaceList) (IsDart : ℕ → ℕ → Type 0) : Type 0
   pub edges : (u v : ℕ) → IsEdge mesh u v → IsDart u v
   pub turned : (u v : ℕ) → IsDart u v → IsDart v u
 
--- once round a ring from a corner changes no state there
-abbrev pub RoundIsNothing : {State : Type 0} → (State → State → Type 0) → (State → ℕ → ℕ → State) → (ℕ → State → Type 0) → List ℕ → ℕ
-    → Type 0
-RoundIsNothing {State} Same act IsAt ring corner =
-    (s : State) → IsAt (slice_index ring corner) s → Same (walked act s (corners_from ring true corner (length ring))) s
+-- once round a ring from a corner, by rising places or by falling ones, changes no state there
+abbrev pub RoundIsNothing : {State : Type 0} → (State → State → Type 0) → (State → ℕ → ℕ → State) → (ℕ → State → Type 0) → List ℕ → Bool
+    → ℕ → Type 0
+RoundIsNothing {State} Same act IsAt ring rising corner =
+    (s : State) → IsAt (slice_index ring corner) s → Same (walked act s (corners_from ring rising corner (length ring))) s
 
--- once round each face that may be crossed, from one of its corners, changes nothing
+-- once round each face that may be crossed, from one of its corners and in one direction, changes nothing
 pub record FacesActAsNothing {State : Type 0} (mesh : FaceList) (Same : State → State → Type 0) (act : State → ℕ → ℕ → State)
     (IsAt : ℕ → State → Type 0) (May : ℕ → Type 0) : Type 0
   where
     pub round : (f : ℕ) → f < length mesh.faces → May f
-        → (corner : ℕ) × (corner < length (face_at mesh f)) × RoundIsNothing Same act IsAt (face_at mesh f) corner
+        → (rising : Bool) × (corner : ℕ) × (corner < length (face_at mesh f))
+        × RoundIsNothing Same act IsAt (face_at mesh f) rising corner
 
 -- a move that crosses no face but those that may be crossed
 abbrev pub CrossesOnly : (ℕ → Type 0) → Move → Type 0
