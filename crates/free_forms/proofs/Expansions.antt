@@ -14,7 +14,7 @@ use Rattle.surf_model.proofs.EdgeLemmas.{ends_differ}
 use Rattle.connectivity.proofs.CornerLemmas.{partners_swap}
 use Rattle.free_forms.specs.Parents.{OpenView, HasParents, EndsOutside, Joins, IsParentEdge, parent_of, expansion}
 use Rattle.walk_actions.specs.Actions.{run, beyond, EachDart, ActsAlong, FacesActAsNothing}
-use Rattle.walk_actions.proofs.Corners.{next_back, after_within, after_more, after_back, after_add}
+use Rattle.walk_actions.proofs.Corners.{next_back, after_within, after_more, after_back, after_add, corners_apart}
 use Rattle.walk_actions.proofs.Runs.{end_from, end_beyond, each_dart, each_any, run-more, walked-round}
 use Rattle.walk_actions.proofs.Actions.{acts_exactly, run_stays}
 
@@ -276,7 +276,8 @@ round_and_back {State} act At acts ring rising t (suc k) l s at =
     let home : corner_after (not rising) m far (suc k) ≡ t =
     after_more (not rising) m far k ∙ ap (next_corner (not rising) m) near ∙ next_back rising m t l in
     run-more act (run act along (get_or ring next 0) (beyond ring rising next k)) ring (not rising) far k
-    ∙ ap (λ (x : State). act x (get_or ring (corner_after (not rising) m far k) 0) (get_or ring (corner_after (not rising) m far (suc k)) 0))
+    ∙ ap (λ (x : State). act x (get_or ring (corner_after (not rising) m far k) 0)
+    (get_or ring (corner_after (not rising) m far (suc k)) 0))
     (round_and_back act At acts ring rising next k next_in along (acts.stays _ _ s tt at))
     ∙ ap (λ (c : ℕ). act along (get_or ring c 0) (get_or ring (corner_after (not rising) m far (suc k)) 0)) near
     ∙ ap (λ (c : ℕ). act along (get_or ring next 0) (get_or ring c 0)) home ∙ acts.back _ _ s tt at
@@ -365,16 +366,7 @@ places_behind surface f rising i = corner_after rising (length (face_at surface.
 
 -- fewer steps than once round lead elsewhere
 elsewhere : (rising : Bool) (m t k : ℕ) → t < m → 0 < k → k < m → corner_after rising m t k ≢ t
-elsewhere true m t k l some few same =
-    elim (cases_lt (t + k) m) [
-      | inl less ↦ omega (arith, rises m t k l less, same)
-      | inr more ↦ omega (arith, rises_past m t k l (omega arith) more, same)
-    ]
-elsewhere false m t k l some few same =
-    elim (cases_lt t k) [
-      | inl less ↦ omega (arith, falls_past m t k l (omega arith) less, same)
-      | inr more ↦ omega (arith, falls m t k l more, same)
-    ]
+elsewhere rising m t k l some few same = corners_apart rising m t 0 k l some (omega arith) (omega arith) (sym same)
 
 -- no place comes twice
 pub places_differ : (surface : OpenView) (f : ℕ) (rising : Bool) (i j : ℕ) → HasParents surface → f < length surface.mesh.faces → i < j

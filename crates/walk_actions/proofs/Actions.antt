@@ -294,7 +294,8 @@ module _ {State : Type 0} (IsDart : ℕ → ℕ → Type 0) (Same : State → St
             → (forward : Bool) (c taken : ℕ) → c < length ring → taken ≤ length ring → (s : State) → IsAt (get_or ring c 0) s
             → AreSameAt Same IsAt (get_or ring (corner_after forward (length ring) c taken) 0) (round act ring forward s c taken)
             (round act ring (not forward) s c (length ring - taken))
-        ways_alike true t l nothing true c taken c_in few s at = two_ways true t l nothing (length ring - taken) taken c (omega arith) c_in s at
+        ways_alike true t l nothing true c taken c_in few s at =
+            two_ways true t l nothing (length ring - taken) taken c (omega arith) c_in s at
         ways_alike false t l nothing false c taken c_in few s at =
             two_ways false t l nothing (length ring - taken) taken c (omega arith) c_in s at
         ways_alike true t l nothing false c taken c_in few s at = other_way true t l nothing c taken c_in few s at
@@ -380,7 +381,8 @@ module _ {State : Type 0} (IsDart : ℕ → ℕ → Type 0) (Same : State → St
           → Same (walked act s first) (walked act s second)
       moves_act_along moves first second s some darts may e at =
           let a = moves_alike moves first second some may e in
-          let same = a.ways.alike s (subst (EachDartOf IsDart) a.walk_is darts) (subst (λ (l : List ℕ). IsAt (get_or l 0 0) s) a.walk_is at) in
+          let same =
+          a.ways.alike s (subst (EachDartOf IsDart) a.walk_is darts) (subst (λ (l : List ℕ). IsAt (get_or l 0 0) s) a.walk_is at) in
           subst (λ (l : List ℕ). Same (walked act s l) (walked act s second)) (sym a.walk_is)
           (subst (λ (l : List ℕ). Same (walked act s (a.start ∷ a.rest)) (walked act s l)) (sym a.other_is) same.same)
 

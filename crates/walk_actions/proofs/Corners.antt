@@ -1,5 +1,5 @@
--- The corners of a face: as many steps back, once round, and the steps that lead from one to another.
-use Rattle.std.proofs.Common.{◌≡◌, inl, inr, ℕ, zero, suc, ◌+◌, ◌-◌, ◌<◌, Bool, true, false, not, List, [], ◌∷◌, ◌++◌, length, get_or, refl, ap, ◌∙◌, arith}
+-- The corners of a face: as many steps back, once round, the steps that lead from one to another, and which of them are apart.
+use Rattle.std.proofs.Common.{◌≡◌, ◌≢◌, inl, inr, ℕ, zero, suc, ◌+◌, ◌-◌, ◌<◌, ◌≤◌, Bool, true, false, not, List, [], ◌∷◌, ◌++◌, length, get_or, refl, ap, sym, ◌∙◌, arith}
 use Rattle.std.proofs.lemmas.Bool.{cases_lt}
 use Rattle.std.proofs.lemmas.Bool.Decides.{nat_tests}
 use Rattle.surf_model.specs.FaceLists.{next_corner, corners_from}
@@ -55,6 +55,24 @@ steps_to false m t to l b =
       | inl less ↦ (t + m - to, falls_past m t (t + m - to) l (omega arith) (omega arith) ∙ omega arith)
       | inr more ↦ (t - to, falls m t (t - to) l (omega arith) ∙ omega arith)
     ]
+
+-- different numbers of steps, fewer apart than there are corners, lead to different corners
+rising_apart : (m t p q : ℕ) → t < m → p < q → q < p + m → q ≤ m → corner_after true m t p ≢ corner_after true m t q
+rising_apart m t p q l less few most same =
+    elim (cases_lt (t + q) m) [
+      | inl on ↦ omega (arith, rises m t p l (omega arith), rises m t q l on, same)
+      | inr past ↦ elim (cases_lt (t + p) m) [
+        | inl on ↦ omega (arith, rises m t p l on, rises_past m t q l most past, same)
+        | inr over ↦ omega (arith, rises_past m t p l (omega arith) over, rises_past m t q l most past, same)
+      ]
+    ]
+
+pub corners_apart : (rising : Bool) (m t p q : ℕ) → t < m → p < q → q < p + m → q ≤ m
+    → corner_after rising m t p ≢ corner_after rising m t q
+corners_apart true m t p q l less few most same = rising_apart m t p q l less few most same
+corners_apart false m t p q l less few most same =
+    rising_apart m t (m - q) (m - p) l (omega arith) (omega arith) (omega arith)
+    (sym (sym (meet false m t p l (omega arith)) ∙ same ∙ meet false m t q l most))
 
 pub corners_beyond : (ring : List ℕ) (rising : Bool) (t k : ℕ) → corners_from ring rising t k ≡ get_or ring t 0 ∷ beyond ring rising t k
 corners_beyond ring rising t zero = refl

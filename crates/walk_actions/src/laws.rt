@@ -6,7 +6,23 @@ ghost use Rattle.surf_model.specs.Moves.{Leads};
 ghost use Rattle.surf_model.specs.declared.moves.Move.{Move};
 ghost use Rattle.walk_actions.specs.Actions.{walked, Acts, FacesActAsNothing, CrossesOnly};
 
-use crate::action::Action;
+/// What darts do to states.
+pub trait Action {
+    /// What is carried along a walk.
+    ghost State: { Type 0 };
+
+    /// The state that a dart makes of one, from its first vertex to its second.
+    ghost act: { State → ℕ → ℕ → State };
+
+    /// Two states that are not told apart.
+    ghost Same: { State → State → Type 0 };
+
+    /// The states that stand at a vertex.
+    ghost IsAt: { ℕ → State → Type 0 };
+
+    /// The faces that may be crossed.
+    ghost May: { ℕ → Type 0 };
+}
 
 /// Moves do not change how a walk acts, where each face that they cross acts as nothing once round from one of its corners.
 pub fn moves_change_no_action<A: Action>()

@@ -7,5 +7,4 @@
 //! docs/ACTIONS.md tells it with drawings, and lists the actions by crate.
 #![tactic(auto)]
 
-pub mod action;
 pub mod laws;
