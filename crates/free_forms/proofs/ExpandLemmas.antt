@@ -9,7 +9,8 @@ use Rattle.surf_model.specs.Vertices.{numbers}
 use Rattle.surf_model.specs.declared.edges.Side.{Side}
 use Rattle.surf_model.specs.declared.moves.Move.TheVariants.{Across}
 use Rattle.surf_model.specs.declared.names.VertexName.{VertexName}
-use Rattle.free_forms.specs.Parents.{OpenView, HasParents, Joins, parent_of, beyond}
+use Rattle.free_forms.specs.Parents.{OpenView, HasParents, Joins, parent_of}
+use Rattle.walk_actions.specs.Actions.{beyond}
 use Rattle.free_forms.specs.Reductions.{Expands, IsWayAlong}
 use Rattle.free_forms.proofs.Expansions.{length_beyond}
 use Rattle.free_forms.proofs.ParentEdgeLemmas.{way_found, expansion_read}

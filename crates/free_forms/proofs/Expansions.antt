@@ -12,8 +12,21 @@ use Rattle.surf_model.proofs.RoundLemmas.{corner_after, rises, rises_past, falls
 use Rattle.surf_model.proofs.TableLemmas.{joins_swap}
 use Rattle.surf_model.proofs.EdgeLemmas.{ends_differ}
 use Rattle.connectivity.proofs.CornerLemmas.{partners_swap}
-use Rattle.free_forms.specs.Parents.{OpenView, HasParents, EndsOutside, Joins, IsParentEdge, parent_of, beyond, expansion}
-use Rattle.free_forms.proofs.Actions.{Acts, FacesActAsNothing, run, end_from, end_beyond, run_stays, run-add, round_and_back, after_back, after_within, corner_after-add}
+use Rattle.free_forms.specs.Parents.{OpenView, HasParents, EndsOutside, Joins, IsParentEdge, parent_of, expansion}
+use Rattle.walk_actions.specs.Actions.{run, beyond, EachDart, ActsAlong, FacesActAsNothing}
+use Rattle.walk_actions.proofs.Corners.{next_back, after_within, after_more, after_back, after_add, corners_apart}
+use Rattle.walk_actions.proofs.Runs.{end_from, end_beyond, each_dart, each_any, run-more, walked-round}
+use Rattle.walk_actions.proofs.Actions.{acts_exactly, run_stays}
+
+-- each pair of vertices acts, also in lists that are no walks; states are told apart by equality
+abbrev pub AnyDart : ℕ → ℕ → Type 0
+AnyDart u v = Unit {0}
+
+abbrev pub Equal : {State : Type 0} → State → State → Type 0
+Equal s t = s ≡ t
+
+abbrev pub ActsAnywhere : {State : Type 0} → (State → ℕ → ℕ → State) → (ℕ → State → Type 0) → Type 0
+ActsAnywhere act At = ActsAlong AnyDart Equal act At
 
 -- the parent of face f with its vertices
 abbrev pub whole_parent : OpenView → ℕ → FaceSide
@@ -246,8 +259,31 @@ expansion_ends surface f u v has found =
     ap (end_from u) e.way ∙ ap (λ (x : ℕ). end_from x (beyond ring e.rising e.from k)) (sym e.at_u)
     ∙ end_beyond ring e.rising e.from k ∙ ap (λ (c : ℕ). get_or ring c 0) e.far ∙ e.at_v
 
+-- some steps round a face and as many back change nothing
+round_and_back : {State : Type 0} (act : State → ℕ → ℕ → State) (At : ℕ → State → Type 0) → ActsAnywhere act At
+    → (ring : List ℕ) (rising : Bool) (t k : ℕ) → t < length ring → (s : State) → At (get_or ring t 0) s
+    → run act (run act s (get_or ring t 0) (beyond ring rising t k)) (get_or ring (corner_after rising (length ring) t k) 0)
+    (beyond ring (not rising) (corner_after rising (length ring) t k) k)
+    ≡ s
+round_and_back act At acts ring rising t zero l s at = refl
+round_and_back {State} act At acts ring rising t (suc k) l s at =
+    let m : ℕ = length ring in
+    let next : ℕ = next_corner rising m t in
+    let next_in : next < m = step_within rising m t l in
+    let far : ℕ = corner_after rising m next k in
+    let along : State = act s (get_or ring t 0) (get_or ring next 0) in
+    let near : corner_after (not rising) m far k ≡ next = after_back rising m next k next_in in
+    let home : corner_after (not rising) m far (suc k) ≡ t =
+    after_more (not rising) m far k ∙ ap (next_corner (not rising) m) near ∙ next_back rising m t l in
+    run-more act (run act along (get_or ring next 0) (beyond ring rising next k)) ring (not rising) far k
+    ∙ ap (λ (x : State). act x (get_or ring (corner_after (not rising) m far k) 0)
+    (get_or ring (corner_after (not rising) m far (suc k)) 0))
+    (round_and_back act At acts ring rising next k next_in along (acts.stays _ _ s tt at))
+    ∙ ap (λ (c : ℕ). act along (get_or ring c 0) (get_or ring (corner_after (not rising) m far (suc k)) 0)) near
+    ∙ ap (λ (c : ℕ). act along (get_or ring next 0) (get_or ring c 0)) home ∙ acts.back _ _ s tt at
+
 -- an expansion and the way back along it change nothing
-pub expansion_back : {State : Type 0} (act : State → ℕ → ℕ → State) (At : ℕ → State → Type 0) → Acts act At
+pub expansion_back : {State : Type 0} (act : State → ℕ → ℕ → State) (At : ℕ → State → Type 0) → ActsAnywhere act At
     → (surface : OpenView) (f u v : ℕ) → HasParents surface → IsFound surface u v f → (s : State) → At u s
     → run act (run act s u (expansion surface.mesh (parent_of surface f) u)) v (expansion surface.mesh (parent_of surface f) v) ≡ s
 expansion_back {State} act At acts surface f u v has found s at =
@@ -265,50 +301,40 @@ expansion_back {State} act At acts surface f u v has found s at =
 
 -- where there and back changes nothing by the base, and inside expansions, so it is one level up
 level_stays : {State : Type 0} (surface : OpenView) (base inner : State → ℕ → ℕ → State) (At : ℕ → State → Type 0) → HasParents surface
-    → Acts base At → Acts inner At → (u v : ℕ) (o : Option ℕ) → parent_face_of surface u v ≡ o → (s : State) → At u s
+    → ActsAnywhere base At → ActsAnywhere inner At → (u v : ℕ) (o : Option ℕ) → parent_face_of surface u v ≡ o → (s : State) → At u s
     → At v (by_face surface base (λ f x. x) inner o s u v)
-level_stays surface base inner At has acts more u v None e s at = acts.stays s u v at
+level_stays surface base inner At has acts more u v None e s at = acts.stays u v s tt at
 level_stays surface base inner At has acts more u v (Some f) e s at =
     let way : List ℕ = expansion surface.mesh (parent_of surface f) u in
     subst (λ (x : ℕ). At x (run inner s u way)) (expansion_ends surface f u v has (found_face surface u v f e))
-    (run_stays inner At more s u way at)
+    (run_stays AnyDart Equal inner At more s u way (each_any u way) at)
 
 level_back : {State : Type 0} (surface : OpenView) (base inner : State → ℕ → ℕ → State) (At : ℕ → State → Type 0) → HasParents surface
-    → Acts base At → Acts inner At → (u v : ℕ) (o : Option ℕ) → parent_face_of surface u v ≡ o → (s : State) → At u s
+    → ActsAnywhere base At → ActsAnywhere inner At → (u v : ℕ) (o : Option ℕ) → parent_face_of surface u v ≡ o → (s : State) → At u s
     → by_face surface base (λ f x. x) inner o (by_face surface base (λ f x. x) inner o s u v) v u ≡ s
-level_back surface base inner At has acts more u v None e s at = acts.back s u v at
+level_back surface base inner At has acts more u v None e s at = acts.back u v s tt at
 level_back surface base inner At has acts more u v (Some f) e s at =
     expansion_back inner At more surface f u v has (found_face surface u v f e) s at
 
 -- where there and back by the base changes nothing, so it is with expansions
 pub acting_acts : {State : Type 0} (surface : OpenView) (base : State → ℕ → ℕ → State) (At : ℕ → State → Type 0) → HasParents surface
-    → Acts base At → (n : ℕ) → Acts (acting surface base (λ f s. s) n) At
+    → ActsAnywhere base At → (n : ℕ) → ActsAnywhere (acting surface base (λ f s. s) n) At
 acting_acts surface base At has acts zero = acts
 acting_acts {State} surface base At has acts (suc n) =
     let inner : State → ℕ → ℕ → State = acting surface base (λ f x. x) n in
-    let more : Acts inner At = acting_acts surface base At has acts n in
-    record {
-      stays = λ s u v at. level_stays surface base inner At has acts more u v (parent_face_of surface u v) refl s at;
-      back = λ s u v at.
-          ap (λ (o : Option ℕ). by_face surface base (λ f x. x) inner o (acting surface base (λ f x. x) (suc n) s u v) v u)
-          (face_swap surface (length surface.mesh.faces) v u)
-          ∙ level_back surface base inner At has acts more u v (parent_face_of surface u v) refl s at;
-    }
-
--- what holds of each dart from u on along a list of vertices
-abbrev pub EachDart : (ℕ → ℕ → Type 0) → ℕ → List ℕ → Type 0
-EachDart P u [] = Unit {0}
-EachDart P u (v ∷ vs) = P u v × EachDart P v vs
+    let more : ActsAnywhere inner At = acting_acts surface base At has acts n in
+    acts_exactly AnyDart (acting surface base (λ f x. x) (suc n)) At
+    (λ u v s dart at. level_stays surface base inner At has acts more u v (parent_face_of surface u v) refl s at)
+    (λ u v s dart at.
+    ap (λ (o : Option ℕ). by_face surface base (λ f x. x) inner o (acting surface base (λ f x. x) (suc n) s u v) v u)
+    (face_swap surface (length surface.mesh.faces) v u)
+    ∙ level_back surface base inner At has acts more u v (parent_face_of surface u v) refl s at)
 
 pub run_agree : {State : Type 0} (act other : State → ℕ → ℕ → State) (u : ℕ) (vs : List ℕ)
     → EachDart (λ a b. (s : State) → act s a b ≡ other s a b) u vs → (s : State) → run act s u vs ≡ run other s u vs
 run_agree act other u [] h s = refl
 run_agree act other u (v ∷ vs) h s =
     ap (λ x. run act x v vs) (h.0 s) ∙ run_agree act other v vs h.1 (other s u v)
-
-pub each_dart : (P Q : ℕ → ℕ → Type 0) → ((a b : ℕ) → P a b → Q a b) → (u : ℕ) (vs : List ℕ) → EachDart P u vs → EachDart Q u vs
-each_dart P Q more u [] h = tt
-each_dart P Q more u (v ∷ vs) h = (more u v h.0, each_dart P Q more v vs h.1)
 
 -- the side of face f at a place
 abbrev pub side_at : ℕ → ℕ → Side
@@ -340,21 +366,7 @@ places_behind surface f rising i = corner_after rising (length (face_at surface.
 
 -- fewer steps than once round lead elsewhere
 elsewhere : (rising : Bool) (m t k : ℕ) → t < m → 0 < k → k < m → corner_after rising m t k ≢ t
-elsewhere true m t k l some few same =
-    elim (cases_lt (t + k) m) [
-      | inl less ↦ omega (arith, rises m t k l less, same)
-      | inr more ↦ omega (arith, rises_past m t k l (omega arith) more, same)
-    ]
-elsewhere false m t k l some few same =
-    elim (cases_lt t k) [
-      | inl less ↦ omega (arith, falls_past m t k l (omega arith) less, same)
-      | inr more ↦ omega (arith, falls m t k l more, same)
-    ]
-
-after_more : (rising : Bool) (m t k : ℕ) → next_corner rising m (corner_after rising m t k) ≡ corner_after rising m t (suc k)
-after_more rising m t k =
-    let up : suc k ≡ k + 1 = omega arith in
-    sym (ap (corner_after rising m t) up ∙ corner_after-add rising m t k 1)
+elsewhere rising m t k l some few same = corners_apart rising m t 0 k l some (omega arith) (omega arith) (sym same)
 
 -- no place comes twice
 pub places_differ : (surface : OpenView) (f : ℕ) (rising : Bool) (i j : ℕ) → HasParents surface → f < length surface.mesh.faces → i < j
@@ -365,7 +377,7 @@ places_differ surface f rising i j has l less few same =
     let far : suc j ≡ suc i + (j - i) = omega arith in
     elsewhere rising m (corner_after rising m t (suc i)) (j - i) (after_within rising m t (suc i) (has.within f l)) (omega arith)
     (omega arith)
-    (sym (ap (corner_after rising m t) far ∙ corner_after-add rising m t (suc i) (j - i)) ∙ same)
+    (sym (ap (corner_after rising m t) far ∙ after_add rising m t (suc i) (j - i)) ∙ same)
 
 -- rising from the corner behind the parent
 along_rising : (surface : OpenView) (f j k c : ℕ) → HasParents surface → f < length surface.mesh.faces
@@ -385,7 +397,7 @@ along_rising surface f j (suc k) c has l few is =
     } in (
       subst (λ (p : ℕ). IsAlong surface f p (get_or ring c 0) (get_or ring (next_corner true m c) 0)) is here,
       along_rising surface f (suc j) k (next_corner true m c) has l (omega arith)
-          (ap (next_corner true m) is ∙ after_more true m t (suc j)),
+          (ap (next_corner true m) is ∙ sym (after_more true m t (suc j))),
     )
 
 -- falling from the corner where the parent starts
@@ -400,7 +412,7 @@ along_falling surface f j (suc k) c has l few is c_within =
     let m : ℕ = length ring in
     let t : ℕ = (parent_of surface f).at in
     let next : ℕ = next_corner false m c in
-    let next_is : next ≡ corner_after false m t (suc j) = ap (next_corner false m) is ∙ after_more false m t j in
+    let next_is : next ≡ corner_after false m t (suc j) = ap (next_corner false m) is ∙ sym (after_more false m t j) in
     let within : next < m = step_within false m c c_within in
     let home : next_corner true m next ≡ c = after_back false m c 1 c_within in
     let here : IsAlong surface f next (get_or ring c 0) (get_or ring next 0) = record {
@@ -545,28 +557,35 @@ acts_by_base surface base enter has u v s none =
 
 -- so once round each face from the corner behind its parent changes nothing
 pub faces_nothing : {State : Type 0} (surface : OpenView) (base : State → ℕ → ℕ → State) (At : ℕ → State → Type 0) → HasParents surface
-    → Acts base At → FacesActAsNothing surface.mesh (act_fully surface base (λ f s. s)) At
+    → ActsAnywhere base At → FacesActAsNothing surface.mesh Equal (act_fully surface base (λ f s. s)) At (λ f. Unit {0})
 faces_nothing {State} surface base At has acts = record {
-  corner = λ f l. next_corner true (length (face_at surface.mesh f)) (parent_of surface f).at;
-  within = λ f l. step_within true (length (face_at surface.mesh f)) (parent_of surface f).at (has.within f l);
-  nothing = λ f l s at.
-      let side : Side = parent_of surface f in
-      let ring : List ℕ = face_at surface.mesh f in
-      let m : ℕ = length ring in
-      let next : ℕ = next_corner true m side.at in
-      let tail : ℕ = tail_of surface.mesh side in
-      let head : ℕ = head_of surface.mesh side in
-      let within : side.at < m = has.within f l in
-      let differ : tail ≢ head = ends_differ surface.mesh side has.valid (parent_in_mesh surface f has l) in
-      let found : IsFound surface head tail f = record { within = l; joined = inr (refl, refl) } in
-      let around : State = run act s head (beyond ring true next (m - 1)) in
-      let rest : around ≡ act s head tail =
-      sym (acts_by_expansion surface base (λ f x. x) has head tail f s found ∙ ap (run act s head) (from_head surface f head differ)) in
-      let whole : m ≡ (m - 1) + 1 = omega arith in
-      ap (λ (n : ℕ). run act s head (beyond ring true next n)) whole ∙ run-add act s ring true next (m - 1) 1
-      ∙ ap (λ (c : ℕ). act around (get_or ring c 0) (get_or ring (next_corner true m c) 0)) (most_rising m side.at within)
-      ∙ ap (λ (x : State). act x tail head) rest
-      ∙ (acting_acts surface base At has acts (length surface.mesh.faces)).back s head tail at;
+  round = λ f l may. (
+    true,
+    next_corner true (length (face_at surface.mesh f)) (parent_of surface f).at,
+    step_within true (length (face_at surface.mesh f)) (parent_of surface f).at (has.within f l),
+    λ s at.
+        let side : Side = parent_of surface f in
+        let ring : List ℕ = face_at surface.mesh f in
+        let m : ℕ = length ring in
+        let next : ℕ = next_corner true m side.at in
+        let tail : ℕ = tail_of surface.mesh side in
+        let head : ℕ = head_of surface.mesh side in
+        let within : side.at < m = has.within f l in
+        let differ : tail ≢ head = ends_differ surface.mesh side has.valid (parent_in_mesh surface f has l) in
+        let found : IsFound surface head tail f = record { within = l; joined = inr (refl, refl) } in
+        let around : State = run act s head (beyond ring true next (m - 1)) in
+        let rest : around ≡ act s head tail =
+        sym (acts_by_expansion surface base (λ f x. x) has head tail f s found ∙ ap (run act s head) (from_head surface f head differ)) in
+        let whole : m ≡ suc (m - 1) = omega arith in
+        let most : corner_after true m next (m - 1) ≡ side.at = most_rising m side.at within in
+        walked-round act s ring true next m
+        ∙ ap (λ (n : ℕ). run act s head (beyond ring true next n)) whole ∙ run-more act s ring true next (m - 1)
+        ∙ ap (λ (c : ℕ). act around (get_or ring (corner_after true m next (m - 1)) 0) (get_or ring c 0))
+        (after_more true m next (m - 1) ∙ ap (next_corner true m) most)
+        ∙ ap (λ (c : ℕ). act around (get_or ring c 0) head) most
+        ∙ ap (λ (x : State). act x tail head) rest
+        ∙ (acting_acts surface base At has acts (length surface.mesh.faces)).back head tail s tt at,
+  );
 }
   where
     act : State → ℕ → ℕ → State

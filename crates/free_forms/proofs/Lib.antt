@@ -1,4 +1,3 @@
-pub mod Actions
 pub mod Expansions
 pub mod NormalLemmas
 pub mod EdgeCountLemmas

@@ -12,8 +12,10 @@ use Rattle.surf_model.proofs.ContextLemmas.{first_answer, stays_walk, one_after_
 use Rattle.surf_model.proofs.WayBackLemmas.{list_keeps_ends, list_undone}
 use Rattle.free_forms.specs.Parents.{OpenView, HasParents, IsParentEdge}
 use Rattle.free_forms.specs.Normal.{IsNormalWalkOf}
-use Rattle.free_forms.proofs.Actions.{Acts, run, walked, moves_act}
-use Rattle.free_forms.proofs.Expansions.{EachDart, act_fully, acts_by_base, acting_acts, faces_nothing}
+use Rattle.walk_actions.specs.Actions.{run, walked, EachDart}
+use Rattle.walk_actions.proofs.Runs.{any_darts, each_any_of}
+use Rattle.walk_actions.proofs.Actions.{acts_exactly, moves_act_along, crosses_any}
+use Rattle.free_forms.proofs.Expansions.{AnyDart, Equal, ActsAnywhere, act_fully, acts_by_base, acting_acts, faces_nothing}
 
 -- a stack without spurs, whose top is the vertex
 pub record IsStackAt (v : ℕ) (stack : List ℕ) : Type 0 where
@@ -29,12 +31,11 @@ put_at stack v clean =
     let top = top_put stack v in
     record { below = top.0; top = top.1; no_spur = put_keeps stack v clean }
 
-pub puts_act : Acts put IsStackAt
-puts_act = record {
-  stays = λ s u v at. put_at s v at.no_spur;
-  back = λ s u v at.
-      subst (λ (x : List ℕ). put_on (put_on x v) u ≡ x) (sym at.top) (there_and_back u v at.below (subst HasNoSpur at.top at.no_spur));
-}
+pub puts_act : ActsAnywhere put IsStackAt
+puts_act =
+    acts_exactly AnyDart put IsStackAt (λ u v s dart at. put_at s v at.no_spur)
+    (λ u v s dart at.
+    subst (λ (x : List ℕ). put_on (put_on x v) u ≡ x) (sym at.top) (there_and_back u v at.below (subst HasNoSpur at.top at.no_spur)))
 
 -- off the parent edges each vertex is put on
 pub puts_all : (surface : OpenView) → HasParents surface → (s : List ℕ) (u : ℕ) (vs : List ℕ)
@@ -64,9 +65,9 @@ walk_puts surface walk (u ∷ us) stack has start h some clean =
     let act : List ℕ → ℕ → ℕ → List ℕ = act_fully surface put (λ f s. s) in
     let first : ℕ = get_or walk 0 0 in
     let same : first ≡ u = (list_keeps_ends surface.mesh h.homotopic.0 walk (u ∷ us) start h.homotopic.1).starts in
-    moves_act surface.mesh act IsStackAt (acting_acts surface put IsStackAt has puts_act (length surface.mesh.faces))
-    (faces_nothing surface put IsStackAt has puts_act) h.homotopic.0 walk (u ∷ us) start h.homotopic.1 (put_on stack first)
-    (put_at stack first clean)
+    moves_act_along AnyDart Equal act IsStackAt (acting_acts surface put IsStackAt has puts_act (length surface.mesh.faces)) surface.mesh
+    (any_darts surface.mesh) (λ f. Unit {0}) (faces_nothing surface put IsStackAt has puts_act) h.homotopic.0 walk (u ∷ us)
+    (put_on stack first) start (each_any_of walk) (crosses_any h.homotopic.0) h.homotopic.1 (put_at stack first clean)
     ∙ ap (λ (v : ℕ). run act (put_on stack v) u us) same
     ∙ puts_all surface has (put_on stack u) u us (off_parents surface u us h.normal.no_parent)
 

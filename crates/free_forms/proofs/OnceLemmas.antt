@@ -12,7 +12,7 @@ use Rattle.surf_model.proofs.NumberLemmas.{face_side}
 use Rattle.surf_model.proofs.TableLemmas.{Contains-filter, face_side_in}
 use Rattle.connectivity.specs.Joined.{NoEdgeHasThreeSides}
 use Rattle.free_forms.specs.Parents.{OpenView, HasParents, EndsOutside, parent_of, expansion}
-use Rattle.free_forms.proofs.Actions.{run}
+use Rattle.walk_actions.specs.Actions.{run}
 use Rattle.free_forms.proofs.Expansions.{EachAlong, IsAlong, IsFound, acting, by_face, parent_face_of, found_face, expansion_places, places_behind, places_differ, expansion_size, side_at, across}
 
 -- ---- a side has one partner

@@ -1,5 +1,5 @@
 -- The parent on an edge, found by the table of the mesh; and the way along it.
-use Rattle.std.proofs.Common.{◌≡◌, ◌⊎◌, inl, inr, ℕ, zero, suc, ◌+◌, ◌-◌, ◌<◌, ◌≤◌, Bool, true, false, not, eqb, List, [], ◌∷◌, ◌++◌, length, get_or, refl, ap, sym, ◌∙◌, subst, arith}
+use Rattle.std.proofs.Common.{◌≡◌, ◌⊎◌, inl, inr, ℕ, zero, suc, ◌-◌, ◌<◌, ◌≤◌, Bool, true, false, not, eqb, List, [], ◌∷◌, ◌++◌, length, get_or, refl, ap, sym, ◌∙◌, subst, arith}
 use Rattle.std.specs.Prelude.{All, Some, slice_get, reverse, cond}
 use Rattle.std.proofs.lemmas.Bool.{eqb-true, eq-eqb, both_ways}
 use Rattle.std.proofs.lemmas.List.{reverse-append}
@@ -11,9 +11,10 @@ use Rattle.surf_model.specs.declared.edges.Side.{Side}
 use Rattle.surf_model.proofs.EdgeLemmas.{step_within}
 use Rattle.surf_model.proofs.PartnerLemmas.{IsSideOfEdge, IsEdgeOfSide, side_of_edge, edge_has_side, edge_of_side, table_edge}
 use Rattle.surf_model.proofs.RoundLemmas.{corner_after, meet}
-use Rattle.free_forms.specs.Parents.{OpenView, HasParents, Joins, IsParentEdge, parent_of, beyond, expansion}
+use Rattle.free_forms.specs.Parents.{OpenView, HasParents, Joins, IsParentEdge, parent_of, expansion}
+use Rattle.walk_actions.specs.Actions.{beyond}
+use Rattle.walk_actions.proofs.Corners.{after_back, beyond_more}
 use Rattle.free_forms.specs.Reductions.{IsWayAlong}
-use Rattle.free_forms.proofs.Actions.{after_back, corner_after-add}
 use Rattle.free_forms.proofs.Expansions.{from_tail, from_head, parent_in_mesh}
 
 sides_meet : (t h u v low high : ℕ) → ((t ≡ low) × (h ≡ high)) ⊎ ((t ≡ high) × (h ≡ low))
@@ -91,19 +92,11 @@ reverse_beyond ring rising c (suc k) l =
     let next : ℕ = next_corner rising m c in
     let within : next < m = step_within rising m c l in
     let far : ℕ = corner_after rising m next (suc k) in
-    let up : suc k ≡ k + 1 = omega arith in
-    let near : next_corner (not rising) m (corner_after (not rising) m far k) ≡ next =
-    sym (ap (corner_after (not rising) m far) up ∙ corner_after-add (not rising) m far k 1) ∙ after_back rising m next (suc k) within in
+    let near : corner_after (not rising) m far (suc k) ≡ next = after_back rising m next (suc k) within in
     reverse_first (get_or ring next 0) (beyond ring rising next (suc k))
     ∙ ap (λ (w : List ℕ). w ++ get_or ring next 0 ∷ []) (reverse_beyond ring rising next k within)
     ∙ ap (λ (w : List ℕ). get_or ring far 0 ∷ w)
-    (ap (λ (x : ℕ). beyond ring (not rising) far k ++ get_or ring x 0 ∷ []) (sym near) ∙ sym (beyond_last ring (not rising) far k))
-  where
-    beyond_last : (r : List ℕ) (b : Bool) (t j : ℕ)
-        → beyond r b t (suc j) ≡ beyond r b t j ++ get_or r (next_corner b (length r) (corner_after b (length r) t j)) 0 ∷ []
-    beyond_last r b t zero = refl
-    beyond_last r b t (suc j) =
-        ap (λ (w : List ℕ). get_or r (next_corner b (length r) t) 0 ∷ w) (beyond_last r b (next_corner b (length r) t) j)
+    (ap (λ (x : ℕ). beyond ring (not rising) far k ++ get_or ring x 0 ∷ []) (sym near) ∙ sym (beyond_more ring (not rising) far k))
 
 -- all corners but one, read backwards
 pub reverse_others : (ring : List ℕ) (rising : Bool) (c : ℕ) → c < length ring → 2 ≤ length ring
@@ -147,18 +140,3 @@ expansion_read surface f u corner forward has l way =
           ∙ reverse_others ring false (next_corner true m t) (step_within true m t within) (omega arith)
           ∙ sym (from_head surface f u e.0)
     ]
-
--- one vertex more round a face
-pub beyond_more : (ring : List ℕ) (rising : Bool) (c k : ℕ)
-    → beyond ring rising c (k + 1) ≡ beyond ring rising c k ++ get_or ring (corner_after rising (length ring) c (k + 1)) 0 ∷ []
-beyond_more ring rising c zero = let one : 0 + 1 ≡ suc zero = omega arith in
-    ap (beyond ring rising c) one ∙ ap (λ (n : ℕ). get_or ring (corner_after rising (length ring) c n) 0 ∷ []) (sym one)
-beyond_more ring rising c (suc k) =
-    let next : ℕ = next_corner rising (length ring) c in
-    let up : suc k + 1 ≡ suc (k + 1) = omega arith in
-    ap (beyond ring rising c) up ∙ ap (λ (w : List ℕ). get_or ring next 0 ∷ w) (beyond_more ring rising next k)
-    ∙ ap (λ (n : ℕ). get_or ring next 0 ∷ (beyond ring rising next k ++ get_or ring (corner_after rising (length ring) c n) 0 ∷ []))
-    (sym up)
-
-pub after_one_more : (rising : Bool) (m c k : ℕ) → next_corner rising m (corner_after rising m c k) ≡ corner_after rising m c (k + 1)
-after_one_more rising m c k = sym (corner_after-add rising m c k 1)

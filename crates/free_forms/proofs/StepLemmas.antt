@@ -13,10 +13,12 @@ use Rattle.surf_model.specs.declared.moves.Move.TheVariants.{Remove, Across}
 use Rattle.surf_model.proofs.EdgeLemmas.{step_within}
 use Rattle.surf_model.proofs.ReplacementLemmas.{by_replacing}
 use Rattle.free_forms.specs.Normal.{IsNormal}
-use Rattle.free_forms.specs.Parents.{OpenView, HasParents, Joins, IsParentEdge, parent_of, beyond, expansion}
+use Rattle.free_forms.specs.Parents.{OpenView, HasParents, Joins, IsParentEdge, parent_of, expansion}
+use Rattle.walk_actions.specs.Actions.{run, beyond}
+use Rattle.walk_actions.proofs.Corners.{after_back, corners_beyond}
+use Rattle.walk_actions.proofs.Runs.{run-append}
 use Rattle.free_forms.specs.PeakedLists.{LeadsAtPeak}
 use Rattle.free_forms.specs.Reductions.{ReductionView, settled, whole, IsTaken, StepsBack, StepsOn, SkipsSpur, Expands, IsWayAlong, IsStep}
-use Rattle.free_forms.proofs.Actions.{run, run-append, corners_beyond, after_back}
 use Rattle.free_forms.proofs.Expansions.{act_fully, acting, by_face, parent_face_of, acts_by_base, acts_by_expansion, IsFound, expansion_ends, from_tail, from_head, parent_in_mesh}
 use Rattle.common_ends.proofs.PeakLemmas.{one_more}
 use Rattle.surf_model.proofs.EdgeLemmas.{ends_differ}

@@ -9,7 +9,7 @@ use Rattle.std.proofs.lemmas.List.Elements.{All-nil, All-cons}
 use Rattle.std.proofs.lemmas.List.Sums.{sum_by-cons, sum_by_push}
 use Rattle.surf_model.specs.FaceLists.{FaceList, face_at, total_sides}
 use Rattle.free_forms.specs.Parents.{OpenView, HasParents, parent_of, expansion}
-use Rattle.free_forms.proofs.Actions.{run}
+use Rattle.walk_actions.specs.Actions.{run}
 use Rattle.free_forms.proofs.Expansions.{acting, by_face, parent_face_of, found_face, expansion_size}
 use Rattle.free_forms.proofs.OnceLemmas.{list_on, list_in, listed, times, listed_once}
 use Rattle.free_forms.proofs.StepLemmas.{weight, count_on, count_in, count_from}

@@ -1,10 +1,11 @@
 -- A parent for each face: one of its sides, that leads towards the boundary. Crossing parents from face to face ends at a boundary edge.
-use Rattle.std.specs.Prelude.{◌≡◌, ◌⊎◌, ℕ, zero, suc, ◌-◌, ◌<◌, ◌==◌, Bool, true, false, if◌then◌else◌, List, [], ◌∷◌, length, slice_index}
+use Rattle.std.specs.Prelude.{◌≡◌, ◌⊎◌, ℕ, zero, suc, ◌-◌, ◌<◌, ◌==◌, true, false, if◌then◌else◌, List, length, slice_index}
 use Rattle.surf_model.specs.FaceLists.{FaceList, IsFaceList, face_at, next_corner}
 use Rattle.surf_model.specs.Darts.{tail_of, head_of}
 use Rattle.surf_model.specs.Surfaces.{ArePartners}
 use Rattle.surf_model.specs.declared.edges.Side.{Side}
 use Rattle.connectivity.specs.Joined.{NoEdgeHasThreeSides}
+use Rattle.walk_actions.specs.Actions.{beyond}
 
 -- a mesh, and for each face the place of its parent among its sides
 pub record OpenView : Type 0 where
@@ -36,12 +37,6 @@ Joins mesh side u v = ((tail_of mesh side ≡ u) × (head_of mesh side ≡ v)) �
 -- the edge of the two vertices is that of the parent of some face
 abbrev pub IsParentEdge : OpenView → ℕ → ℕ → Type 0
 IsParentEdge surface u v = (f : ℕ) × (f < length surface.mesh.faces) × Joins surface.mesh (parent_of surface f) u v
-
--- the vertices that k steps round a face from corner t lead to
-abbrev pub beyond : List ℕ → Bool → ℕ → ℕ → List ℕ
-beyond ring rising t zero = []
-beyond ring rising t (suc k) =
-    slice_index ring (next_corner rising (length ring) t) ∷ beyond ring rising (next_corner rising (length ring) t) k
 
 -- the expansion of a side from its end u: the vertices that the way to its other end along all other sides of its face leads to
 abbrev pub expansion : FaceList → Side → ℕ → List ℕ

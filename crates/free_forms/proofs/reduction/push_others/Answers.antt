@@ -1,11 +1,11 @@
-use Rattle.std.proofs.Common.{◌≡◌, ℕ, ◌+◌, ◌-◌, List, [], ◌∷◌, ◌++◌, length, get_or, ap, sym, ◌∙◌, arith, append_assoc}
+use Rattle.std.proofs.Common.{◌≡◌, ℕ, suc, ◌+◌, ◌-◌, List, [], ◌∷◌, ◌++◌, length, get_or, ap, sym, ◌∙◌, arith, append_assoc}
 use Rattle.std.proofs.lemmas.List.{map-append}
 use Rattle.surf_model.specs.FaceLists.{face_at, next_corner}
 use Rattle.surf_model.specs.Vertices.{numbers}
 use Rattle.surf_model.specs.declared.names.VertexName.{VertexName}
 use Rattle.surf_model.proofs.RoundLemmas.{corner_after}
-use Rattle.free_forms.specs.Parents.{beyond}
-use Rattle.free_forms.proofs.ParentEdgeLemmas.{beyond_more, after_one_more}
+use Rattle.walk_actions.specs.Actions.{beyond}
+use Rattle.walk_actions.proofs.Corners.{beyond_more, after_more}
 use Rattle.free_forms.proofs.reduction.push_others.Goals as goal
 
 pub loop-step-preserved : goal.loop-step-preserved
@@ -13,12 +13,12 @@ loop-step-preserved c =
     let ring : List ℕ = face_at c.args.faces.now c.args.face.0 in
     let m : ℕ = length ring in
     let k : ℕ = c.loop-step._step - 1 in
-    let up : c.loop-step._step + 1 - 1 ≡ k + 1 = omega (arith, c.loop-step.auto._step) in
+    let up : c.loop-step._step + 1 - 1 ≡ suc k = omega (arith, c.loop-step.auto._step) in
     let size : c.sides-size.result ≡ m = c.sides-size.ensures in
-    let here : c.corner_after-at.result ≡ corner_after c.args.forward m c.args.corner (k + 1) =
+    let here : c.corner_after-at.result ≡ corner_after c.args.forward m c.args.corner (suc k) =
     c.corner_after-at.ensures.corner ∙ ap (λ (n : ℕ). next_corner c.args.forward n c.loop-step.at) size
-    ∙ ap (next_corner c.args.forward m) c.loop-step.invariant.here ∙ after_one_more c.args.forward m c.args.corner k in
-    let vertex : c.corner.result.0 ≡ get_or ring (corner_after c.args.forward m c.args.corner (k + 1)) 0 =
+    ∙ ap (next_corner c.args.forward m) c.loop-step.invariant.here ∙ sym (after_more c.args.forward m c.args.corner k) in
+    let vertex : c.corner.result.0 ≡ get_or ring (corner_after c.args.forward m c.args.corner (suc k)) 0 =
     c.corner.ensures ∙ ap (λ (t : ℕ). get_or ring t 0) here in
     record {
       pushed =

@@ -2,7 +2,7 @@ use Rattle.std.proofs.Common.{◌≡◌, ◌-◌, ◌<◌, ◌++◌, length}
 use Rattle.surf_model.specs.FaceLists.{face_at}
 use Rattle.surf_model.specs.Vertices.{numbers}
 use Rattle.surf_model.proofs.RoundLemmas.{corner_after}
-use Rattle.free_forms.specs.Parents.{beyond}
+use Rattle.walk_actions.specs.Actions.{beyond}
 use Rattle.free_forms.proofs.reduction.push_others.Given as goal
 
 abbrev pub invariant-loop-step : goal.invariant-loop-step
