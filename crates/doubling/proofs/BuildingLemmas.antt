@@ -1,0 +1,291 @@
+-- The double as it is built: what is a face of it, how far a step comes, and when there is no room.
+use Rattle.std.proofs.Common.{◌≡◌, ◌≢◌, inl, inr, ℕ, zero, suc, ◌+◌, ◌-◌, ◌<◌, ◌≤◌, true, false, List, [], ◌∷◌, ◌++◌, length, map, get_or, take, drop, refl, ap, sym, ◌∙◌, subst, arith, append_assoc}
+use Rattle.std.specs.Prelude.{filter, sum_by}
+use Rattle.std.proofs.lemmas.List.{append-nil, map-append, length-map, get_or-map, get_or_default, take_more, take_all, take-append-drop}
+use Rattle.std.proofs.lemmas.List.Elements.{filter-append}
+use Rattle.std.proofs.lemmas.List.Sums.{sum_by-append, sum_by_push}
+use Rattle.surf_model.specs.Darts.{IsSide, first_side}
+use Rattle.surf_model.specs.FaceLists.{FaceList, FaceSide, PendingFace, IsFace, face_at, all_sides, next_corner, total_sides}
+use Rattle.surf_model.specs.Vertices.{numbers}
+use Rattle.surf_model.specs.declared.edges.Side.{Side}
+use Rattle.surf_model.specs.declared.names.VertexName.{VertexName}
+use Rattle.surf_model.proofs.EdgeLemmas.{back_within, there_and_back}
+use Rattle.surf_model.proofs.NumberLemmas.{face_side, length-all_sides}
+use Rattle.surf_model.proofs.SideNumberLemmas.{side_of_number-is, side_below}
+use Rattle.surf_model.proofs.TableLemmas.{next_within}
+use Rattle.doubling.specs.Building.{begun, with_faces, with_mirrors, with_quads, with_face, HasNoRoom, EndsEarly}
+use Rattle.doubling.specs.Doubles.{mirror, mirror_face, is_rim, rim_quad, double_of}
+use Rattle.doubling.specs.declared.fault.DoubleFault.{DoubleFault}
+use Rattle.doubling.proofs.DoubleFaces.{length-mirror_face, mirror_corner, mirror_next}
+
+-- ---- faces of the double
+
+pub face_more : (count : ℕ) (ring : List ℕ) → IsFace count ring → IsFace (count + count) ring
+face_more count ring h =
+    record { polygon = h.polygon; in_range = λ k d l. omega (arith, h.in_range k d l); neighbours = h.neighbours }
+
+mirrors_differ : (count : ℕ) (ring : List ℕ) (t : ℕ) → IsFace count ring → t < length ring
+    → get_or (mirror_face count ring) t 0 ≢ get_or (mirror_face count ring) (next_corner true (length ring) t) 0
+mirrors_differ count ring t h l same =
+    let m : ℕ = length ring in
+    let under : ℕ = m - 1 - t in
+    let before : ℕ = next_corner false m under in
+    let within : under < m = omega arith in
+    let there : get_or (mirror_face count ring) (next_corner true m t) 0 ≡ mirror count (get_or ring before 0) =
+    mirror_corner count ring (next_corner true m t) (next_within m t l)
+    ∙ ap (λ k. mirror count (get_or ring k 0)) (mirror_next true m t l) in
+    let equal : get_or ring before 0 ≡ get_or ring under 0 = omega (arith, mirror_corner count ring t l, there, same) in
+    h.neighbours before (back_within m under within) (equal ∙ ap (λ k. get_or ring k 0) (sym (there_and_back m under within)))
+
+pub face_mirror : (count : ℕ) (ring : List ℕ) → IsFace count ring → IsFace (count + count) (mirror_face count ring)
+face_mirror count ring h =
+    let size : length (mirror_face count ring) ≡ length ring = length-mirror_face count ring in
+    record {
+      polygon = omega (arith, size, h.polygon);
+      in_range = λ k d l.
+          (let few : k < length ring = omega (arith, size, l) in
+          omega (
+            arith,
+            get_or_default (mirror_face count ring) k d 0 l,
+            mirror_corner count ring k few,
+            h.in_range (length ring - 1 - k) 0 (omega arith),
+          ));
+      neighbours = λ t l.
+          subst (λ n. get_or (mirror_face count ring) t 0 ≢ get_or (mirror_face count ring) (next_corner true n t) 0) (sym size)
+          (mirrors_differ count ring t h (omega (arith, size, l)));
+    }
+
+pub face_quad : (count u v : ℕ) → u < count → v < count → u ≢ v
+    → IsFace (count + count) (v ∷ u ∷ mirror count u ∷ mirror count v ∷ [])
+face_quad count u v lu lv other = record { polygon = omega arith; in_range = below; neighbours = apart }
+  where
+    below : (k d : ℕ) → k < 4 → get_or (v ∷ u ∷ mirror count u ∷ mirror count v ∷ []) k d < count + count
+    below zero d l = omega arith
+    below (suc zero) d l = omega arith
+    below (suc (suc zero)) d l = omega arith
+    below (suc (suc (suc zero))) d l = omega arith
+    below (suc (suc (suc (suc k)))) d l = absurd (omega arith)
+
+    apart : (t : ℕ) → t < 4
+        → get_or (v ∷ u ∷ mirror count u ∷ mirror count v ∷ []) t 0
+        ≢ get_or (v ∷ u ∷ mirror count u ∷ mirror count v ∷ []) (next_corner true 4 t) 0
+    apart zero l same = other (sym same)
+    apart (suc zero) l same = omega arith
+    apart (suc (suc zero)) l same = other (omega arith)
+    apart (suc (suc (suc zero))) l same = omega arith
+    apart (suc (suc (suc (suc t)))) l same = absurd (omega arith)
+
+-- ---- how far a step comes
+
+-- these faces stand first in the double
+abbrev pub ComeFirst : FaceList → List (List ℕ) → Type 0
+ComeFirst mesh faces = (rest : List (List ℕ)) × (faces ++ rest ≡ (double_of mesh).faces)
+
+abbrev mirrors : FaceList → List (List ℕ)
+mirrors mesh = map (mirror_face mesh.count) mesh.faces
+
+abbrev quads : FaceList → List FaceSide → List (List ℕ)
+quads mesh sides = map (rim_quad mesh.count) (filter (is_rim mesh) sides)
+
+pub faces_first : (mesh : FaceList) (n : ℕ) → ComeFirst mesh (with_faces mesh n).mesh.faces
+faces_first mesh n =
+    let some : List (List ℕ) = take n mesh.faces in
+    let others : List (List ℕ) = drop n mesh.faces in (
+      others ++ mirrors mesh ++ quads mesh (all_sides mesh),
+      sym (append_assoc some (others ++ mirrors mesh) (quads mesh (all_sides mesh)))
+          ∙ ap (λ (l : List (List ℕ)). l ++ quads mesh (all_sides mesh))
+          (sym (append_assoc some others (mirrors mesh)) ∙ ap (λ (l : List (List ℕ)). l ++ mirrors mesh) (take-append-drop n mesh.faces)),
+    )
+
+pub mirrors_first : (mesh : FaceList) (n : ℕ) → ComeFirst mesh (with_mirrors mesh n).mesh.faces
+mirrors_first mesh n =
+    let some : List (List ℕ) = take n (mirrors mesh) in
+    let others : List (List ℕ) = drop n (mirrors mesh) in (
+      others ++ quads mesh (all_sides mesh),
+      sym (append_assoc (mesh.faces ++ some) others (quads mesh (all_sides mesh)))
+          ∙ ap (λ (l : List (List ℕ)). l ++ quads mesh (all_sides mesh))
+          (append_assoc mesh.faces some others ∙ ap (λ (l : List (List ℕ)). mesh.faces ++ l) (take-append-drop n (mirrors mesh))),
+    )
+
+quads-append : (mesh : FaceList) (xs ys : List FaceSide) → quads mesh (xs ++ ys) ≡ quads mesh xs ++ quads mesh ys
+quads-append mesh xs ys =
+    ap (map (rim_quad mesh.count)) (filter-append (is_rim mesh) xs ys)
+    ∙ map-append (rim_quad mesh.count) (filter (is_rim mesh) xs) (filter (is_rim mesh) ys)
+
+pub quads_first : (mesh : FaceList) (n : ℕ) → ComeFirst mesh (with_quads mesh n).mesh.faces
+quads_first mesh n =
+    let some : List FaceSide = take n (all_sides mesh) in
+    let others : List FaceSide = drop n (all_sides mesh) in (
+      quads mesh others,
+      append_assoc (mesh.faces ++ mirrors mesh) (quads mesh some) (quads mesh others)
+          ∙ ap (λ (l : List (List ℕ)). mesh.faces ++ mirrors mesh ++ l)
+          (sym (quads-append mesh some others) ∙ ap (quads mesh) (take-append-drop n (all_sides mesh))),
+    )
+
+-- one face more
+pub faces_more : (mesh : FaceList) (n : ℕ) → n < length mesh.faces
+    → with_face (with_faces mesh n) (face_at mesh n) ≡ with_faces mesh (n + 1)
+faces_more mesh n l = ap (begun mesh) (sym (take_more mesh.faces n [] l))
+
+pub mirrors_more : (mesh : FaceList) (n : ℕ) → n < length mesh.faces
+    → with_face (with_mirrors mesh n) (mirror_face mesh.count (face_at mesh n)) ≡ with_mirrors mesh (n + 1)
+mirrors_more mesh n l =
+    let few : n < length (mirrors mesh) = omega (arith, l, length-map mesh.faces (mirror_face mesh.count)) in
+    let here : get_or (mirrors mesh) n [] ≡ mirror_face mesh.count (face_at mesh n) =
+    get_or-map (mirror_face mesh.count) mesh.faces n [] [] l in
+    ap (begun mesh)
+    (append_assoc mesh.faces (take n (mirrors mesh)) (mirror_face mesh.count (face_at mesh n) ∷ [])
+    ∙ ap (λ (l : List (List ℕ)). mesh.faces ++ l)
+    (ap (λ (ring : List ℕ). take n (mirrors mesh) ++ ring ∷ []) (sym here) ∙ sym (take_more (mirrors mesh) n [] few)))
+
+-- the sides up to one with a place
+side_more : (mesh : FaceList) (side : Side) → IsSide mesh side
+    → take (first_side mesh side.face.0 + side.at + 1) (all_sides mesh)
+    ≡ take (first_side mesh side.face.0 + side.at) (all_sides mesh) ++ face_side side.face.0 (face_at mesh side.face.0) side.at ∷ []
+side_more mesh side is =
+    let k : ℕ = first_side mesh side.face.0 + side.at in
+    take_more (all_sides mesh) k (record { face = 0; at = 0; tail = 0; head = 0 })
+    (omega (arith, side_below mesh side.face.0 side.at is.face is.place, length-all_sides mesh))
+    ∙ ap (λ (s : FaceSide). take k (all_sides mesh) ++ s ∷ []) (side_of_number-is mesh side.face.0 side.at is.face is.place)
+
+-- a side of the mesh with its vertices
+abbrev pub whole_side : FaceList → Side → FaceSide
+whole_side mesh side = face_side side.face.0 (face_at mesh side.face.0) side.at
+
+quad_here : (mesh : FaceList) (side : FaceSide) → is_rim mesh side ≡ true → quads mesh (side ∷ []) ≡ rim_quad mesh.count side ∷ []
+quad_here mesh side is = rw is refl
+
+no_quad_here : (mesh : FaceList) (side : FaceSide) → is_rim mesh side ≡ false → quads mesh (side ∷ []) ≡ []
+no_quad_here mesh side is = rw is refl
+
+pub quads_more : (mesh : FaceList) (side : Side) → IsSide mesh side → is_rim mesh (whole_side mesh side) ≡ true
+    → with_face (with_quads mesh (first_side mesh side.face.0 + side.at)) (rim_quad mesh.count (whole_side mesh side))
+    ≡ with_quads mesh (first_side mesh side.face.0 + side.at + 1)
+quads_more mesh side is rim =
+    let some : List FaceSide = take (first_side mesh side.face.0 + side.at) (all_sides mesh) in
+    ap (begun mesh)
+    (append_assoc (mesh.faces ++ mirrors mesh) (quads mesh some) (rim_quad mesh.count (whole_side mesh side) ∷ [])
+    ∙ ap (λ (l : List (List ℕ)). mesh.faces ++ mirrors mesh ++ l)
+    (ap (λ (l : List (List ℕ)). quads mesh some ++ l) (sym (quad_here mesh (whole_side mesh side) rim))
+    ∙ sym (quads-append mesh some (whole_side mesh side ∷ [])) ∙ ap (quads mesh) (sym (side_more mesh side is))))
+
+pub quads_same : (mesh : FaceList) (side : Side) → IsSide mesh side → is_rim mesh (whole_side mesh side) ≡ false
+    → with_quads mesh (first_side mesh side.face.0 + side.at) ≡ with_quads mesh (first_side mesh side.face.0 + side.at + 1)
+quads_same mesh side is rim =
+    let some : List FaceSide = take (first_side mesh side.face.0 + side.at) (all_sides mesh) in
+    ap (λ (l : List (List ℕ)). begun mesh (mesh.faces ++ mirrors mesh ++ l))
+    (sym (append-nil (quads mesh some))
+    ∙ ap (λ (l : List (List ℕ)). quads mesh some ++ l) (sym (no_quad_here mesh (whole_side mesh side) rim))
+    ∙ sym (quads-append mesh some (whole_side mesh side ∷ [])) ∙ ap (quads mesh) (sym (side_more mesh side is)))
+
+-- from one part to the next
+pub faces_all : (mesh : FaceList) (n : ℕ) → length mesh.faces ≤ n → with_faces mesh n ≡ with_mirrors mesh 0
+faces_all mesh n l = ap (begun mesh) (take_all n mesh.faces l ∙ sym (append-nil mesh.faces))
+
+pub mirrors_all : (mesh : FaceList) (n : ℕ) → length mesh.faces ≤ n → with_mirrors mesh n ≡ with_quads mesh 0
+mirrors_all mesh n l =
+    ap (begun mesh)
+    (ap (λ (l : List (List ℕ)). mesh.faces ++ l)
+    (take_all n (mirrors mesh) (omega (arith, l, length-map mesh.faces (mirror_face mesh.count))))
+    ∙ sym (append-nil (mesh.faces ++ mirrors mesh)))
+
+pub quads_all : (mesh : FaceList) (n : ℕ) → total_sides mesh ≤ n → (with_quads mesh n).mesh ≡ double_of mesh
+quads_all mesh n l =
+    ap (λ (s : List FaceSide). (begun mesh (mesh.faces ++ mirrors mesh ++ quads mesh s)).mesh)
+    (take_all n (all_sides mesh) (omega (arith, l, length-all_sides mesh)))
+
+-- ---- no room
+
+no_room : (mesh : FaceList) (faces : List (List ℕ)) (face : List ℕ) → ComeFirst mesh (faces ++ face ∷ [])
+    → sum_by length faces + length face ≤ total_sides (double_of mesh)
+no_room mesh faces face first =
+    omega (
+      arith,
+      sum_by_push {X = List ℕ} length faces face,
+      sum_by-append {X = List ℕ} length (faces ++ face ∷ []) first.0,
+      ap (λ (fs : List (List ℕ)). sum_by length fs) first.1,
+    )
+
+more_room : (few many : ℕ) (fault : DoubleFault) → few ≤ many → HasNoRoom few fault → HasNoRoom many fault
+more_room few many fault l (inl none) = inl none
+more_room few many fault l (inr over) = inr (over.0, omega (arith, over.1))
+
+-- where a face of the double has no room, the double has none
+pub ends_early : (mesh : FaceList) (seen more : PendingFace) (face : List ℕ) (n : ℕ) (fault : DoubleFault) → n ≡ length face
+    → with_face seen face ≡ more → ComeFirst mesh more.mesh.faces → HasNoRoom (total_sides seen.mesh + n) fault → EndsEarly mesh fault
+ends_early mesh seen more face n fault size is first h =
+    more_room (total_sides seen.mesh + n) (total_sides (double_of mesh)) fault
+    (omega (
+      arith,
+      size,
+      no_room mesh seen.mesh.faces face
+          (subst (λ (p : PendingFace). ComeFirst mesh p.mesh.faces) (sym is) first),
+    )) h
+
+-- ---- what calls put
+
+-- one corner more
+pub corner_more : (old start new : PendingFace) (list : List ℕ) (i v : ℕ) → old ≡ record { mesh = start.mesh; pending = take i list }
+    → new ≡ record old { pending = old.pending ++ v ∷ [] } → i < length list → get_or list i 0 ≡ v
+    → new ≡ record { mesh = start.mesh; pending = take (i + 1) list }
+corner_more old start new list i v from put l is =
+    put ∙ ap (λ (p : PendingFace). record p { pending = p.pending ++ v ∷ [] }) from
+    ∙ ap (λ (p : List ℕ). record { mesh = start.mesh; pending = p })
+    (ap (λ w. take i list ++ w ∷ []) (sym is) ∙ sym (take_more list i 0 l))
+
+pub length-numbers : (ring : List VertexName) → length (numbers ring) ≡ length ring
+length-numbers ring = length-map ring (λ (v : VertexName). v.0)
+
+-- all corners of a mirror stand there
+pub mirror_stands : (old start : PendingFace) (count i : ℕ) (ring : List ℕ)
+    → old ≡ record { mesh = start.mesh; pending = take i (mirror_face count ring) } → length ring ≤ i
+    → old ≡ record { mesh = start.mesh; pending = mirror_face count ring }
+mirror_stands old start count i ring from l =
+    from ∙ ap (λ (p : List ℕ). record { mesh = start.mesh; pending = p })
+    (take_all i (mirror_face count ring) (omega (arith, l, length-mirror_face count ring)))
+
+pub mirror_closes : (old start : PendingFace) (count : ℕ) (ring : List ℕ)
+    → old ≡ record { mesh = start.mesh; pending = mirror_face count ring } → start.mesh.count ≡ count + count → IsFace count ring
+    → IsFace old.mesh.count old.pending
+mirror_closes old start count ring from is h =
+    subst (λ (p : PendingFace). IsFace p.mesh.count p.pending) (sym from)
+    (subst (λ n. IsFace n (mirror_face count ring)) (sym is) (face_mirror count ring h))
+
+-- the next face, and the next mirror
+pub face_next : (mesh : FaceList) (n : ℕ) (seen : PendingFace) (ring : List ℕ) → seen ≡ with_faces mesh n → ring ≡ face_at mesh n
+    → n < length mesh.faces → with_face seen ring ≡ with_faces mesh (n + 1)
+face_next mesh n seen ring from is l =
+    ap (λ (p : PendingFace). with_face p ring) from ∙ ap (with_face (with_faces mesh n)) is ∙ faces_more mesh n l
+
+pub mirror_next_face : (mesh : FaceList) (n count : ℕ) (seen : PendingFace) (ring : List ℕ) → seen ≡ with_mirrors mesh n
+    → count ≡ mesh.count → ring ≡ face_at mesh n → n < length mesh.faces
+    → with_face seen (mirror_face count ring) ≡ with_mirrors mesh (n + 1)
+mirror_next_face mesh n count seen ring from size is l =
+    ap (λ (p : PendingFace). with_face p (mirror_face count ring)) from
+    ∙ ap (λ k. with_face (with_mirrors mesh n) (mirror_face k ring)) size
+    ∙ ap (λ (r : List ℕ). with_face (with_mirrors mesh n) (mirror_face mesh.count r)) is
+    ∙ mirrors_more mesh n l
+
+-- the quad of a side, from what was read of it
+pub quad_is : (mesh : FaceList) (side : Side) (head tail other_tail other_head count next size : ℕ)
+    → head ≡ get_or (face_at mesh side.face.0) next 0 → next ≡ next_corner true size side.at
+    → size ≡ length (face_at mesh side.face.0) → tail ≡ get_or (face_at mesh side.face.0) side.at 0 → count ≡ mesh.count
+    → other_tail ≡ mirror count tail → other_head ≡ mirror count head
+    → head ∷ tail ∷ other_tail ∷ other_head ∷ [] ≡ rim_quad mesh.count (whole_side mesh side)
+quad_is mesh side head tail other_tail other_head count next size is_head is_next is_size is_tail is_count is_other_tail is_other_head =
+    let at_head : head ≡ (whole_side mesh side).head =
+    is_head ∙ ap (λ k. get_or (face_at mesh side.face.0) k 0) (is_next ∙ ap (λ m. next_corner true m side.at) is_size) in
+    let low : other_tail ≡ mirror mesh.count (whole_side mesh side).tail = omega arith in
+    let high : other_head ≡ mirror mesh.count (whole_side mesh side).head = omega arith in
+    ap (λ x. x ∷ tail ∷ other_tail ∷ other_head ∷ []) at_head
+    ∙ ap (λ x. (whole_side mesh side).head ∷ x ∷ other_tail ∷ other_head ∷ []) is_tail
+    ∙ ap (λ x. (whole_side mesh side).head ∷ (whole_side mesh side).tail ∷ x ∷ other_head ∷ []) low
+    ∙ ap (λ x. (whole_side mesh side).head ∷ (whole_side mesh side).tail ∷ mirror mesh.count (whole_side mesh side).tail ∷ x ∷ []) high
+
+pub quad_next : (mesh : FaceList) (side : Side) (seen : PendingFace) (ring : List ℕ) → IsSide mesh side
+    → is_rim mesh (whole_side mesh side) ≡ true → seen ≡ with_quads mesh (first_side mesh side.face.0 + side.at)
+    → ring ≡ rim_quad mesh.count (whole_side mesh side)
+    → with_face seen ring ≡ with_quads mesh (first_side mesh side.face.0 + side.at + 1)
+quad_next mesh side seen ring is rim from quad =
+    ap (λ (p : PendingFace). with_face p ring) from
+    ∙ ap (with_face (with_quads mesh (first_side mesh side.face.0 + side.at))) quad ∙ quads_more mesh side is rim

@@ -1,0 +1,7 @@
+pub mod DoubleFaces
+pub mod BuildingLemmas
+pub mod RimLemmas
+pub mod RepeatLemmas
+pub mod FoldedSides
+pub mod FoldedMoves
+pub mod KeptMoves

@@ -1,0 +1,8 @@
+use Rattle.std.proofs.Common.{◌≡◌, take}
+use Rattle.surf_model.specs.Vertices.{numbers}
+use Rattle.doubling.specs.Doubles.{mirror_face}
+use Rattle.doubling.proofs.building.put_mirror.Given as goal
+
+abbrev pub invariant-loop-place : goal.invariant-loop-place
+invariant-loop-place l =
+    l.double ≡ record { mesh = l.initial.double.mesh; pending = take l.place (mirror_face l.count (numbers l.ring)) }

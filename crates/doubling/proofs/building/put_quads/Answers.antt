@@ -1,0 +1,12 @@
+use Rattle.std.proofs.Common.{ap, ◌∙◌, arith}
+use Rattle.surf_model.specs.Darts.{first_side}
+use Rattle.surf_model.specs.FaceLists.{PendingFace}
+use Rattle.surf_model.proofs.SideNumberLemmas.{first_side-all}
+use Rattle.doubling.proofs.BuildingLemmas.{quads_all}
+use Rattle.doubling.proofs.building.put_quads.Goals as goal
+
+pub returns-clause-put : goal.returns-clause-put
+returns-clause-put c =
+    ap (λ (p : PendingFace). p.mesh) c.loop-face.invariant
+    ∙ quads_all c.args.faces.now (first_side c.args.faces.now c.loop-face.face)
+    (omega (arith, first_side-all c.args.faces.now c.loop-face.face (omega (arith, c.len-face-end.ensures.count))))

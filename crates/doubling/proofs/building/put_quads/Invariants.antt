@@ -1,0 +1,7 @@
+use Rattle.std.proofs.Common.{◌≡◌}
+use Rattle.surf_model.specs.Darts.{first_side}
+use Rattle.doubling.specs.Building.{with_quads}
+use Rattle.doubling.proofs.building.put_quads.Given as goal
+
+abbrev pub invariant-loop-face : goal.invariant-loop-face
+invariant-loop-face l = l.double ≡ with_quads l.faces (first_side l.faces l.face)

@@ -1,0 +1,7 @@
+use Rattle.std.proofs.Common.{◌≡◌, ◌+◌}
+use Rattle.surf_model.specs.Darts.{first_side}
+use Rattle.doubling.specs.Building.{with_quads}
+use Rattle.doubling.proofs.building.put_quads_of.Given as goal
+
+abbrev pub invariant-loop-at : goal.invariant-loop-at
+invariant-loop-at l = l.double ≡ with_quads l.faces (first_side l.faces l.face.0 + l.at)

@@ -1,0 +1,5 @@
+pub mod Doubles
+pub mod Folds
+pub mod DoubleFaults
+pub mod Building
+pub mod Examples

@@ -1,0 +1,17 @@
+//! What holds of doubles, said of the definitions. A call of one of these functions does nothing; its contract is the law.
+ghost use Rattle.std.specs.Prelude.{◌↔◌, ℕ, List};
+ghost use Rattle.surf_model.specs.FaceLists.{FaceList, IsFaceList};
+ghost use Rattle.surf_model.specs.Walks.{IsWalk};
+ghost use Rattle.surf_model.specs.Moves.{Homotopic};
+ghost use Rattle.doubling.specs.Doubles.{double_of};
+
+/// Walks of a mesh are walks of its double.
+pub fn walks_stay_walks()
+    ensures { (mesh : FaceList) (walk : List ℕ) → IsWalk mesh walk → IsWalk (double_of mesh) walk }
+{}
+
+/// Two walks of a mesh are homotopic in the double exactly where they are in the mesh.
+pub fn double_keeps_homotopy()
+    ensures { (mesh : FaceList) (first second : List ℕ) → IsFaceList mesh → IsWalk mesh first → IsWalk mesh second
+        → Homotopic (double_of mesh) first second ↔ Homotopic mesh first second }
+{}

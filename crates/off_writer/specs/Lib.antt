@@ -1,0 +1,3 @@
+pub mod WrittenMeshes
+pub mod Parts
+pub mod Examples
