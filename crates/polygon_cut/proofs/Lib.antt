@@ -33,3 +33,4 @@ pub mod ShortWalkLemmas
 pub mod ShortFrontLemmas
 pub mod WalkLemmas
 pub mod SphereLemmas
+pub mod GenusLemmas

@@ -1,8 +1,10 @@
 //! What holds of every polygon cut from a surface, said of the definitions. A call of one of these functions does
 //! nothing; its contract is the law.
 ghost use Rattle.std.specs.Prelude.{◌≡◌, ◌≢◌, ◌⊎◌, ℕ, ◌+◌, ◌*◌, ◌-◌, ◌<◌, ◌≤◌, true, false, List, [], ◌∷◌, ◌++◌, length, slice_index, All};
-ghost use Rattle.surf_model.specs.FaceLists.{is_used};
-ghost use Rattle.surf_model.specs.Walks.{IsWalk, HaveCommonEnds};
+ghost use Rattle.surf_model.specs.FaceLists.{FaceList, IsFaceList, is_used};
+ghost use Rattle.surf_model.specs.Surfaces.{IsSurface};
+ghost use Rattle.surf_model.specs.Genera.{HasGenus};
+ghost use Rattle.surf_model.specs.Walks.{IsWalk, AreWalkPair};
 ghost use Rattle.surf_model.specs.Moves.{Homotopic, Leads};
 ghost use Rattle.surf_model.specs.FreeWalks.{AreFreelyEqual};
 ghost use Rattle.surf_model.specs.declared.moves.Move.{Move};
@@ -45,11 +47,10 @@ pub fn places_turn_round_the_vertex()
         → place_of polygon (one_up 4 spoke) ≡ one_up 4 (place_of polygon spoke) }
 {}
 
-/// On a sphere, where nothing is left over, any two walks with common ends are homotopic.
-pub fn walks_on_a_sphere_are_homotopic()
-    ensures { (surface : OrientedMesh) (split : SplitView) (first second : List ℕ) → IsOrientedSurface surface
-        → IsSplit surface split → split.genus ≡ 0 → IsWalk surface.mesh first → IsWalk surface.mesh second
-        → HaveCommonEnds first second → Homotopic surface.mesh first second }
+/// On a connected orientable closed surface of genus 0, so of Euler characteristic 2, any two walks with common ends are homotopic.
+pub fn walks_on_a_surface_of_genus_0_are_homotopic()
+    ensures { (mesh : FaceList) (first second : List ℕ) → IsFaceList mesh → IsSurface mesh → HasGenus mesh 0
+        → AreWalkPair mesh first second → Homotopic mesh first second }
 {}
 
 // Up to spurs alone: walks as products of the loops of spokes.

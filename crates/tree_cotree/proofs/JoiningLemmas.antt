@@ -1,6 +1,6 @@
 -- Edges are tried in turn: one whose two nodes lie in two classes is put into a set, and the classes become one. Once all are tried, the
 -- set is a spanning tree.
-use Rattle.std.proofs.Common.{◌≡◌, ◌≢◌, ◌⊎◌, inl, inr, ℕ, suc, ◌+◌, ◌<◌, ◌≤◌, Bool, true, false, ◌&&◌, eqb, List, length, get_or, refl, ap, sym, ◌∙◌, subst, arith}
+use Rattle.std.proofs.Common.{◌≡◌, ◌≢◌, ◌⊎◌, inl, inr, ℕ, suc, ◌+◌, ◌<◌, ◌≤◌, Bool, true, false, ◌&&◌, eqb, List, [], ◌∷◌, length, get_or, refl, ap, sym, ◌∙◌, subst, arith}
 use Rattle.std.specs.List.{range_with_len}
 use Rattle.std.proofs.lemmas.Bool.{cases_Bool, cases_eq, both_ways, and_parts, and_from, eqb-true, eq-eqb, and_right}
 use Rattle.std.proofs.lemmas.List.FromFn.{length-range_with_len, get_or-range_with_len}
@@ -9,6 +9,7 @@ use Rattle.connectivity.specs.Classes.{joined_at, AreLeastMembers}
 use Rattle.connectivity.specs.Partitions.{JoinsOnlyBySteps}
 use Rattle.connectivity.proofs.Joining.{joined_keep, joins_only-alone, joins_only-joined_at, length-joined_at, joined_at_ends, joined_at_keeps}
 use Rattle.connectivity.proofs.Joining.{high_at, low_at, joined_at_high, joined_at_other, either_way, entries_own, least_range, least_joined_at, high_gone, others_own}
+use Rattle.surf_model.specs.Surfaces.{IsPath, AreJoined}
 use Rattle.surf_model.specs.Numbers.{count_below}
 use Rattle.halfedge_map.specs.RotationSystems.{Rotations, IsRotationSystem}
 use Rattle.tree_cotree.specs.SpanningTrees.{IsStepIn, StepsIn, IsSpanningTree}
@@ -17,7 +18,21 @@ use Rattle.tree_cotree.proofs.AfterLemmas.{twin_edge}
 use Rattle.tree_cotree.proofs.ClassLemmas.{count_same, count_less, count_none}
 use Rattle.tree_cotree.proofs.SetLemmas.{with_one, with_itself, with_keeps, with_cases, count_with}
 use Rattle.tree_cotree.proofs.GrowthLemmas.{HasNodes}
-use Rattle.tree_cotree.proofs.GenusLemmas.{widen}
+
+-- steps in a set are steps in a larger one
+widen_path : (maps : Rotations) (node : ℕ → ℕ) (set more : ℕ → Bool) → ((e : ℕ) → set e ≡ true → more e ≡ true) → (u v : ℕ) (path : List ℕ)
+    → IsPath (StepsIn maps node set) u path v → IsPath (StepsIn maps node more) u path v
+widen_path maps node set more wider u v [] p = p
+widen_path maps node set more wider u v (w ∷ path) p =
+    let dart : ℕ = p.0.0 in
+    let step : IsStepIn maps node set u w dart = p.0.1 in (
+      (dart, record { within = step.within; in_set = wider (maps.edge dart) step.in_set; starts = step.starts; ends = step.ends }),
+      widen_path maps node set more wider w v path p.1,
+    )
+
+widen : (maps : Rotations) (node : ℕ → ℕ) (set more : ℕ → Bool) → ((e : ℕ) → set e ≡ true → more e ≡ true) → (u v : ℕ)
+    → AreJoined (StepsIn maps node set) u v → AreJoined (StepsIn maps node more) u v
+widen maps node set more wider u v h = (h.0, widen_path maps node set more wider u v h.0 h.1)
 
 -- the nodes that are their own entries: one for each class of nodes
 abbrev pub is_root : (ℕ → Bool) → List ℕ → ℕ → Bool

@@ -49,3 +49,8 @@ pub fn colourings_with_trees_are_of_splits()
     ensures { (surface : OrientedMesh) (colouring : ColouringView) → IsOrientedSurface surface
         → HasColouredTrees surface colouring ↔ IsColouring surface colouring }
 {}
+
+/// Each surface has a split, whoever makes it.
+pub fn each_surface_has_a_split()
+    ensures { (surface : OrientedMesh) → IsOrientedSurface surface → (split : SplitView) × IsSplit surface split }
+{}
