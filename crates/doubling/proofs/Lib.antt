@@ -1,5 +1,6 @@
 pub mod DoubleFaces
 pub mod BuildingLemmas
+pub mod ValidDoubles
 pub mod RimLemmas
 pub mod RepeatLemmas
 pub mod FoldedSides

@@ -5,6 +5,11 @@ ghost use Rattle.surf_model.specs.Walks.{IsWalk};
 ghost use Rattle.surf_model.specs.Moves.{Homotopic};
 ghost use Rattle.doubling.specs.Doubles.{double_of};
 
+/// The double of a polygon mesh is one.
+pub fn double_is_a_mesh()
+    ensures { (mesh : FaceList) → IsFaceList mesh → IsFaceList (double_of mesh) }
+{}
+
 /// Walks of a mesh are walks of its double.
 pub fn walks_stay_walks()
     ensures { (mesh : FaceList) (walk : List ℕ) → IsWalk mesh walk → IsWalk (double_of mesh) walk }
