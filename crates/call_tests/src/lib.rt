@@ -9,6 +9,8 @@ mod certificates;
 #[cfg(test)]
 mod decisions;
 #[cfg(test)]
+mod homologies;
+#[cfg(test)]
 mod lifts;
 #[cfg(test)]
 mod models;

@@ -108,6 +108,20 @@ fn is_word(word: &TurnWord, entries: &[u32]) -> bool {
     word.len() as usize == entries.len()
 }
 
+/// Equal turns in a row are one run: the turn -1 behind four turns -2 makes a turn 1 and four turns 2.
+#[test]
+fn equal_turns_are_one_run(rt: HostRuntime) -> Result<(), Fail> {
+    let wheel = Wheel::build(rt.alloc(), &[0, 1, 2, 3, 4, 5, 6, 7])?;
+    let mut form = Hyper::new(rt.alloc());
+    put_spokes(&rt, &mut form, &wheel, &[0, 6, 4, 2, 0], &mut Silent)?;
+    assert_eq!(rt; form.runs().len(), 1);
+    form.restart();
+    put_spokes(&rt, &mut form, &wheel, &[0, 6, 4, 2, 0, 7], &mut Silent)?;
+    assert!(rt; is_word(&form.word(rt.alloc())?, &[1, 1, 2, 2, 2, 2]));
+    assert_eq!(rt; form.runs().len(), 2);
+    Ok(())
+}
+
 #[test]
 fn runs_are_pushed(rt: HostRuntime) -> Result<(), Fail> {
     push_runs::<Brand>(&rt, rt.alloc(), Blank::new(1))?;

@@ -13,6 +13,7 @@ use Rattle.walk_files.specs.Streams.{IsAnswer, end_behind}
 use Rattle.walk_files.specs.declared.fault.CertFault.{CertFault}
 use Rattle.walk_files.specs.declared.fault.CertFault.TheVariants.{NoHead, Bad, Ended, Extra, Peak, OutOfMemory}
 use Rattle.walk_files.specs.declared.stream_end.StreamEnd.{StreamEnd}
+use Rattle.walk_files.specs.declared.stream_end.StreamEnd.TheVariants.{Cert}
 
 -- ---- lines behind line feeds
 
@@ -99,4 +100,11 @@ pub answers_wrong : (fault : CertFault) (whole : Result Denial CertFault)
     → IsAnswer {A = Denial} (Err (end_of_text fault)) whole
 answers_wrong fault whole e = answers_text fault whole e
 
--- ---- a stream behind its denial
+-- want of memory is no fault of the certificate
+pub end_of_text-no_want : (fault : CertFault) → end_of_text fault ≡ Cert OutOfMemory → ⊥
+end_of_text-no_want NoHead e = cc
+end_of_text-no_want (Bad line) e = cc
+end_of_text-no_want (Ended line) e = cc
+end_of_text-no_want (Extra line) e = cc
+end_of_text-no_want (Peak line) e = cc
+end_of_text-no_want OutOfMemory e = cc

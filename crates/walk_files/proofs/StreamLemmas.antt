@@ -91,8 +91,6 @@ FindsLine old next found short file = Reads old.reading file →
     ReadsLine old.number (left_of old.reading file) found short next.number (left_of next.reading file)
     × IfNone found (left_of next.reading file ≡ [])
 
--- ---- the limit
-
 -- ---- a stream behind an answer
 
 -- a move more was given

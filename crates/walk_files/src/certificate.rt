@@ -1,5 +1,5 @@
 //! Reading certificates.
-ghost use Rattle.std.specs.Prelude.{◌≡◌, ◌^◌, [], drop, OnOk, IfOk, OnSome, Some, IsTrue, is_some, if◌then◌else◌};
+ghost use Rattle.std.specs.Prelude.{◌≡◌, ◌≢◌, ◌^◌, [], drop, Err, OnOk, IfOk, OnSome, Some, IsTrue, is_some, if◌then◌else◌};
 ghost use Rattle.text_scan.specs.Lines.{is_filled};
 ghost use Rattle.text_scan.specs.Unread.{lines_left};
 ghost use Rattle.walk_files.specs.declared.certificate.CertHead.{CertHead};
@@ -114,6 +114,7 @@ pub(crate) fn read_head_line(
     ensures place { cursor.new ≡ record cursor.old { words = cursor.new.words } }
     ensures ended { OnOk result (cursor.new.words ≡ []) }
     ensures peak { IfOk result IsWithinPeak }
+    ensures no_memory { result ≢ Err CertFault.OutOfMemory }
 {
     let Some(head) = read_head_words(cursor) else {
         return Err(CertFault::Bad { line });

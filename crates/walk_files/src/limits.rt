@@ -16,7 +16,7 @@ pub const MOST_DARTS: u64 = 16_000_000;
 pub const MOST_POWER: u32 = 1_000_000;
 
 /// The most entries of a turn word in a text.
-pub const MOST_ENTRIES: u64 = 1_000_000;
+pub const MOST_ENTRIES: u64 = turn_words::MOST_ENTRIES as u64;
 
 /// The greatest peak that a list of moves may declare.
 pub const MOST_PEAK: u32 = surf_model::MOST_PEAK;

@@ -6,6 +6,7 @@ ghost use Rattle.surf_io.specs.Files.{file_of};
 ghost use Rattle.file_pieces.specs.Reading.{read_so_far};
 
 use crate::certificate::CertHead;
+use crate::fault::CertFault;
 use crate::stream_denial::read_stream_denial;
 use crate::stream_end::StreamEnd;
 use crate::stream_lines::{read_next_move, read_stream_head};
@@ -62,6 +63,7 @@ impl CertStream {
         ensures fault { result ≡ Err StreamEnd.Fault → Rose (S.faults shelf.old) (S.faults shelf.new) }
         ensures too_large { result ≡ Err StreamEnd.TooLarge → IfSome (file_of (S.held shelf.old) name.now) (λ file. limit < length file) }
         ensures within { IfSome (file_of (S.held shelf.old) name.now) (λ file. IfErr result (λ end. IsWithin end (length file) limit)) }
+        ensures no_want { result ≢ Err (StreamEnd.Cert CertFault.OutOfMemory) }
         ensures only_reads { OnlyReads S.held S.faults shelf.old shelf.new }
     {
         let mut lines = FileLines::new(alloc, limit)?;
@@ -102,6 +104,7 @@ impl CertStream {
             MatchResult result (λ mv. IfNone mv (length file ≤ self.old.lines.reading.limit))
             (λ end. IsWithin end (length file) self.old.lines.reading.limit)) }
         ensures read_out { self.old.refusal ≡ None → IfErr result (λ end. IsReadOut end self.new.lines) }
+        ensures no_want { self.old.refusal ≡ None → result ≢ Err (StreamEnd.Cert CertFault.OutOfMemory) }
         // A move is one of those that the head promises.
         ensures promised { IfOk result (λ mv. IsSome mv → self.old.given < count_in self.old.head) }
         ensures counted { self.old.refusal ≡ None → self.new.given < 2 ^ 64 }
@@ -150,6 +153,7 @@ impl CertStream {
             MatchResult result (λ _. length file ≤ self.old.lines.reading.limit)
             (λ end. IsWithin end (length file) self.old.lines.reading.limit)) }
         ensures read_out { self.old.refusal ≡ None → IfErr result (λ end. IsReadOut end self.new.lines) }
+        ensures no_want { self.old.refusal ≡ None → result ≢ Err (StreamEnd.Cert CertFault.OutOfMemory) }
         ensures limit { self.new.lines.reading.limit ≡ self.old.lines.reading.limit }
         ensures only_reads { OnlyReads S.held S.faults shelf.old shelf.new }
     {

@@ -1,5 +1,5 @@
 //! The denial of a certificate that is read from a shelf.
-ghost use Rattle.std.specs.Prelude.{◌≡◌, ◌⊎◌, ◌-◌, ◌^◌, ◌<◌, ◌≤◌, ◌++◌, [], length, true, replicate, IfOk, IfErr, OnOk, IfSome, MatchResult};
+ghost use Rattle.std.specs.Prelude.{◌≡◌, ◌≢◌, ◌⊎◌, ◌-◌, ◌^◌, ◌<◌, ◌≤◌, ◌++◌, [], length, true, replicate, Err, IfOk, IfErr, OnOk, IfSome, MatchResult};
 ghost use Rattle.surf_io.specs.Calls.{OnlyReads};
 ghost use Rattle.surf_io.specs.Faults.{Rose};
 ghost use Rattle.surf_io.specs.Files.{file_of};
@@ -9,6 +9,7 @@ ghost use Rattle.walk_files.specs.Denials.{denial_in, unlabelled};
 ghost use Rattle.walk_files.specs.Streams.{IsAnswer, IsReadOut, IsWithin, end_behind};
 
 use crate::denial::read_denial;
+use crate::fault::CertFault;
 use crate::stream_end::StreamEnd;
 use file_pieces::FileLines;
 use labellings::Denial;
@@ -35,6 +36,7 @@ pub(crate) fn read_stream_denial<S: Shelf>(
     ensures within { IfSome (file_of (S.held shelf.old) name.now) (λ file. Reads lines.old.reading file →
         MatchResult result (λ _. length file ≤ lines.old.reading.limit) (λ end. IsWithin end (length file) lines.old.reading.limit)) }
     ensures read_out { IfErr result (λ end. IsReadOut end lines.new) }
+    ensures no_want { result ≢ Err (StreamEnd.Cert CertFault.OutOfMemory) }
     ensures number { lines.new.number ≡ lines.old.number }
     ensures limit { lines.new.reading.limit ≡ lines.old.reading.limit }
     ensures only_reads { OnlyReads S.held S.faults shelf.old shelf.new }

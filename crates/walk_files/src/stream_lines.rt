@@ -40,6 +40,7 @@ pub(crate) fn read_next_move<S: Shelf>(
         × (lines.old.number ≤ lines.new.number))) }
     ensures some { IfOk result (λ mv. IsSome mv → 0 < to_come) }
     ensures no_memory { result ≢ Err StreamEnd.OutOfMemory }
+    ensures no_want { result ≢ Err (StreamEnd.Cert CertFault.OutOfMemory) }
     ensures fault { result ≡ Err StreamEnd.Fault → Rose (S.faults shelf.old) (S.faults shelf.new) }
     ensures too_large { result ≡ Err StreamEnd.TooLarge → IfSome (file_of (S.held shelf.old) name.now)
         (λ file. Reads lines.old.reading file → lines.old.reading.limit < length file) }
@@ -105,6 +106,7 @@ pub(crate) fn refuse<S: Shelf>(
     fault: CertFault,
 ) -> StreamEnd
     ensures end { (result ≡ StreamEnd.Cert fault) ⊎ (result ≡ StreamEnd.Fault) ⊎ (result ≡ StreamEnd.TooLarge) }
+    ensures no_want { fault ≢ CertFault.OutOfMemory → result ≢ StreamEnd.Cert CertFault.OutOfMemory }
     ensures fault { result ≡ StreamEnd.Fault → Rose (S.faults shelf.old) (S.faults shelf.new) }
     ensures too_large { result ≡ StreamEnd.TooLarge → IfSome (file_of (S.held shelf.old) name.now)
         (λ file. Reads lines.old.reading file → lines.old.reading.limit < length file) }
@@ -138,6 +140,7 @@ pub(crate) fn read_stream_head<S: Shelf>(
         × (1 < lines.new.number))) }
     ensures peak { IfOk result IsWithinPeak }
     ensures no_memory { result ≢ Err StreamEnd.OutOfMemory }
+    ensures no_want { result ≢ Err (StreamEnd.Cert CertFault.OutOfMemory) }
     ensures fault { result ≡ Err StreamEnd.Fault → Rose (S.faults shelf.old) (S.faults shelf.new) }
     ensures too_large { result ≡ Err StreamEnd.TooLarge → IfSome (file_of (S.held shelf.old) name.now)
         (λ file. Reads lines.old.reading file → lines.old.reading.limit < length file) }
@@ -186,6 +189,7 @@ fn head_found(
     ensures head { MatchOption found (result ≡ Err none) (λ number. (words : List (List ℕ)) → SameLine (words_here line.now.done) words
         → result ≡ head_in answer (record { number = number; words = words })) }
     ensures peak { IfOk result IsWithinPeak }
+    ensures no_memory { none ≢ CertFault.OutOfMemory → result ≢ Err CertFault.OutOfMemory }
 {
     let Some(number) = found else {
         return Err(none);

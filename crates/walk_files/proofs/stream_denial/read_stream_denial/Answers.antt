@@ -7,7 +7,7 @@ use Rattle.text_scan.specs.Unread.{lines_left}
 use Rattle.walk_files.specs.Denials.{AreFew, denial_in, unlabelled}
 use Rattle.walk_files.specs.StreamEnds.{end_of_text}
 use Rattle.walk_files.proofs.FewLemmas.{full_lines-few}
-use Rattle.walk_files.proofs.StreamDenials.{denial_answered, answers_denial, answers_wrong}
+use Rattle.walk_files.proofs.StreamDenials.{denial_answered, answers_denial, answers_wrong, end_of_text-no_want}
 use Rattle.walk_files.proofs.stream_denial.read_stream_denial.Goals as goal
 
 pub read_denial-requires : goal.read_denial-requires
@@ -27,6 +27,11 @@ returns-in_err-read_denial-clause-answer g c =
     c.new-cursor.result.end_line lines c.in_ok-text.text.items (Err (end_of_text fault)) c.in_ok-text.ensures.text
     (c.new-cursor.ensures.lines ∙ ap full_lines c.deref.ensures.value) (c.new-cursor.ensures.«end» ∙ ap end_line c.deref.ensures.value)
     (answers_wrong fault whole c.in_err-read_denial.ensures.denial))
+
+pub returns-in_err-read_denial-clause-no_want : goal.returns-in_err-read_denial-clause-no_want
+returns-in_err-read_denial-clause-no_want g c =
+    let p = err_from_is_err_and c.from_residual-in_err-read_denial.result c.from_residual-in_err-read_denial.ensures.1 in
+    rw (p.1, p.2) (λ e. end_of_text-no_want c.in_err-read_denial.field-0.0 cc)
 
 pub returns-clause-answer : goal.returns-clause-answer
 returns-clause-answer g c =
