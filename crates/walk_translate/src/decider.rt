@@ -10,7 +10,7 @@ use crate::dart_spokes::DartSpokes;
 use crate::deciding::answer_by;
 use crate::labels::label_by_cut;
 use crate::spoked::Spoked;
-use crate::walks::{have_common_ends, is_walk};
+use crate::walks::are_pair;
 use halfedge_map::Surface;
 use quad_system::GoodLabelling;
 use std::alloc::{AllocError, Global};
@@ -119,12 +119,7 @@ impl Decider {
             (λ answer. AreWalkPair self.now first.now second.now
             × ((answer ≡ Answer.Homotopic) ↔ Homotopic self.now first.now second.now))) }
     {
-        let faces = self.surface.faces();
-        let sides = self.surface.sides();
-        if !is_walk(faces, sides, first)
-            || !is_walk(faces, sides, second)
-            || !have_common_ends(first, second)
-        {
+        if !are_pair(self.surface.faces(), self.surface.sides(), first, second) {
             return Ok(None);
         }
         Ok(Some(self.answer(first, second)?))

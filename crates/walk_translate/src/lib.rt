@@ -20,3 +20,4 @@ pub use deciding::decide;
 pub use labellings::{DenialVerdict, check_denial, fold, word_of};
 pub use labels::{label_by_cut, label_surface};
 pub use surf_model::Answer;
+pub use walks::are_pair;

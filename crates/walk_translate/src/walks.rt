@@ -1,12 +1,20 @@
 //! Whether lists of vertices are walks of a mesh with common ends.
 ghost use Rattle.std.specs.Prelude.{◌↔◌, IsTrue};
 ghost use Rattle.surf_model.specs.Edges.{IsTableOf};
-ghost use Rattle.surf_model.specs.Walks.{IsWalk, HaveCommonEnds};
+ghost use Rattle.surf_model.specs.Walks.{AreWalkPair, IsWalk, HaveCommonEnds};
 
 use surf_model::{Faces, Sides, Walk};
 
+/// Whether two lists of vertices are walks of the mesh with common ends.
+pub fn are_pair(faces: &Faces, sides: &Sides, first: &Walk, second: &Walk) -> bool
+    requires { IsTableOf faces.now sides.now }
+    ensures { IsTrue result ↔ AreWalkPair faces.now first.now second.now }
+{
+    is_walk(faces, sides, first) && is_walk(faces, sides, second) && have_common_ends(first, second)
+}
+
 /// Whether the vertices are a walk of the mesh.
-pub(crate) fn is_walk(faces: &Faces, sides: &Sides, walk: &Walk) -> bool
+fn is_walk(faces: &Faces, sides: &Sides, walk: &Walk) -> bool
     requires { IsTableOf faces.now sides.now }
     ensures { IsTrue result ↔ IsWalk faces.now walk.now }
 {
