@@ -22,7 +22,7 @@ use Rattle.tree_cotree.specs.Splits.{SplitView, IsSplit, below_edge, in_cotree}
 use Rattle.move_lifting.specs.Crossings.{beyond, GoesAlong, IsOneIn, IsFaceBelow}
 use Rattle.move_lifting.specs.declared.crossing.FaceStep.{FaceStep}
 use Rattle.move_lifting.proofs.RestLemmas.{side_ends}
-use Rattle.polygon_cut.proofs.FaceRoundLemmas.{corner_after_suc}
+use Rattle.walk_actions.proofs.Corners.{after_more}
 
 -- one corner more before the last
 pub before-suc : (ring : List ℕ) (rising : Bool) (t k : ℕ)
@@ -141,7 +141,7 @@ rest_more old new v start ring rising t k c pushed before at read =
 pub corner_more : (rising : Bool) (m t k c : ℕ) → c ≡ corner_after rising m t k → next_corner rising m c ≡ corner_after rising m t (k + 1)
 corner_more rising m t k c is =
     let one : suc k ≡ k + 1 = omega arith in
-    ap (next_corner rising m) is ∙ sym (corner_after_suc rising m t k) ∙ ap (corner_after rising m t) one
+    ap (next_corner rising m) is ∙ sym (after_more rising m t k) ∙ ap (corner_after rising m t) one
 
 -- how many vertices come
 length-before : (ring : List ℕ) (rising : Bool) (t k : ℕ) → length (corners_before ring rising t k) ≡ k

@@ -29,9 +29,10 @@ use Rattle.halfedge_map.proofs.SystemLemmas.{names_all}
 use Rattle.tree_cotree.specs.Splits.{SplitView, IsSplit}
 use Rattle.polygon_cut.specs.Polygons.{PolygonView, IsCutFrom}
 use Rattle.polygon_cut.specs.SpokeLoops.{AreWaysUp, backward, by_loop, last_side, way_round, way_back_round, IsOffCotree}
-use Rattle.polygon_cut.proofs.FaceRoundLemmas.{at_face, corner_home}
+use Rattle.walk_actions.proofs.Corners.{once_round}
+use Rattle.polygon_cut.proofs.FaceRoundLemmas.{at_face}
 use Rattle.polygon_cut.proofs.FreeLawLemmas.{backward_is, side_in, led_round, led_back_round}
-use Rattle.polygon_cut.proofs.FreeProductLemmas.{end_of}
+use Rattle.walk_actions.proofs.Runs.{end_from as end_of}
 use Rattle.polygon_cut.proofs.FreeRoundLemmas.{read_back}
 use Rattle.polygon_cut.proofs.WayLemmas.{back}
 use Rattle.common_ends.proofs.PeakLemmas.{leads_nowhere, one_more}
@@ -77,7 +78,7 @@ all_round ring rising t v l is =
     let m : ℕ = length ring in
     let next : ℕ = next_corner rising m t in
     let count : suc (m - 1) ≡ m = omega arith in
-    let home : corner_after rising m next (m - 1) ≡ t = ap (corner_after rising m t) count ∙ corner_home rising m t l in
+    let home : corner_after rising m next (m - 1) ≡ t = ap (corner_after rising m t) count ∙ once_round rising m t l in
     let end : get_or ring (corner_after rising m next (m - 1)) 0 ≡ v = ap (λ (c : ℕ). get_or ring c 0) home ∙ sym is in
     sym
     (ap (corners_from ring rising t) (sym count)
@@ -134,7 +135,7 @@ round_back : (face : List ℕ) (rising : Bool) (t v : ℕ) (rest : List ℕ) →
 round_back face rising t v rest l is round =
     let m : ℕ = length face in
     let read : corners_from face (not rising) t m ≡ end_of v rest ∷ back v rest =
-    ap (λ (c : ℕ). corners_from face (not rising) c m) (sym (corner_home rising m t l)) ∙ read_back face rising t m v rest l round in
+    ap (λ (c : ℕ). corners_from face (not rising) c m) (sym (once_round rising m t l)) ∙ read_back face rising t m v rest l round in
     let count : suc (m - 1) ≡ m = omega arith in
     let first : corners_from face (not rising) t m ≡ get_or face t 0 ∷ corners_from face (not rising) (next_corner (not rising) m t) (m - 1)
     =

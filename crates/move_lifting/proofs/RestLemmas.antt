@@ -19,9 +19,9 @@ use Rattle.tree_cotree.specs.Splits.{SplitView, IsSplit, below_edge}
 use Rattle.move_lifting.specs.Loads.{load_of}
 use Rattle.move_lifting.proofs.CountLemmas.{sum_below}
 use Rattle.move_lifting.proofs.LoadLemmas.{weight, weight_positive, weight_most, AreBeside, AreInFace, weights_fall, root_weights}
-use Rattle.move_lifting.proofs.RoundLemmas.{corner_in, corners_apart, corners_more}
+use Rattle.walk_actions.proofs.Corners.{after_within, after_more, corners_apart}
+use Rattle.move_lifting.proofs.RoundLemmas.{corners_more}
 use Rattle.move_lifting.proofs.WithinLemmas.{load-joined, darts_weigh}
-use Rattle.polygon_cut.proofs.FaceRoundLemmas.{corner_after_suc}
 use Rattle.polygon_cut.proofs.FreeRoundLemmas.{dart_from, from_is}
 
 -- the edge between two vertices is that of each dart with these ends
@@ -141,12 +141,12 @@ round_load s split o t f rising c (suc k) l b =
     ≡ sum_below (λ j. weight s split t (edge_of s (first_side s.mesh f + side_place rising m (corner_after rising m c j)))) k =
     round_load s split o t f rising c k l b in
     let read : corners_from ring rising c k ≡ front ++ u ∷ [] = last_corner ring rising c k in
-    let end : get_or ring (corner_after rising m c (suc k)) 0 ≡ v = ap (λ (x : ℕ). get_or ring x 0) (corner_after_suc rising m c k) in
+    let end : get_or ring (corner_after rising m c (suc k)) 0 ≡ v = ap (λ (x : ℕ). get_or ring x 0) (after_more rising m c k) in
     let whole : corners_from ring rising c (suc k) ≡ front ++ u ∷ v ∷ [] =
     corners_more ring rising c k ∙ ap (λ (x : ℕ). corners_from ring rising c k ++ x ∷ []) end ∙ ap (λ (w : List ℕ). w ++ v ∷ []) read
     ∙ append_assoc front (u ∷ []) (v ∷ []) in
     let step : pair_weight s split t u v ≡ weight s split t (edge_of s (first_side s.mesh f + side_place rising m at)) =
-    ap (weight s split t) (step_edge s o f rising at l (corner_in rising m c k b)) in
+    ap (weight s split t) (step_edge s o f rising at l (after_within rising m c k b)) in
     let joined : load s split t (front ++ u ∷ v ∷ []) ≡ load s split t (front ++ u ∷ []) + (pair_weight s split t u v + 0) =
     load-join s split t front (v ∷ []) u in
     let shorter : load s split t (front ++ u ∷ []) ≡ load s split t (corners_from ring rising c k) = ap (load s split t) (sym read) in
@@ -160,7 +160,7 @@ shift false = 1
 side-after : (rising : Bool) (m t j : ℕ) → side_place rising m (corner_after rising m t j) ≡ corner_after rising m t (j + shift rising)
 unfolding shift
 side-after true m t j = ap (corner_after true m t) (let e : j ≡ j + 0 = omega arith in e)
-side-after false m t j = sym (corner_after_suc false m t j) ∙ ap (corner_after false m t) (let e : suc j ≡ j + 1 = omega arith in e)
+side-after false m t j = sym (after_more false m t j) ∙ ap (corner_after false m t) (let e : suc j ≡ j + 1 = omega arith in e)
 
 shift_most : (rising : Bool) → shift rising ≤ 1
 unfolding shift
@@ -195,7 +195,7 @@ rest_sides s f c rising l b =
     let back : Bool = not rising in
     let place : ℕ → ℕ = λ j. side_place back m (corner_after back m c j) in
     let number : (j : ℕ) → IsNumberOf s.mesh f (place j) (first_side s.mesh f + place j) =
-    λ j. numbered s f (place j) l (side_in back m (corner_after back m c j) (corner_in back m c j b)) in
+    λ j. numbered s f (place j) l (side_in back m (corner_after back m c j) (after_within back m c j b)) in
     record {
       within = λ j h. number_below s.mesh f (place j) (first_side s.mesh f + place j) (number j);
       inside = λ j h. face_at_number s f (place j) (first_side s.mesh f + place j) (number j);
@@ -234,7 +234,7 @@ root_round s split o t f c rising root l b =
     let m : ℕ = length (face_at s.mesh f) in
     let place : ℕ → ℕ = λ j. side_place rising m (corner_after rising m c j) in
     let number : (j : ℕ) → IsNumberOf s.mesh f (place j) (first_side s.mesh f + place j) =
-    λ j. numbered s f (place j) l (side_in rising m (corner_after rising m c j) (corner_in rising m c j b)) in
+    λ j. numbered s f (place j) l (side_in rising m (corner_after rising m c j) (after_within rising m c j b)) in
     let sides : AreInFace s f m (λ j. first_side s.mesh f + place j) = record {
       within = λ j h. number_below s.mesh f (place j) (first_side s.mesh f + place j) (number j);
       inside = λ j h. face_at_number s f (place j) (first_side s.mesh f + place j) (number j);

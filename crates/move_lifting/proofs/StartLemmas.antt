@@ -13,7 +13,8 @@ use Rattle.polygon_cut.specs.SpokeLoops.{AreWaysUp, HaveFreeSpokes, LeavesCotree
 use Rattle.polygon_cut.proofs.GroupLemmas.{IsGroup}
 use Rattle.polygon_cut.proofs.RelatorLemmas.{spoke_product}
 use Rattle.polygon_cut.proofs.WayLemmas.{IsWay, loop_mul, loop_inv, loop_one}
-use Rattle.polygon_cut.proofs.FreeProductLemmas.{end_of, way_end, product_from, product_on}
+use Rattle.walk_actions.proofs.Runs.{end_from as end_of}
+use Rattle.polygon_cut.proofs.FreeProductLemmas.{way_end, product_from, product_on}
 use Rattle.polygon_cut.proofs.FreeLoopLemmas.{SameFreely}
 use Rattle.polygon_cut.proofs.FreeSpokeLemmas.{free_group}
 use Rattle.polygon_cut.proofs.FreeMoveLemmas.{walk_value, moves_keep_value}

@@ -1,14 +1,14 @@
 -- Round a face: the darts from a dart on, as many as the face has sides, go along its whole boundary, which one move contracts.
-use Rattle.std.proofs.Common.{◌≡◌, ◌≢◌, inl, inr, ℕ, zero, suc, ◌+◌, ◌-◌, ◌<◌, Bool, true, false, not, List, [], ◌∷◌, ◌++◌, length, get_or, refl, ap, sym, ◌∙◌, subst, arith}
+use Rattle.std.proofs.Common.{◌≡◌, ◌≢◌, ℕ, zero, suc, ◌-◌, ◌<◌, Bool, true, false, not, List, [], ◌∷◌, ◌++◌, length, get_or, refl, ap, sym, ◌∙◌, subst, arith}
 use Rattle.std.specs.Prelude.{Some}
-use Rattle.std.proofs.lemmas.Bool.{cases_lt}
 use Rattle.surf_model.specs.FaceLists.{face_at, next_corner, corners_from}
 use Rattle.surf_model.specs.Surfaces.{is_flipped}
 use Rattle.surf_model.specs.Moves.{apply, Homotopic}
 use Rattle.surf_model.specs.declared.moves.Move.{Move}
 use Rattle.surf_model.specs.declared.moves.Move.TheVariants.{Across}
 use Rattle.surf_model.proofs.ReplacementLemmas.{by_replacing}
-use Rattle.surf_model.proofs.RoundLemmas.{corner_after, rises, rises_past, falls, falls_past}
+use Rattle.surf_model.proofs.RoundLemmas.{corner_after}
+use Rattle.walk_actions.proofs.Corners.{after_more, once_round, corners_apart}
 use Rattle.halfedge_map.specs.Orbits.{after_steps}
 use Rattle.halfedge_map.specs.OrientedMeshes.{OrientedMesh, IsOrientedSurface}
 use Rattle.halfedge_map.specs.DartMaps.{darts_of, next_of, origin_of, face_of, start_corner_of, end_corner_of, dart_at_corner}
@@ -18,21 +18,6 @@ use Rattle.halfedge_map.proofs.CornerLemmas.{corner_back}
 use Rattle.halfedge_map.proofs.DartLemmas.{face_at_number, origin_at, corner-next, start_kept, start_flipped, end_kept, end_flipped, start_corner_within}
 use Rattle.halfedge_map.proofs.VertexLemmas.{at_start}
 use Rattle.halfedge_map.proofs.SystemLemmas.{rotation_system}
-
--- fewer steps than corners, but some, lead away
-corner_apart : (rising : Bool) (m t k : ℕ) → t < m → 0 < k → k < m → corner_after rising m t k ≢ t
-corner_apart true m t k h some l same = elim (cases_lt (t + k) m) [
-  | inl within ↦ (let is : corner_after true m t k ≡ t + k = rises m t k h within in omega arith)
-  | inr past ↦ (let is : corner_after true m t k ≡ t + k - m = rises_past m t k h (omega arith) past in omega arith)
-]
-corner_apart false m t k h some l same = elim (cases_lt t k) [
-  | inl past ↦ (let is : corner_after false m t k ≡ t + m - k = falls_past m t k h (omega arith) past in omega arith)
-  | inr within ↦ (let is : corner_after false m t k ≡ t - k = falls m t k h within in omega arith)
-]
-
-pub corner_home : (rising : Bool) (m t : ℕ) → t < m → corner_after rising m t m ≡ t
-corner_home true m t h = rises_past m t m h (omega arith) (omega arith) ∙ omega arith
-corner_home false m t h = falls_past m t m h (omega arith) h ∙ omega arith
 
 -- the direction in which darts go round a face
 unfoldable pub dir : OrientedMesh → ℕ → Bool
@@ -54,10 +39,6 @@ end_is s f t d n = by (is_flipped s.signs f) refl
         end_flipped s f t d n e
         ∙ sym (ap (λ b. next_corner (not b) m (start_corner_of s d)) e ∙ ap (next_corner false m) (start_flipped s f t d n e)
         ∙ corner_back true m t n.place)
-
-pub corner_after_suc : (rising : Bool) (m t k : ℕ) → corner_after rising m t (suc k) ≡ next_corner rising m (corner_after rising m t k)
-corner_after_suc rising m t zero = refl
-corner_after_suc rising m t (suc k) = corner_after_suc rising m (next_corner rising m t) k
 
 -- where the darts round a face start
 pub record OnRound (s : OrientedMesh) (d k : ℕ) : Type 0 where
@@ -87,7 +68,7 @@ on_round s o (suc k) d l =
       corner =
           step ∙ ap (λ f. next_corner (dir s f) (length (face_at s.mesh f)) (start_corner_of s x)) before.face
           ∙ ap (next_corner (dir s (face_of s d)) (length (face_at s.mesh (face_of s d)))) before.corner
-          ∙ sym (corner_after_suc (dir s (face_of s d)) (length (face_at s.mesh (face_of s d))) (start_corner_of s d) k);
+          ∙ sym (after_more (dir s (face_of s d)) (length (face_at s.mesh (face_of s d))) (start_corner_of s d) k);
     }
 
 pub record AtFace (s : OrientedMesh) (d : ℕ) : Type 0 where
@@ -116,7 +97,7 @@ comes_round s o d l =
     let here : AtFace s d = at_face s d l in
     let x : ℕ = after_steps (next_of s) m d in
     let corner : start_corner_of s x ≡ start_corner_of s d =
-    end.corner ∙ corner_home (dir s (face_of s d)) m (start_corner_of s d) here.in_face in
+    end.corner ∙ once_round (dir s (face_of s d)) m (start_corner_of s d) here.in_face in
     sym (at_start s x end.within) ∙ ap (λ f. dart_at_corner s f (start_corner_of s x)) end.face ∙ ap (dart_at_corner s (face_of s d)) corner
     ∙ at_start s d l
 
@@ -125,8 +106,8 @@ pub not_before : (s : OrientedMesh) → IsOrientedSurface s → (d k : ℕ) → 
 not_before s o d k l some few same =
     let m : ℕ = length (face_at s.mesh (face_of s d)) in
     let on : OnRound s d k = on_round s o k d l in
-    corner_apart (dir s (face_of s d)) m (start_corner_of s d) k (at_face s d l).in_face some few
-    (sym on.corner ∙ ap (start_corner_of s) same)
+    corners_apart (dir s (face_of s d)) m (start_corner_of s d) 0 k (at_face s d l).in_face some (omega arith) (omega arith)
+    (sym (sym on.corner ∙ ap (start_corner_of s) same))
 
 -- the vertices behind the origin of a dart, k darts on
 abbrev pub vertices_on : OrientedMesh → ℕ → ℕ → List ℕ

@@ -1,7 +1,9 @@
 -- Products along a walk in a group: each step from a vertex to the next has a value. A walk is a vertex and the vertices behind it.
-use Rattle.std.proofs.Common.{◌≡◌, ℕ, List, [], ◌∷◌, ◌++◌, sym, subst, append_assoc}
+use Rattle.std.proofs.Common.{◌≡◌, ℕ, List, [], ◌∷◌, ◌++◌, subst}
 use Rattle.std.specs.Prelude.{IsTrue}
 use Rattle.surf_model.specs.FaceLists.{FaceList, is_edge}
+use Rattle.walk_actions.specs.Actions.{run, walked, Acts}
+use Rattle.walk_actions.proofs.Runs.{end_from as end_of}
 use Rattle.polygon_cut.proofs.GroupLemmas.{IsGroup, inverse_unique, inverse_of_product}
 use Rattle.polygon_cut.proofs.WayLemmas.{IsWay, back, way_home}
 
@@ -13,11 +15,6 @@ product_from mul one val u (v ∷ rest) = mul (val u v) (product_from mul one va
 abbrev pub walk_product : {X : Type 0} → (X → X → X) → X → (ℕ → ℕ → X) → List ℕ → X
 walk_product mul one val [] = one
 walk_product mul one val (u ∷ rest) = product_from mul one val u rest
-
--- where a walk ends
-abbrev pub end_of : ℕ → List ℕ → ℕ
-end_of u [] = u
-end_of u (v ∷ rest) = end_of v rest
 
 pub way_end : (mesh : FaceList) (u v : ℕ) (rest : List ℕ) → IsWay mesh u v rest → end_of u rest ≡ v
 way_end mesh u v [] h = h.0
@@ -38,47 +35,6 @@ product_on {X = X} Same mul inv one g val u (w ∷ rest) more =
     g.on (mul v whole) (mul v (mul a b)) (mul (mul v a) b)
     (g.mul_same v v whole (mul a b) (g.itself v) (product_on Same mul inv one g val w rest more))
     (g.turn (mul (mul v a) b) (mul v (mul a b)) (g.associates v a b))
-
--- a part is replaced by one of the same value that ends where it does
-pub part_replaced : {X : Type 0} (Same : X → X → Type 0) (mul : X → X → X) (inv : X → X) (one : X) → IsGroup Same mul inv one
-    → (val : ℕ → ℕ → X) (before : List ℕ) (u : ℕ)
-    → (rest others after : List ℕ) → end_of u rest ≡ end_of u others
-    → Same (product_from mul one val u rest) (product_from mul one val u others)
-    → Same (walk_product mul one val (before ++ (u ∷ rest) ++ after)) (walk_product mul one val (before ++ (u ∷ others) ++ after))
-part_replaced {X = X} Same mul inv one g val before u rest others after ends same =
-    subst (λ (l : List ℕ). Same (walk_product mul one val l) (walk_product mul one val (before ++ (u ∷ others) ++ after)))
-    (sym (append_assoc before (u ∷ rest) after))
-    (subst (λ (l : List ℕ). Same (walk_product mul one val (before ++ (u ∷ (rest ++ after)))) (walk_product mul one val l))
-    (sym (append_assoc before (u ∷ others) after)) (whole before))
-  where
-    more : ℕ → X
-    more v = product_from mul one val v after
-
-    here : Same (product_from mul one val u (rest ++ after)) (product_from mul one val u (others ++ after))
-    here =
-        let a : X = product_from mul one val u rest in
-        let b : X = product_from mul one val u others in
-        let x : X = more (end_of u rest) in
-        let y : X = more (end_of u others) in
-        let x_is : Same x y = subst (λ v. Same x (more v)) ends (g.itself x) in
-        g.on (product_from mul one val u (rest ++ after)) (mul a x) (product_from mul one val u (others ++ after))
-        (product_on Same mul inv one g val u rest after)
-        (g.on (mul a x) (mul b y) (product_from mul one val u (others ++ after)) (g.mul_same a b x y same x_is)
-        (g.turn (product_from mul one val u (others ++ after)) (mul b y) (product_on Same mul inv one g val u others after)))
-
-    behind : (v : ℕ) (front : List ℕ)
-        → Same (product_from mul one val v (front ++ (u ∷ (rest ++ after)))) (product_from mul one val v (front ++ (u ∷ (others ++ after))))
-    behind v [] = g.mul_same (val v u) (val v u) (product_from mul one val u (rest ++ after)) (product_from mul one val u (others ++ after))
-        (g.itself (val v u)) here
-    behind v (w ∷ front) =
-        g.mul_same (val v w) (val v w) (product_from mul one val w (front ++ (u ∷ (rest ++ after))))
-        (product_from mul one val w (front ++ (u ∷ (others ++ after))))
-        (g.itself (val v w)) (behind w front)
-
-    whole : (front : List ℕ) → Same (walk_product mul one val (front ++ (u ∷ (rest ++ after))))
-        (walk_product mul one val (front ++ (u ∷ (others ++ after))))
-    whole [] = here
-    whole (v ∷ front) = behind v front
 
 -- the inverse of nothing
 pub inverse_of_one : {X : Type 0} (Same : X → X → Type 0) (mul : X → X → X) (inv : X → X) (one : X) → IsGroup Same mul inv one
@@ -110,12 +66,43 @@ product_back {X = X} Same mul inv one g mesh val turns u v (w ∷ rest) h =
     (g.mul_same a (inv b) last (inv x) (product_back Same mul inv one g mesh val turns w v rest h.1) last_is)
     (g.turn (inv (mul x b)) (mul (inv b) (inv x)) (inverse_of_product Same mul inv one g x b)))
 
--- a spur has no value
-pub spur_nothing : {X : Type 0} (Same : X → X → Type 0) (mul : X → X → X) (inv : X → X) (one : X) → IsGroup Same mul inv one
-    → (mesh : FaceList) (val : ℕ → ℕ → X) → StepsTurn Same inv mesh val
-    → (u v : ℕ) → IsTrue (is_edge mesh u v) → Same (product_from mul one val u (v ∷ u ∷ [])) one
-spur_nothing {X = X} Same mul inv one g mesh val turns u v edge =
-    let x : X = val u v in
-    let y : X = mul (val v u) one in
-    g.on (mul x y) (mul x (inv x)) one
-    (g.mul_same x x y (inv x) (g.itself x) (g.on y (val v u) (inv x) (g.one_right (val v u)) (turns u v edge))) (g.cancels x)
+-- A step acts on the elements of the group: its value is multiplied to them.
+abbrev pub times : {X : Type 0} → (X → X → X) → (ℕ → ℕ → X) → X → ℕ → ℕ → X
+times mul val x u v = mul x (val u v)
+
+abbrev pub Anywhere : {X : Type 0} → ℕ → X → Type 0
+Anywhere u x = Unit {0}
+
+pub steps_act : {X : Type 0} (Same : X → X → Type 0) (mul : X → X → X) (inv : X → X) (one : X) → IsGroup Same mul inv one
+    → (mesh : FaceList) (val : ℕ → ℕ → X) → StepsTurn Same inv mesh val → Acts mesh Same (times mul val) Anywhere
+steps_act {X = X} Same mul inv one g mesh val turns = record {
+  itself = λ u x at. g.itself x;
+  turned = λ u x y at there same. g.turn x y same;
+  joined = λ u x y z first second third h k. g.on x y z h k;
+  stays = λ u v x edge at. tt;
+  keeps = λ u v x y edge at there same. g.mul_same x y (val u v) (val u v) same (g.itself (val u v));
+  back = λ u v x edge at.
+      let a : X = val u v in
+      let b : X = val v u in
+      let nothing : Same (mul a b) one =
+      g.on (mul a b) (mul a (inv a)) one (g.mul_same a a b (inv a) (g.itself a) (turns u v edge)) (g.cancels a) in
+      g.on (mul (mul x a) b) (mul x (mul a b)) x (g.associates x a b)
+      (g.on (mul x (mul a b)) (mul x one) x (g.mul_same x x (mul a b) one (g.itself x) nothing) (g.one_right x));
+}
+
+-- so the product is what a walk makes of an element
+pub run_product : {X : Type 0} (Same : X → X → Type 0) (mul : X → X → X) (inv : X → X) (one : X) → IsGroup Same mul inv one
+    → (val : ℕ → ℕ → X) (x : X) (u : ℕ) (rest : List ℕ)
+    → Same (run (times mul val) x u rest) (mul x (product_from mul one val u rest))
+run_product Same mul inv one g val x u [] = g.turn (mul x one) x (g.one_right x)
+run_product Same mul inv one g val x u (v ∷ rest) =
+    g.on (run (times mul val) (mul x (val u v)) v rest) (mul (mul x (val u v)) (product_from mul one val v rest))
+    (mul x (mul (val u v) (product_from mul one val v rest)))
+    (run_product Same mul inv one g val (mul x (val u v)) v rest) (g.associates x (val u v) (product_from mul one val v rest))
+
+pub walked_product : {X : Type 0} (Same : X → X → Type 0) (mul : X → X → X) (inv : X → X) (one : X) → IsGroup Same mul inv one
+    → (val : ℕ → ℕ → X) (walk : List ℕ) → Same (walked (times mul val) one walk) (walk_product mul one val walk)
+walked_product Same mul inv one g val [] = g.itself one
+walked_product Same mul inv one g val (u ∷ rest) =
+    let product = product_from mul one val u rest in
+    g.on (run (times mul val) one u rest) (mul one product) product (run_product Same mul inv one g val one u rest) (g.one_left product)

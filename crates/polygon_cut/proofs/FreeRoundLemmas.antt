@@ -4,88 +4,54 @@ use Rattle.std.specs.Prelude.{unwrap_or}
 use Rattle.std.proofs.lemmas.Bool.{eqb-true, eq-eqb, and_parts}
 use Rattle.surf_model.specs.FaceLists.{face_at, next_corner, corners_from}
 use Rattle.surf_model.proofs.RoundLemmas.{corner_after}
+use Rattle.walk_actions.specs.Actions.{beyond}
+use Rattle.walk_actions.proofs.Corners.{after_back, beyond_more, corners_beyond}
+use Rattle.walk_actions.proofs.Runs.{end_from as end_of, end_beyond}
 use Rattle.surf_model.proofs.EdgeLemmas.{step_within}
 use Rattle.surf_model.specs.Numbers.{first_below}
 use Rattle.halfedge_map.specs.Orbits.{after_steps}
 use Rattle.halfedge_map.specs.OrientedMeshes.{OrientedMesh, IsOrientedSurface}
-use Rattle.halfedge_map.specs.DartMaps.{darts_of, next_of, twin_of, origin_of, target_of, face_of, edge_of}
+use Rattle.halfedge_map.specs.DartMaps.{darts_of, next_of, twin_of, origin_of, target_of, face_of}
 use Rattle.halfedge_map.specs.RotationSystems.{rotations_of, IsRotationSystem, IsDartFrom}
 use Rattle.halfedge_map.proofs.ListLemmas.{IsFirstBelow, first_passes}
-use Rattle.halfedge_map.proofs.CornerLemmas.{corner_back}
 use Rattle.halfedge_map.proofs.TwinLemmas.{origin-twin}
 use Rattle.halfedge_map.proofs.EdgeLemmas.{dart_between}
 use Rattle.halfedge_map.proofs.OrbitLemmas.{step_first}
 use Rattle.halfedge_map.proofs.SystemLemmas.{rotation_system, names_all}
-use Rattle.tree_cotree.specs.Splits.{SplitView, IsSplit, in_cotree}
+use Rattle.tree_cotree.specs.Splits.{SplitView, IsSplit}
 use Rattle.polygon_cut.specs.Polygons.{PolygonView, IsCutFrom, side_at, label_of}
-use Rattle.polygon_cut.proofs.GroupLemmas.{quotient, inverse_of_quotient}
+use Rattle.polygon_cut.proofs.GroupLemmas.{quotient}
 use Rattle.polygon_cut.proofs.WayLemmas.{back, loop_mul, loop_inv}
 use Rattle.polygon_cut.proofs.FreeLoopLemmas.{SameFreely}
-use Rattle.polygon_cut.proofs.FreeProductLemmas.{product_from, end_of, StepsTurn}
-use Rattle.polygon_cut.proofs.ValueLemmas.{round, by_labels, telescopes}
-use Rattle.polygon_cut.proofs.FaceRoundLemmas.{on_round, corner_after_suc, vertices_on, comes_round, not_before}
+use Rattle.polygon_cut.proofs.FreeProductLemmas.{product_from, StepsTurn}
+use Rattle.polygon_cut.proofs.ValueLemmas.{round, telescopes}
+use Rattle.polygon_cut.proofs.FaceRoundLemmas.{on_round, vertices_on, comes_round, not_before}
 use Rattle.polygon_cut.proofs.DartLoopLemmas.{Loops, spoke, one_of}
-use Rattle.polygon_cut.proofs.FreeSpokeLemmas.{free_group, free_value, of_cotree_dart, free_twin, free_is_two_spokes}
-
--- as many steps back lead back to the corner
-pub round_trip : (rising : Bool) (m t k : ℕ) → t < m → corner_after (not rising) m (corner_after rising m t k) k ≡ t
-round_trip rising m t zero l = refl
-round_trip rising m t (suc k) l =
-    corner_after_suc (not rising) m (corner_after rising m (next_corner rising m t) k) k
-    ∙ ap (next_corner (not rising) m) (round_trip rising m (next_corner rising m t) k (step_within rising m t l)) ∙ corner_back rising m t l
-
--- the corners behind the first
-corners_behind : List ℕ → Bool → ℕ → ℕ → List ℕ
-corners_behind face rising t zero = []
-corners_behind face rising t (suc k) = get_or face (next_corner rising (length face) t) 0 ∷ corners_behind face rising
-    (next_corner rising (length face) t) k
-
-first_and_others : (face : List ℕ) (rising : Bool) (t k : ℕ)
-    → corners_from face rising t k ≡ get_or face t 0 ∷ corners_behind face rising t k
-unfolding corners_behind
-first_and_others face rising t zero = refl
-first_and_others face rising t (suc k) =
-    ap (λ (l : List ℕ). get_or face t 0 ∷ l) (first_and_others face rising (next_corner rising (length face) t) k)
-
-behind_end : (face : List ℕ) (rising : Bool) (t k : ℕ)
-    → end_of (get_or face t 0) (corners_behind face rising t k) ≡ get_or face (corner_after rising (length face) t k) 0
-unfolding corners_behind
-behind_end face rising t zero = refl
-behind_end face rising t (suc k) = behind_end face rising (next_corner rising (length face) t) k
-
-one_more_behind : (face : List ℕ) (rising : Bool) (t k : ℕ)
-    → corners_behind face rising t (suc k) ≡ corners_behind face rising t k ++ get_or face (corner_after rising (length face) t (suc k))
-    0 ∷ []
-unfolding corners_behind
-one_more_behind face rising t zero = refl
-one_more_behind face rising t (suc k) =
-    ap (λ (l : List ℕ). get_or face (next_corner rising (length face) t) 0 ∷ l)
-    (one_more_behind face rising (next_corner rising (length face) t) k)
+use Rattle.polygon_cut.proofs.FreeSpokeLemmas.{free_group, free_value, free_twin, free_is_two_spokes}
 
 behind_back : (face : List ℕ) (rising : Bool) (t k : ℕ) → t < length face
-    → corners_behind face (not rising) (corner_after rising (length face) t k) k ≡ back (get_or face t 0) (corners_behind face rising t k)
-unfolding corners_behind
+    → beyond face (not rising) (corner_after rising (length face) t k) k ≡ back (get_or face t 0) (beyond face rising t k)
 behind_back face rising t zero l = refl
 behind_back face rising t (suc k) l =
     let m : ℕ = length face in
     let on : ℕ = next_corner rising m t in
-    one_more_behind face (not rising) (corner_after rising m on k) k
+    beyond_more face (not rising) (corner_after rising m on k) k
     ∙ ap (λ (x : List ℕ). x ++ get_or face (corner_after (not rising) m (corner_after rising m on k) (suc k)) 0 ∷ [])
     (behind_back face rising on k (step_within rising m t l))
-    ∙ ap (λ c. back (get_or face on 0) (corners_behind face rising on k) ++ get_or face c 0 ∷ []) (round_trip rising m t (suc k) l)
+    ∙ ap (λ c. back (get_or face on 0) (beyond face rising on k) ++ get_or face c 0 ∷ []) (after_back rising m t (suc k) l)
 
 -- the corners read the other way, from where the reading ended
 pub read_back : (face : List ℕ) (rising : Bool) (t k u : ℕ) (rest : List ℕ) → t < length face → corners_from face rising t k ≡ u ∷ rest
     → corners_from face (not rising) (corner_after rising (length face) t k) k ≡ end_of u rest ∷ back u rest
 read_back face rising t k u rest l is =
     let c : ℕ = corner_after rising (length face) t k in
-    let both : get_or face t 0 ∷ corners_behind face rising t k ≡ u ∷ rest = sym (first_and_others face rising t k) ∙ is in
+    let both : get_or face t 0 ∷ beyond face rising t k ≡ u ∷ rest = sym (corners_beyond face rising t k) ∙ is in
     let first : get_or face t 0 ≡ u = cc in
-    let others : corners_behind face rising t k ≡ rest = cc in
-    first_and_others face (not rising) c k
-    ∙ ap (λ (x : List ℕ). get_or face c 0 ∷ x) (behind_back face rising t k l ∙ ap (λ x. back x (corners_behind face rising t k)) first
+    let others : beyond face rising t k ≡ rest = cc in
+    corners_beyond face (not rising) c k
+    ∙ ap (λ (x : List ℕ). get_or face c 0 ∷ x) (behind_back face rising t k l ∙ ap (λ x. back x (beyond face rising t k)) first
     ∙ ap (back u) others)
-    ∙ ap (λ x. x ∷ back u rest) (sym (behind_end face rising t k) ∙ ap (λ x. end_of x (corners_behind face rising t k)) first
+    ∙ ap (λ x. x ∷ back u rest) (sym (end_beyond face rising t k) ∙ ap (λ x. end_of x (beyond face rising t k)) first
     ∙ ap (end_of u) others)
 
 -- The dart from u to v: the first one that starts at u and ends at v.
@@ -145,10 +111,6 @@ steps_round mul one val s o (suc k) d l =
     ap (λ x. mul (val x) (product_from mul one (λ u v. val (dart_from s u v)) (origin_of s on) (vertices_on s k on))) (own_from s o d l)
     ∙ ap (mul (val d)) (steps_round mul one val s o k on ((rotation_system s o).next_within d l))
 
-pub round_end : (s : OrientedMesh) (k d : ℕ) → end_of (origin_of s d) (vertices_on s k d) ≡ origin_of s (after_steps (next_of s) k d)
-round_end s zero d = refl
-round_end s (suc k) d = round_end s k (next_of s d) ∙ ap (origin_of s) (step_first (next_of s) k d)
-
 -- how many darts of the face of a dart there are beside it
 abbrev pub others_of : OrientedMesh → ℕ → ℕ
 others_of s d = length (face_at s.mesh (face_of s d)) - 1
@@ -184,26 +146,26 @@ others_product s split o t polygon c some d l other =
     subst (λ x. SameFreely all (quotient loop_mul loop_inv (S (label_of polygon (next_of s d))) (S (label_of polygon x)))) (closes s o d l)
     product
 
--- round a face that is not the root face, the others make the inverse of the dart of its parent edge
-pub others_of_parent : (s : OrientedMesh) (split : SplitView) (o : IsOrientedSurface s) (t : IsSplit s split) (polygon : PolygonView)
+-- round a face that is not the root face, all its darts together make nothing
+pub round_off_root : (s : OrientedMesh) (split : SplitView) (o : IsOrientedSurface s) (t : IsSplit s split) (polygon : PolygonView)
     → IsCutFrom s split polygon → 0 < polygon.degree
-    → (d : ℕ) → d < darts_of s → in_cotree split (edge_of s d) ≡ true → face_of s d ≢ split.root_face
-    → SameFreely (round loop_mul (one_of s split t) (free_value s split o t polygon) (next_of s) (others_of s d) (next_of s d))
-    (loop_inv (free_value s split o t polygon d))
-others_of_parent s split o t polygon c some d l is off_root =
+    → (d : ℕ) → d < darts_of s → face_of s d ≢ split.root_face
+    → SameFreely (round loop_mul (one_of s split t) (free_value s split o t polygon) (next_of s)
+    (length (face_at s.mesh (face_of s d))) d) (one_of s split t)
+round_off_root s split o t polygon c some d l off_root =
     let g = free_group s split t in
+    let m : ℕ = length (face_at s.mesh (face_of s d)) in
     let S : ℕ → Loops s split t = spoke s split o t polygon in
-    let nothing : Loops s split t = one_of s split t in
-    let all : Loops s split t = round loop_mul nothing (free_value s split o t polygon) (next_of s) (others_of s d) (next_of s d) in
-    let two : Loops s split t = by_labels loop_mul loop_inv S (label_of polygon) (next_of s) d in
-    let turned : Loops s split t = quotient loop_mul loop_inv (S (label_of polygon (next_of s d))) (S (label_of polygon d)) in
-    let product : SameFreely all turned =
-    others_product s split o t polygon c some d l (λ k few same. off_root (sym (on_round s o (suc k) d l).face ∙ ap (face_of s) same
-    ∙ c.last_side some)) in
-    subst (λ x. SameFreely all (loop_inv x)) (sym (of_cotree_dart s split o t polygon d is))
-    (g.on all turned (loop_inv two) product
-    (g.turn (loop_inv two) turned (inverse_of_quotient SameFreely loop_mul loop_inv nothing g (S (label_of polygon d))
-    (S (label_of polygon (next_of s d))))))
+    let here : Loops s split t = S (label_of polygon d) in
+    let all : Loops s split t = round loop_mul (one_of s split t) (free_value s split o t polygon) (next_of s) m d in
+    let product : SameFreely all (quotient loop_mul loop_inv here (S (label_of polygon (after_steps (next_of s) m d)))) =
+    telescopes SameFreely loop_mul loop_inv (one_of s split t) g (free_value s split o t polygon) S (label_of polygon) (next_of s) m d
+    (λ j few.
+    let on = on_round s o j d l in
+    free_is_two_spokes s split o t polygon c some (after_steps (next_of s) j d) on.within
+    (λ same. off_root (sym on.face ∙ ap (face_of s) same ∙ c.last_side some))) in
+    g.on all (quotient loop_mul loop_inv here here) (one_of s split t)
+    (subst (λ x. SameFreely all (quotient loop_mul loop_inv here (S (label_of polygon x)))) (comes_round s o d l) product) (g.cancels here)
 
 -- round the root face, the others of the last side make the product of the spokes at its head and at its tail
 pub others_of_last : (s : OrientedMesh) (split : SplitView) (o : IsOrientedSurface s) (t : IsSplit s split) (polygon : PolygonView)

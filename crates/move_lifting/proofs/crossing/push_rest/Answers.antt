@@ -2,7 +2,7 @@ use Rattle.std.proofs.Common.{◌≡◌, ℕ, ◌+◌, ◌<◌, List, length, ap
 use Rattle.surf_model.specs.FaceLists.{face_at, next_corner}
 use Rattle.surf_model.specs.Vertices.{numbers}
 use Rattle.surf_model.proofs.RoundLemmas.{corner_after}
-use Rattle.move_lifting.proofs.RoundLemmas.{corner_in}
+use Rattle.walk_actions.proofs.Corners.{after_within}
 use Rattle.move_lifting.proofs.CrossingLemmas.{rest_more, corner_more}
 use Rattle.move_lifting.proofs.crossing.push_rest.Goals as goal
 
@@ -10,7 +10,7 @@ pub corner_after-corner-requires : goal.corner_after-corner-requires
 corner_after-corner-requires c =
     let m : ℕ = length (face_at c.args.faces.now c.args.step.face.0) in
     let within : corner_after c.args.step.forward m c.args.step.corner c.loop-count._count < m =
-    corner_in c.args.step.forward m c.args.step.corner c.loop-count._count c.requires.corner in
+    after_within c.args.step.forward m c.args.step.corner c.loop-count._count c.requires.corner in
     omega (arith, within, c.loop-count.invariant.here, c.sides-sides.ensures)
 
 pub loop-count-preserved : goal.loop-count-preserved
