@@ -38,7 +38,7 @@ one_open mesh (Refuse r) (Pass y) p q = absurd (no_fault mesh p.0 q.0 p.1)
 one_open mesh (Pass x) (Refuse s) p q = absurd (no_fault mesh q.0 p.0 q.1)
 one_open mesh (Pass x) (Pass y) p q = cc (p.1, q.1)
 
-sound-open : (held : Option Files) (mesh : FaceList) → IsFaceList mesh → IsSound held (open_surface mesh)
+pub sound-open : (held : Option Files) (mesh : FaceList) → IsFaceList mesh → IsSound held (open_surface mesh)
 sound-open held mesh valid =
     record {
       some = λ none.

@@ -14,3 +14,5 @@ pub mod laws;
 mod open_input;
 mod open_pair;
 mod refusal;
+
+pub use open_input::check_surface;

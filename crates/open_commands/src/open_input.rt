@@ -47,7 +47,7 @@ fn open_surface_of(alloc: Global, faces: Faces) -> Result<(Faces, Sides), Stop>
 }
 
 /// Checks that the mesh with this table is an open surface.
-fn check_surface(alloc: Global, faces: &Faces, sides: &Sides) -> Result<(), Stop>
+pub fn check_surface(alloc: Global, faces: &Faces, sides: &Sides) -> Result<(), Stop>
     requires { IsTableOf faces.now sides.now }
     ensures end { MatchResult result (λ _. Passes (open_surface faces.now) faces.now) (Stops (open_surface faces.now)) }
     ensures no_fault { result ≡ Err Stop.ReadFault → ⊥ }
