@@ -20,7 +20,6 @@ ghost use Rattle.commands.specs.declared.stop.Stop.{Stop};
 use closed_surfaces::{SignedMesh, connected, genera_of, numbers_of};
 use commands::decision::word_of;
 use commands::{Line, Phrase, Reply, Stop, Text, refused};
-use halfedge_map::Surface;
 use off_reader::read_off;
 use std::alloc::{AllocError, Global};
 use surf_gen::{LEAST_GRID, MOST_GENUS, MOST_GRID, TrialPair, WalkPair, chain_of_tori, trial_pair};
@@ -28,6 +27,7 @@ use surf_model::{Answer, SurfaceNumbers};
 use surface_commands::surface::{line_of_count, put_genera};
 use surface_commands::{few_components, surface_of};
 use walk_files::{WalkList, check_pair};
+use walk_translate::Decider;
 
 /// The decisions on the three pairs of walks.
 #[derive(Clone, Copy, Debug, PartialEq, Eq)]
@@ -119,21 +119,22 @@ fn decide_on(alloc: Global, chain: SignedMesh, genus: u32, grid: u32) -> Result<
     ensures no_fault { result ≡ Err Stop.ReadFault → ⊥ }
 {
     let surface = connected(alloc, chain)?;
-    let decisions = decide_pairs(alloc, &surface, genus, grid);
+    let decider = Decider::start(alloc, surface)?;
+    let decisions = decide_pairs(alloc, &decider, genus, grid);
     // By a call, which is proved once, and not here again.
-    drop(surface);
+    drop(decider);
     decisions
 }
 
 /// The decisions on the three pairs.
-fn decide_pairs(alloc: Global, surface: &Surface, genus: u32, grid: u32) -> Result<Decisions, Stop>
+fn decide_pairs(alloc: Global, decider: &Decider, genus: u32, grid: u32) -> Result<Decisions, Stop>
     requires { IsChain genus grid }
-    ensures end { Ends (pairs_decided surface.now.mesh grid) result }
+    ensures end { Ends (pairs_decided decider.now grid) result }
     ensures no_fault { result ≡ Err Stop.ReadFault → ⊥ }
 {
-    let commuting = decide_pair(alloc, surface, genus, grid, TrialPair::Commuting)?;
-    let cell = decide_pair(alloc, surface, genus, grid, TrialPair::Cell)?;
-    let loops = decide_pair(alloc, surface, genus, grid, TrialPair::Loops)?;
+    let commuting = decide_pair(alloc, decider, genus, grid, TrialPair::Commuting)?;
+    let cell = decide_pair(alloc, decider, genus, grid, TrialPair::Cell)?;
+    let loops = decide_pair(alloc, decider, genus, grid, TrialPair::Loops)?;
     Ok(Decisions {
         commuting,
         cell,
@@ -144,19 +145,19 @@ fn decide_pairs(alloc: Global, surface: &Surface, genus: u32, grid: u32) -> Resu
 /// The decision on a pair. That its walks are two walks of the surface with common ends is looked at, as of any two walks.
 fn decide_pair(
     alloc: Global,
-    surface: &Surface,
+    decider: &Decider,
     genus: u32,
     grid: u32,
     which: TrialPair,
 ) -> Result<Answer, Stop>
     requires { IsChain genus grid }
-    ensures end { Ends (pair_decided surface.now.mesh grid which) result }
+    ensures end { Ends (pair_decided decider.now grid which) result }
     ensures no_fault { result ≡ Err Stop.ReadFault → ⊥ }
 {
     let WalkPair { first, second } = trial_pair(alloc, genus, grid, which)?;
     let pair = WalkList::pair(alloc, first, second)?;
-    check_pair(surface.sides(), &pair)?;
-    Ok(walk_translate::decide(alloc, surface, pair.at(0), pair.at(1))?)
+    check_pair(decider.sides(), &pair)?;
+    Ok(decider.answer(pair.at(0), pair.at(1))?)
 }
 
 /// All lines.

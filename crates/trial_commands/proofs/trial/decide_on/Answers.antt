@@ -1,4 +1,4 @@
-use Rattle.std.proofs.Common.{subst}
+use Rattle.std.proofs.Common.{subst, ◌∙◌}
 use Rattle.surf_model.specs.FaceLists.{FaceList}
 use Rattle.commands.specs.Stops.{Ends}
 use Rattle.trial_commands.specs.Trial.{pairs_decided}
@@ -15,5 +15,5 @@ decide_pairs-decisions-requires c = c.requires.sizes
 
 pub returns-clause-end : goal.returns-clause-end
 returns-clause-end c =
-    subst (λ (m : FaceList). Ends (pairs_decided m c.args.grid) c.decide_pairs-decisions.result) c.in_ok-surface.ensures
-    c.decide_pairs-decisions.ensures.end
+    subst (λ (m : FaceList). Ends (pairs_decided m c.args.grid) c.decide_pairs-decisions.result)
+    (c.in_ok-decider.ensures ∙ c.in_ok-surface.ensures) c.decide_pairs-decisions.ensures.end
