@@ -1,6 +1,6 @@
 -- What `certify` finds: a list of moves that leads, or a denial that holds.
 use Rattle.std.proofs.Common.{◌≡◌, inl, inr, ℕ, ◌<◌, false, List, length, refl, sym, ap, ◌∙◌, subst, arith}
-use Rattle.std.specs.Prelude.{◌↔◌, Option, Some, None}
+use Rattle.std.specs.Prelude.{◌↔◌, Option, Some, None, slice_get}
 use Rattle.std.specs.List.{enumerate_from}
 use Rattle.std.proofs.lemmas.Bool.{cases_lt}
 use Rattle.std.proofs.lemmas.List.{ext_get_or, length-map}
@@ -23,16 +23,15 @@ use Rattle.labellings.specs.WalkWords.{IsWordOf}
 use Rattle.labellings.proofs.WalkWordLemmas.{denial_excludes}
 use Rattle.surf_model.specs.declared.decisions.Answer.TheVariants as answers
 use Rattle.walk_translate.proofs.DecidingLemmas.{words_decide}
-use Rattle.commands.proofs.Checking.{stops_first, stops_next, stops_second, told_stops}
-use Rattle.commands.proofs.Deciding.{differs, yes_or_no}
+use Rattle.commands.proofs.Checking.{stops_first, told_stops}
+use Rattle.commands.proofs.Deciding.{at_places, differs, yes_or_no}
 use Rattle.commands.proofs.Sound.{IsSound, sound-decided_by}
 use Rattle.commands.specs.Answers.{Answer, Exactly}
 use Rattle.commands.specs.Certificates.{Convinces, decision_of}
-use Rattle.certify_commands.specs.Certify.{limit_fault, certified, certify, certificate_answer}
+use Rattle.certify_commands.specs.Certify.{limit_fault, certified, certificate_answer}
 use Rattle.commands.specs.Checks.{Check, Pass, Passes, pass_unless, ◌>>=◌}
-use Rattle.commands.specs.Inputs.{pair_in, walk_at}
+use Rattle.commands.specs.Inputs.{walk_at}
 use Rattle.commands.specs.Stops.{Stops, Tells}
-use Rattle.surface_commands.specs.SurfaceInput.{surface_in}
 use Rattle.commands.specs.declared.certificate.Certificate.{Certificate}
 use Rattle.commands.specs.declared.certificate.Certificate.TheVariants.{Moves, Denial}
 use Rattle.commands.specs.declared.stop.Stop.{Stop}
@@ -98,7 +97,7 @@ sound-certified held mesh first second =
 
 -- ---- how the checks of `certify` end
 
--- what is looked at behind the limits, behind the walks, and behind the surface
+-- what is looked at behind the limits, and behind the walks
 abbrev pub after_limits : FaceList → List (List ℕ) → List (List ℕ) → Check Answer
 after_limits surface pair allowed = certified surface (walk_at pair 0) (walk_at pair 1)
 
@@ -108,40 +107,26 @@ limited surface pair = pass_unless (λ line. Exactly line) (limit_fault surface 
 abbrev pub after_pair : FaceList → List (List ℕ) → Check Answer
 after_pair surface pair = limited surface pair >>= after_limits surface pair
 
-abbrev pub after_surface : Option Files → List ℕ → FaceList → Check Answer
-after_surface held walks surface = pair_in held walks surface >>= after_pair surface
-
-pub walks_stop : (held : Option Files) (mesh walks : List ℕ) (surface : FaceList) (stop : Stop) → Passes (surface_in held mesh) surface
-    → Stops (pair_in held walks surface) stop → Stops (certify held mesh walks) stop
-walks_stop held mesh walks surface stop p h =
-    stops_second (surface_in held mesh) (pair_in held walks) after_pair surface stop p h
-
--- what stops behind the walks stops all
-pair_stops : (held : Option Files) (mesh walks : List ℕ) (surface : FaceList) (pair : List (List ℕ)) (stop : Stop)
-    → Passes (surface_in held mesh) surface
-    → Passes (pair_in held walks surface) pair → Stops (after_pair surface pair) stop → Stops (certify held mesh walks) stop
-pair_stops held mesh walks surface pair stop p q h =
-    stops_next (surface_in held mesh) (after_surface held walks) surface stop p
-    (stops_next (pair_in held walks surface) (after_pair surface) pair stop q h)
-
-pub limits_stop : (held : Option Files) (mesh walks : List ℕ) (surface : FaceList) (pair : List (List ℕ)) (line : List ℕ) (stop : Stop)
-    → Passes (surface_in held mesh) surface → Passes (pair_in held walks surface) pair
-    → limit_fault surface (walk_at pair 0) (walk_at pair 1) ≡ Some line → Tells (Exactly line) stop → Stops (certify held mesh walks) stop
-limits_stop held mesh walks surface pair line stop p q e h =
-    pair_stops held mesh walks surface pair stop p q
-    (stops_first (limited surface pair) (after_limits surface pair) stop
-    (told_stops (Exactly line) (limited surface pair) stop (rw e refl) h))
+pub limits_stop : (surface : FaceList) (pair : List (List ℕ)) (first second line : List ℕ) (stop : Stop) → slice_get pair 0 ≡ Some first
+    → slice_get pair 1 ≡ Some second → limit_fault surface first second ≡ Some line → Tells (Exactly line) stop
+    → Stops (after_pair surface pair) stop
+limits_stop surface pair first second line stop f g e h =
+    let fault : limit_fault surface (walk_at pair 0) (walk_at pair 1) ≡ Some line =
+    at_places (λ (a b : List ℕ). limit_fault surface a b ≡ Some line) pair first second f g e in
+    stops_first (limited surface pair) (after_limits surface pair) stop
+    (told_stops (Exactly line) (limited surface pair) stop (rw fault refl) h)
 
 -- what is found behind the limits is what the command gives
-pub certificate_found : (held : Option Files) (mesh walks : List ℕ) (surface : FaceList) (pair : List (List ℕ)) (first second : List ℕ)
-    (shown : Certificate) → IsFaceList surface → IsWalk surface first → Passes (surface_in held mesh) surface
-    → Passes (pair_in held walks surface) pair → walk_at pair 0 ≡ first → walk_at pair 1 ≡ second → limit_fault surface first second ≡ None
-    → Convinces surface first second shown → Passes (certify held mesh walks) (certificate_answer surface first second (decision_of shown))
-certificate_found held mesh walks surface pair first second shown valid walk p q f g few h =
+pub certificate_found : (surface : FaceList) (pair : List (List ℕ)) (first second : List ℕ) (shown : Certificate) → IsFaceList surface
+    → IsWalk surface first → slice_get pair 0 ≡ Some first → slice_get pair 1 ≡ Some second → limit_fault surface first second ≡ None
+    → Convinces surface first second shown → Passes (after_pair surface pair) (certificate_answer surface first second (decision_of shown))
+certificate_found surface pair first second shown valid walk f g few h =
     let answer : Answer = certificate_answer surface first second (decision_of shown) in
-    let here : (certified surface first second).Ends (Pass answer) =
-    (decision_of shown, refl, convinces_decides surface first second shown valid walk h) in
-    let there : (certified surface (walk_at pair 0) (walk_at pair 1)).Ends (Pass answer) =
-    subst (λ (w : List ℕ). (certified surface (walk_at pair 0) w).Ends (Pass answer)) (sym g)
-    (subst (λ (w : List ℕ). (certified surface w second).Ends (Pass answer)) (sym f) here) in
-    inr (surface, p, inr (pair, q, inr (pair, rw (f, g, few) refl, there)))
+    let none : limit_fault surface (walk_at pair 0) (walk_at pair 1) ≡ None =
+    at_places (λ (a b : List ℕ). limit_fault surface a b ≡ None) pair first second f g few in
+    inr (
+      pair,
+      rw none refl,
+      at_places (λ (a b : List ℕ). (certified surface a b).Ends (Pass answer)) pair first second f g
+          (decision_of shown, refl, convinces_decides surface first second shown valid walk h),
+    )

@@ -1,4 +1,4 @@
 pub mod OwnLemmas
 pub mod ComponentLemmas
 pub mod OwnSurfaces
-pub mod AnswerLemmas
+pub mod OrderLemmas

@@ -1,22 +1,28 @@
 -- A component over its own vertices is a connected orientable closed surface, and its walks are homotopic there as on the whole mesh.
-use Rattle.std.proofs.Common.{◌≡◌, ◌↔◌, ℕ, ◌<◌, Bool, List, length, get_or, map, sym, ap, ◌∙◌, subst, arith}
-use Rattle.std.proofs.lemmas.List.{get_or_default}
-use Rattle.surf_model.specs.FaceLists.{FaceList, IsFaceList}
+use Rattle.std.proofs.Common.{◌≡◌, ◌↔◌, ℕ, ◌<◌, Bool, true, List, length, get_or, map, sym, ap, ◌∙◌, subst}
+use Rattle.std.specs.Prelude.{All, Option, None, Some}
+use Rattle.std.proofs.lemmas.List.Elements.{All-weaker}
+use Rattle.surf_model.specs.FaceLists.{FaceList, IsFaceList, is_used}
 use Rattle.surf_model.specs.Components.{EachTwoAreJoined}
 use Rattle.surf_model.specs.Moves.{Homotopic}
 use Rattle.surf_model.specs.Surfaces.{IsClosedManifold, IsClosed, IsCoherent}
-use Rattle.surf_model.specs.Walks.{IsWalk, AreWalkPair}
-use Rattle.surf_model.proofs.EdgeLemmas.{used_below}
+use Rattle.surf_model.specs.Walks.{IsWalk, HaveCommonEnds, AreWalkPair}
+use Rattle.surf_model.specs.declared.decisions.Answer.{Answer}
 use Rattle.surf_model.proofs.FilterLemmas.{map_agree}
-use Rattle.surf_model.specs.ComponentParts.{PartsView, AreParts, component_at, component_mesh}
+use Rattle.surf_model.specs.ComponentParts.{PartsView, component_at, component_mesh}
 use Rattle.surf_model.specs.Submeshes.{signs_among}
-use Rattle.manifold_check.proofs.PartPieces.{IsOfComponent, closed_alone, piece_of_parts, walk_alone, walk_same_place}
+use Rattle.manifold_check.proofs.PartPieces.{IsOfComponent, closed_alone, piece_of_parts, walk_alone, walk_whole}
+use Rattle.manifold_check.proofs.PieceLemmas.{used_down}
 use Rattle.manifold_check.proofs.PieceMoves.{homotopic_alike}
 use Rattle.manifold_check.proofs.PieceSurfaces.{coherent_alone}
-use Rattle.component_deciding.specs.OwnVertices.{AreOwnNumbers, own_mesh, own_number, own_walk}
+use Rattle.component_deciding.specs.OwnVertices.{AreOwnNumbers, IsApart, IsOwnWalk, own_mesh, own_number, own_walk}
+use Rattle.component_deciding.specs.PairDeciders.{IsFoundOn}
+use Rattle.component_deciding.specs.declared.apart.Apart.{Apart}
 use Rattle.component_deciding.specs.declared.own_numbers.OwnNumbers.{OwnNumbers}
 use Rattle.component_deciding.proofs.ComponentLemmas.{IsNumbered, component_valid}
-use Rattle.component_deciding.proofs.OwnLemmas.{own_renamed}
+use Rattle.component_deciding.proofs.OwnLemmas.{own_renamed, used_vertex}
+use Rattle.renaming.specs.Renamings.{IsRenamed}
+use Rattle.renaming.proofs.RenamedSides.{led_back, list_restored}
 use Rattle.renaming.proofs.RenamedMoves.{homotopic_renamed}
 use Rattle.renaming.proofs.RenamedSurfaces.{closed_renamed, coherent_renamed}
 use Rattle.renaming.proofs.RenamedWalks.{ends_renamed, joined_renamed, walk_renamed}
@@ -72,57 +78,100 @@ own_homotopic mesh parts own k first second h walks at =
     there.second_walk in
     ((λ x. renamed.0 (alike.0 x)), (λ x. alike.1 (renamed.1 x)))
 
--- the vertices of a walk have numbers, and these make the walk over the component's own vertices
-pub walk_within : (mesh : FaceList) (parts : PartsView) (own : OwnNumbers) (walk : List ℕ) (t : ℕ) → AreOwnNumbers mesh parts own
-    → IsWalk mesh walk → t < length walk → get_or walk t 0 < length own.numbers.items
-walk_within mesh parts own walk t h w l =
-    omega (arith, h.each_vertex, used_below mesh (get_or walk t 0) h.valid (w.used t 0 l))
-
-pub own_walk_is : (mesh : FaceList) (parts : PartsView) (own : OwnNumbers) (walk : List ℕ) → AreParts mesh parts
-    → AreOwnNumbers mesh parts own → IsWalk mesh walk
-    → map (λ x. get_or own.numbers.items x 0) walk ≡ own_walk (component_mesh mesh parts (get_or parts.places (get_or walk 0 0) 0)) walk
-own_walk_is mesh parts own walk is h w =
-    let k : ℕ = get_or parts.places (get_or walk 0 0) 0 in
-    map_agree (λ x. get_or own.numbers.items x 0) (own_number (component_mesh mesh parts k)) walk
-    (λ t d l. (let v : ℕ = get_or walk t 0 in
-    let inside : get_or parts.places v 0 ≡ k = walk_same_place mesh parts walk t is w l in
-    subst (λ (u : ℕ). get_or own.numbers.items u 0 ≡ own_number (component_mesh mesh parts k) u) (sym (get_or_default walk t d 0 l))
-    (h.numbered v (w.used t 0 l) ∙ ap (λ (j : ℕ). own_number (component_mesh mesh parts j) v) inside)))
-
--- ---- a pair that is asked of
-
--- two walks over a component's own vertices stand for two walks of the mesh
-pub record StandFor (mesh : FaceList) (first second : List ℕ) (alone : FaceList) (one other : List ℕ) : Type 0 where
-  pub walks : AreWalkPair alone one other
-  pub alike : Homotopic mesh first second ↔ Homotopic alone one other
-
-own_stands : (mesh : FaceList) (parts : PartsView) (own : OwnNumbers) (k : ℕ) (first second : List ℕ) → IsNumbered mesh parts own k
+-- by its own numbers a pair of walks of the component is one over its own vertices
+own_walks : (mesh : FaceList) (parts : PartsView) (own : OwnNumbers) (k : ℕ) (first second : List ℕ) → IsNumbered mesh parts own k
     → AreWalkPair mesh first second → get_or parts.places (get_or first 0 0) 0 ≡ k
-    → StandFor mesh first second (own_mesh (component_mesh mesh parts k)) (own_walk (component_mesh mesh parts k) first)
+    → AreWalkPair (own_mesh (component_mesh mesh parts k)) (own_walk (component_mesh mesh parts k) first)
     (own_walk (component_mesh mesh parts k) second)
-own_stands mesh parts own k first second h walks at =
+own_walks mesh parts own k first second h walks at =
     let alone : FaceList = component_mesh mesh parts k in
     let valid : IsFaceList alone = component_valid mesh parts own k h in
     let there : AreWalkPair alone first second = own_pair mesh parts own k first second h walks at in
     record {
-      walks = record {
-        first_walk = walk_renamed _ _ alone (own_mesh alone) first (own_renamed alone valid) there.first_walk;
-        second_walk = walk_renamed _ _ alone (own_mesh alone) second (own_renamed alone valid) there.second_walk;
-        ends = ends_renamed (own_number alone) first second there.first_walk.starts there.second_walk.starts there.ends;
-      };
-      alike = own_homotopic mesh parts own k first second h walks at;
+      first_walk = walk_renamed _ _ alone (own_mesh alone) first (own_renamed alone valid) there.first_walk;
+      second_walk = walk_renamed _ _ alone (own_mesh alone) second (own_renamed alone valid) there.second_walk;
+      ends = ends_renamed (own_number alone) first second there.first_walk.starts there.second_walk.starts there.ends;
     }
 
--- as they are found
-pub found_stand : (mesh : FaceList) (parts : PartsView) (own : OwnNumbers) (k : ℕ) (first second : List ℕ) (alone : FaceList)
-    (one other : List ℕ) → IsNumbered mesh parts own k → AreWalkPair mesh first second → get_or parts.places (get_or first 0 0) 0 ≡ k
-    → alone ≡ own_mesh (component_mesh mesh parts k)
-    → one ≡ own_walk (component_mesh mesh parts (get_or parts.places (get_or first 0 0) 0)) first
-    → other ≡ own_walk (component_mesh mesh parts (get_or parts.places (get_or second 0 0) 0)) second
-    → StandFor mesh first second alone one other
-found_stand mesh parts own k first second alone one other h walks at is e f =
-    let place : get_or parts.places (get_or second 0 0) 0 ≡ k = ap (λ v. get_or parts.places v 0) (sym walks.ends.starts) ∙ at in
-    let there : one ≡ own_walk (component_mesh mesh parts k) first = e ∙ ap (λ (j : ℕ). own_walk (component_mesh mesh parts j) first) at in
-    let those : other ≡ own_walk (component_mesh mesh parts k) second =
-    f ∙ ap (λ (j : ℕ). own_walk (component_mesh mesh parts j) second) place in
-    rw (is, there, those) (own_stands mesh parts own k first second h walks at)
+-- ---- lists of vertices of a component
+
+abbrev pub IsThere : FaceList → PartsView → ℕ → ℕ → Type 0
+IsThere mesh parts k v = (is_used mesh v ≡ true) × (get_or parts.places v 0 ≡ k)
+
+-- the numbers of all vertices make the list over the component's own vertices
+pub own_walk_is : (mesh : FaceList) (parts : PartsView) (own : OwnNumbers) (k : ℕ) (walk : List ℕ) → AreOwnNumbers mesh parts own
+    → All (IsThere mesh parts k) walk
+    → map (λ x. get_or own.numbers.items x 0) walk ≡ own_walk (component_mesh mesh parts k) walk
+own_walk_is mesh parts own k walk h there =
+    map_agree (λ x. get_or own.numbers.items x 0) (own_number (component_mesh mesh parts k)) walk
+    (λ t d l. (let v : ℕ = get_or walk t d in
+    h.numbered v (there t d l).0 ∙ ap (λ (j : ℕ). own_number (component_mesh mesh parts j) v) (there t d l).1))
+
+-- and lead back from there
+came_back : (mesh : FaceList) (parts : PartsView) (own : OwnNumbers) (k : ℕ) (walk : List ℕ) → IsNumbered mesh parts own k
+    → All (IsThere mesh parts k) walk
+    → map (used_vertex (component_mesh mesh parts k)) (own_walk (component_mesh mesh parts k) walk) ≡ walk
+came_back mesh parts own k walk h there =
+    let alone : FaceList = component_mesh mesh parts k in
+    let leads = (own_renamed alone (component_valid mesh parts own k h)).leads_back in
+    list_restored (own_number alone) (used_vertex alone) walk
+    (All-weaker (IsThere mesh parts k) (λ v. used_vertex alone (own_number alone v) ≡ v)
+    (λ v is. leads v (used_down mesh (IsOfComponent parts.places k) (component_at parts k) v
+    (piece_of_parts mesh parts k h.parts_are h.within) is.1 is.0)) walk there)
+
+-- so where it is a walk there, it is one of the mesh
+walk_back : (mesh : FaceList) (parts : PartsView) (own : OwnNumbers) (k : ℕ) (walk : List ℕ) → IsNumbered mesh parts own k
+    → All (IsThere mesh parts k) walk → IsWalk (own_mesh (component_mesh mesh parts k)) (own_walk (component_mesh mesh parts k) walk)
+    → IsWalk mesh walk
+walk_back mesh parts own k walk h there w =
+    let alone : FaceList = component_mesh mesh parts k in
+    let valid : IsFaceList alone = component_valid mesh parts own k h in
+    let back : IsRenamed (used_vertex alone) (own_number alone) (own_mesh alone) alone =
+    led_back (own_number alone) (used_vertex alone) alone (own_mesh alone) valid (own_renamed alone valid) in
+    let home : IsWalk alone walk =
+    subst (IsWalk alone) (came_back mesh parts own k walk h there)
+    (walk_renamed (used_vertex alone) (own_number alone) (own_mesh alone) alone (own_walk alone walk) back w) in
+    (walk_whole mesh parts k walk h.parts_are h.within home).0
+
+walks_back : (mesh : FaceList) (parts : PartsView) (own : OwnNumbers) (k : ℕ) (first second : List ℕ) → IsNumbered mesh parts own k
+    → All (IsThere mesh parts k) first → All (IsThere mesh parts k) second
+    → AreWalkPair (own_mesh (component_mesh mesh parts k)) (own_walk (component_mesh mesh parts k) first)
+    (own_walk (component_mesh mesh parts k) second)
+    → AreWalkPair mesh first second
+walks_back mesh parts own k first second h here there walks =
+    let alone : FaceList = component_mesh mesh parts k in
+    let ends : HaveCommonEnds (map (used_vertex alone) (own_walk alone first)) (map (used_vertex alone) (own_walk alone second)) =
+    ends_renamed (used_vertex alone) (own_walk alone first) (own_walk alone second) walks.first_walk.starts walks.second_walk.starts
+    walks.ends in
+    record {
+      first_walk = walk_back mesh parts own k first h here walks.first_walk;
+      second_walk = walk_back mesh parts own k second h there walks.second_walk;
+      ends = subst (λ (w : List ℕ). HaveCommonEnds w second) (came_back mesh parts own k first h here)
+          (subst (HaveCommonEnds (map (used_vertex alone) (own_walk alone first))) (came_back mesh parts own k second h there) ends);
+    }
+
+-- what is found of two walks over its own vertices is found of them
+found_there : (mesh : FaceList) (parts : PartsView) (own : OwnNumbers) (k : ℕ) (first second : List ℕ) (found : Option Answer)
+    → IsNumbered mesh parts own k → get_or parts.places (get_or first 0 0) 0 ≡ k → All (IsThere mesh parts k) first
+    → All (IsThere mesh parts k) second
+    → IsFoundOn (own_mesh (component_mesh mesh parts k)) (own_walk (component_mesh mesh parts k) first)
+    (own_walk (component_mesh mesh parts k) second) found
+    → IsFoundOn mesh first second found
+found_there mesh parts own k first second None h at here there none = λ walks. none (own_walks mesh parts own k first second h walks at)
+found_there mesh parts own k first second (Some answer) h at here there told =
+    let walks : AreWalkPair mesh first second = walks_back mesh parts own k first second h here there told.0 in
+    let alike = own_homotopic mesh parts own k first second h walks at in
+    (walks, ((λ homotopic. alike.1 (told.1.0 homotopic)), (λ leads. told.1.1 (alike.0 leads))))
+
+pub found_on : (apart : Apart) (k : ℕ) (first second one other : List ℕ) (alone : FaceList) (found : Option Answer) → IsApart apart
+    → k < length apart.parts.components → get_or apart.parts.places (get_or first 0 0) 0 ≡ k → IsOwnWalk apart k first one
+    → IsOwnWalk apart k second other → alone ≡ own_mesh (component_mesh apart.mesh.faces apart.parts k) → IsFoundOn alone one other found
+    → IsFoundOn apart.mesh.faces first second found
+found_on apart k first second one other alone found is l at here there e told =
+    let mesh : FaceList = apart.mesh.faces in
+    let part : FaceList = component_mesh mesh apart.parts k in
+    found_there mesh apart.parts apart.own k first second found
+    (record { parts_are = is.parts; numbers_are = is.own; within = l }) at here.there there.there
+    (subst (λ (m : FaceList). IsFoundOn m (own_walk part first) (own_walk part second) found) e
+    (subst (λ (w : List ℕ). IsFoundOn alone w (own_walk part second) found) here.by_number
+    (subst (λ (w : List ℕ). IsFoundOn alone one w found) there.by_number told)))

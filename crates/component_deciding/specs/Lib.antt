@@ -1,4 +1,3 @@
-pub mod AskedPairs
 pub mod OwnVertices
+pub mod PairDeciders
 pub mod Orders
-pub mod Asking

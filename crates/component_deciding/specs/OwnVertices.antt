@@ -1,8 +1,10 @@
 -- A mesh over the vertices that it uses, and the numbers of vertices in their components.
-use Rattle.std.specs.Prelude.{◌≡◌, ℕ, ◌<◌, List, length, map, filter, slice_index, IsTrue}
+use Rattle.std.specs.Prelude.{◌≡◌, ℕ, ◌<◌, List, length, map, filter, slice_index, All, IsTrue}
 use Rattle.std.specs.List.{range_with_len}
 use Rattle.surf_model.specs.FaceLists.{FaceList, IsFaceList, HasFileSize, is_used}
-use Rattle.surf_model.specs.ComponentParts.{PartsView, component_mesh}
+use Rattle.surf_model.specs.ComponentParts.{PartsView, AreParts, component_mesh}
+use Rattle.closed_surfaces.specs.SignedSurfaces.{IsSigned}
+use Rattle.component_deciding.specs.declared.apart.Apart.{Apart}
 use Rattle.component_deciding.specs.declared.own_numbers.OwnNumbers.{OwnNumbers}
 
 -- the number of a vertex among those that a mesh uses: how many of them come before it
@@ -30,3 +32,18 @@ pub record AreOwnNumbers (mesh : FaceList) (parts : PartsView) (own : OwnNumbers
   pub numbered : (v : ℕ) → IsTrue (is_used mesh v)
       → slice_index own.numbers.items v ≡ own_number (component_mesh mesh parts (slice_index parts.places v)) v
   pub counted : (k : ℕ) → k < length parts.components → slice_index own.counts.items k ≡ used_number (component_mesh mesh parts k)
+
+-- an orientable closed surface with its components, and the numbers of their vertices
+pub record IsApart (apart : Apart) : Type 0 where
+  pub signed : IsSigned apart.mesh
+  pub parts : AreParts apart.mesh.faces apart.parts
+  pub own : AreOwnNumbers apart.mesh.faces apart.parts apart.own
+
+-- the component at a place, as a mesh over its own vertices
+abbrev pub IsLabelled : Apart → ℕ × FaceList → Type 0
+IsLabelled apart labelled = labelled.1 ≡ own_mesh (component_mesh apart.mesh.faces apart.parts labelled.0)
+
+-- all entries of the walk are vertices of the component at that place, and by their own numbers they are the other walk
+pub record IsOwnWalk (apart : Apart) (place : ℕ) (walk own : List ℕ) : Type 0 where
+  pub there : All (λ v. IsTrue (is_used apart.mesh.faces v) × (slice_index apart.parts.places v ≡ place)) walk
+  pub by_number : own ≡ own_walk (component_mesh apart.mesh.faces apart.parts place) walk

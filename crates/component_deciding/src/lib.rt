@@ -1,16 +1,21 @@
-//! Whether pairs of walks of a surface of several components are homotopic.
+//! Whether pairs of walks of a surface are homotopic, of one component or of several.
 //!
-//! `decide_by_components` asks the pairs in the order of their components, whatever order they come in. A component in which a pair lies is
-//! labelled once, as a mesh over its own vertices alone, numbered anew: so what it costs hangs on its own size, and not on that of the
-//! whole mesh. Each answer is proved to be that of the whole mesh; that no component is labelled twice is meant, and no clause says so.
+//! A `PairDecider` is made of a surface once, and asked of any number of pairs. A connected surface is labelled as it is, with no face copied.
+//! Of several components each is labelled where a pair lies in it, as a mesh over its own vertices alone, numbered anew: so what it costs
+//! hangs on its own size, and not on that of the whole mesh. Who asks in the `order` that a decider tells has none labelled twice. Each answer
+//! is proved to be that of the whole mesh, in any order; that no component is labelled twice is meant, and no clause says so.
+//!
+//!     let mut decider = PairDecider::of(alloc, mesh, darts)?;
+//!     let answer = decider.answer_if_pair(&first, &second)?;
 #![tactic(auto)]
 
-mod answering;
-mod asked;
-mod deciding;
-mod ordering;
+mod apart;
+mod order;
 mod own_mesh;
 mod own_numbers;
+mod pair_decider;
+mod several;
 
-pub use asked::{AskedPair, SignedParts};
-pub use deciding::decide_by_components;
+pub use order::Placed;
+pub use pair_decider::PairDecider;
+pub use several::Several;

@@ -1,53 +1,40 @@
 //! A component as a surface over its own vertices, and its walks there.
-ghost use Rattle.std.specs.Prelude.{◌≡◌, ◌<◌, All, length, map, slice_index, IfOk, OnOk};
-ghost use Rattle.surf_model.specs.FaceLists.{face_at};
+ghost use Rattle.std.specs.Prelude.{◌≡◌, ◌<◌, All, length, map, slice_index, IfOk, MatchOption, OnOk};
 ghost use Rattle.surf_model.specs.Vertices.{numbers};
 ghost use Rattle.surf_model.specs.Walks.{IsWalk};
 ghost use Rattle.surf_model.specs.ComponentParts.{component_at, component_mesh};
-ghost use Rattle.component_deciding.specs.AskedPairs.{IsSignedParts};
-ghost use Rattle.component_deciding.specs.OwnVertices.{AreOwnNumbers, own_mesh, own_walk};
+ghost use Rattle.component_deciding.specs.OwnVertices.{IsApart, IsOwnWalk, own_mesh};
 
-use crate::asked::SignedParts;
+use crate::apart::Apart;
 use crate::own_numbers::OwnNumbers;
 use halfedge_map::Surface;
-use std::alloc::{AllocError, Global};
+use std::alloc::AllocError;
 use surf_model::{FaceName, Faces, Sides, VertexName, Walk};
 
 /// A component by its place, over its own vertices.
-pub(crate) fn own_surface(
-    alloc: Global,
-    surface: &SignedParts<'_>,
-    own: &OwnNumbers,
-    place: u32,
-) -> Result<Surface, AllocError>
-    requires surface { IsSignedParts surface.now }
-    requires own { AreOwnNumbers surface.now.faces.now surface.now.parts.now own.now }
-    requires place { place < length surface.now.parts.now.components }
-    ensures { IfOk result (λ alone. alone.mesh ≡ own_mesh (component_mesh surface.now.faces.now surface.now.parts.now place)) }
+pub(crate) fn own_surface(apart: &Apart, place: u32) -> Result<Surface, AllocError>
+    requires apart { IsApart apart.now }
+    requires place { place < length apart.now.parts.components }
+    ensures { IfOk result (λ alone. alone.mesh ≡ own_mesh (component_mesh apart.now.mesh.faces apart.now.parts place)) }
 {
-    let faces = own_faces(alloc, surface, own, place)?;
-    let sides = Sides::build(alloc, &faces)?;
-    let signs = surface.parts.signs(surface.signs, place)?;
-    Surface::build(alloc, faces, sides, signs)
+    let faces = own_faces(apart, place)?;
+    let sides = Sides::build(apart.alloc, &faces)?;
+    let signs = apart.parts.signs(&apart.mesh.signs, place)?;
+    Surface::build(apart.alloc, faces, sides, signs)
 }
 
 /// The faces of a component over its own vertices.
-fn own_faces(
-    alloc: Global,
-    surface: &SignedParts<'_>,
-    own: &OwnNumbers,
-    place: u32,
-) -> Result<Faces, AllocError>
-    requires surface { IsSignedParts surface.now }
-    requires own { AreOwnNumbers surface.now.faces.now surface.now.parts.now own.now }
-    requires place { place < length surface.now.parts.now.components }
-    ensures { IfOk result (λ alone. alone ≡ own_mesh (component_mesh surface.now.faces.now surface.now.parts.now place)) }
+fn own_faces(apart: &Apart, place: u32) -> Result<Faces, AllocError>
+    requires apart { IsApart apart.now }
+    requires place { place < length apart.now.parts.components }
+    ensures { IfOk result (λ alone. alone ≡ own_mesh (component_mesh apart.now.mesh.faces apart.now.parts place)) }
 {
-    let mut alone = Faces::new(alloc, own.counts[place as usize]);
-    let mut ring = Vec::new(alloc);
-    for face in 0..surface.parts.size(place) {
-        let name = surface.parts.name(place, FaceName(face));
-        renumber(own, surface.faces.ring(name), &mut ring)?;
+    let own = &apart.own;
+    let mut alone = Faces::new(apart.alloc, own.counts[place as usize]);
+    let mut ring = Vec::new(apart.alloc);
+    for face in 0..apart.parts.size(place) {
+        let name = apart.parts.name(place, FaceName(face));
+        renumber(own, apart.mesh.faces.ring(name), &mut ring)?;
         alone.push_slice(&ring)?;
     }
     Ok(alone)
@@ -69,23 +56,24 @@ fn renumber(
     Ok(())
 }
 
-/// The walk along the own vertices of a component in which it lies.
-pub(crate) fn own_walk(
-    alloc: Global,
-    surface: &SignedParts<'_>,
-    own: &OwnNumbers,
-    walk: &Walk,
-) -> Result<Walk, AllocError>
-    requires surface { IsSignedParts surface.now }
-    requires own { AreOwnNumbers surface.now.faces.now surface.now.parts.now own.now }
-    requires walk { IsWalk surface.now.faces.now walk.now }
-    ensures { let place = slice_index surface.now.parts.now.places (slice_index walk.now 0) in
-        IfOk result (λ alone. alone ≡ own_walk (component_mesh surface.now.faces.now surface.now.parts.now place) walk.now) }
+/// A walk along the own vertices of a component; none where it is no list of vertices of this component.
+pub(crate) fn own_walk(apart: &Apart, place: u32, walk: &Walk) -> Result<Option<Walk>, AllocError>
+    requires { IsApart apart.now }
+    ensures { IfOk result (λ found. MatchOption found
+        (IsWalk apart.now.mesh.faces walk.now → slice_index apart.now.parts.places (slice_index walk.now 0) ≡ place → ⊥)
+        (IsOwnWalk apart.now place walk.now)) }
 {
     let entries = walk.darts() + 1;
-    let mut vertices = Vec::with_capacity(alloc, entries as usize)?;
+    let mut vertices = Vec::with_capacity(apart.alloc, entries as usize)?;
     for at in 0..entries {
-        vertices.push(VertexName(own.numbers[walk.at(at).0 as usize]))?;
+        let vertex = walk.at(at);
+        let Some(there) = apart.place_of(vertex) else {
+            return Ok(None);
+        };
+        if there != place {
+            return Ok(None);
+        }
+        vertices.push(VertexName(apart.own.numbers[vertex.0 as usize]))?;
     }
-    Walk::of(alloc, &vertices)
+    Ok(Some(Walk::of(apart.alloc, &vertices)?))
 }

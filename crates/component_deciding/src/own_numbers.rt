@@ -1,9 +1,11 @@
 //! The vertices of each component, numbered apart.
 ghost use Rattle.std.specs.Prelude.{IfOk};
-ghost use Rattle.component_deciding.specs.AskedPairs.{IsSignedParts};
+ghost use Rattle.closed_surfaces.specs.SignedSurfaces.{IsSigned};
 ghost use Rattle.component_deciding.specs.OwnVertices.{AreOwnNumbers};
+ghost use Rattle.surf_model.specs.ComponentParts.{AreParts};
 
-use crate::asked::SignedParts;
+use closed_surfaces::SignedMesh;
+use manifold_check::Parts;
 use std::alloc::{AllocError, Global};
 use surf_model::VertexName;
 
@@ -19,18 +21,20 @@ pub(crate) struct OwnNumbers {
 /// Numbers the vertices of each component in rising order, in one pass over all of them.
 pub(crate) fn number_vertices(
     alloc: Global,
-    surface: &SignedParts<'_>,
+    mesh: &SignedMesh,
+    parts: &Parts,
 ) -> Result<OwnNumbers, AllocError>
-    requires { IsSignedParts surface.now }
-    ensures { IfOk result (AreOwnNumbers surface.now.faces.now surface.now.parts.now) }
+    requires signed { IsSigned mesh.now }
+    requires parts { AreParts mesh.now.faces parts.now }
+    ensures { IfOk result (AreOwnNumbers mesh.now.faces parts.now) }
 {
-    let count = surface.faces.count();
-    let mut counts = vec![in alloc; 0u32; surface.parts.len() as usize]?;
+    let count = mesh.faces.count();
+    let mut counts = vec![in alloc; 0u32; parts.len() as usize]?;
     let mut numbers = Vec::with_capacity(alloc, count as usize)?;
     for vertex in 0..count {
         let mut number = 0;
-        if surface.sides.used(VertexName(vertex)) {
-            let place = surface.parts.part_of(VertexName(vertex)) as usize;
+        if mesh.sides.used(VertexName(vertex)) {
+            let place = parts.part_of(VertexName(vertex)) as usize;
             number = counts[place];
             counts[place] += 1;
         }

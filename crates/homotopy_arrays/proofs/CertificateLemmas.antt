@@ -1,29 +1,18 @@
 -- Certificates in bytes, read move by move or whole.
-use Rattle.std.proofs.Common.{◌≡◌, ◌⊎◌, inl, inr, ℕ, ◌≤◌, Bool, true, false, List, [], ◌∷◌, ◌++◌, refl, ap, sym, ◌∙◌, subst, arith}
+use Rattle.std.proofs.Common.{◌≡◌, ◌⊎◌, inl, inr, ℕ, ◌≤◌, Bool, true, false, List, [], ◌∷◌, refl, ap, sym, ◌∙◌, subst, arith}
 use Rattle.std.specs.Prelude.{nat_lt, if◌then◌else◌, Option, Some, None, Result, Ok, Err, is_some}
 use Rattle.std.proofs.lemmas.Bool.Decides.{nat_tests}
 use Rattle.text_scan.specs.Lines.{Line, full_lines, end_line}
-use Rattle.surf_model.specs.declared.moves.Move.{Move}
 use Rattle.labellings.specs.declared.denial.Denial.{Denial}
-use Rattle.walk_files.specs.Certificates.{answer_of, first_head, fits, fitting_head, head_among, head_in, head_of, head_of_text, moves_of_text, within_peak}
+use Rattle.walk_files.specs.Certificates.{answer_of, first_head, fits, fitting_head, head_among, head_in, head_of, head_of_text, within_peak}
 use Rattle.walk_files.specs.Denials.{denial_of_lines}
-use Rattle.walk_files.specs.Readers.{Certificate, answer_first, denial_left, moves_left, started}
+use Rattle.walk_files.specs.Readers.{Certificate, denial_left, started}
 use Rattle.walk_files.specs.declared.certificate.CertHead.{CertHead}
 use Rattle.walk_files.specs.declared.certificate.CertHead.TheVariants.{Moves, Labels}
 use Rattle.walk_files.specs.declared.fault.CertFault.{CertFault}
 use Rattle.walk_files.specs.declared.fault.CertFault.TheVariants.{Bad, Peak, OutOfMemory}
 use Rattle.walk_files.specs.declared.limits.TheConstants.{MOST_PEAK}
-use Rattle.walk_files.proofs.EachLemmas.{before_ok, before_ok-more}
-use Rattle.walk_files.proofs.ReaderLemmas.{moves_left-started}
 use Rattle.commands.specs.Inputs.{certificate_of}
-use Rattle.commands.specs.declared.certificate.Certificate.TheVariants as certificates
-
--- ---- moves one after another
-
--- the moves that were gathered are the first of those to come
-pub one_more : (all rest more : Result (List Move) CertFault) (moves : List Move) (move : Move) → all ≡ before_ok moves rest
-    → rest ≡ answer_first (Ok (Some move)) more → all ≡ before_ok (moves ++ move ∷ []) more
-one_more all rest more moves move e f = e ∙ ap (before_ok moves) f ∙ before_ok-more moves move more
 
 -- ---- the text
 
@@ -37,27 +26,11 @@ pub bad_head : (text : List ℕ) (head : Result CertHead CertFault) (fault : Cer
 bad_head text (Err other) fault is e = let same : other ≡ fault = cc in rw is (ap Err same)
 bad_head text (Ok head) fault is e = cc
 
-pub list_spelt : (text : List ℕ) (count peak : ℕ) (moves : List Move) → head_of_text text ≡ Ok (Moves count peak)
-    → moves_of_text count text ≡ Ok moves → certificate_of text ≡ Ok (certificates.Moves (record { moves = moves; peak = peak }))
-list_spelt text count peak moves e f = rw (e, f) refl
-
-pub list_faulty : (text : List ℕ) (count peak : ℕ) (fault : CertFault) → head_of_text text ≡ Ok (Moves count peak)
-    → moves_of_text count text ≡ Err fault → certificate_of text ≡ Err fault
-list_faulty text count peak fault e f = rw (e, f) refl
-
-pub denial_spelt : (text : List ℕ) (degree : ℕ) (denial : Denial) → head_of_text text ≡ Ok (Labels degree)
-    → denial_of_lines degree text ≡ Ok denial → certificate_of text ≡ Ok (certificates.Denial denial)
-denial_spelt text degree denial e f = rw (e, f) refl
-
 pub denial_faulty : (text : List ℕ) (degree : ℕ) (fault : CertFault) → head_of_text text ≡ Ok (Labels degree)
     → denial_of_lines degree text ≡ Err fault → certificate_of text ≡ Err fault
 denial_faulty text degree fault e f = rw (e, f) refl
 
--- a reader that has just started has all moves of the text to come, or the whole denial to give
-pub left_start : (reader : Certificate) (text : List ℕ) (count peak : ℕ) → reader.text ≡ text → reader.head ≡ Moves count peak
-    → reader.given ≡ 0 → reader.refusal ≡ None → moves_left reader ≡ moves_of_text count text
-left_start reader text count peak is_text is_head is_given kept = rw (is_text, is_head, is_given, kept) (moves_left-started text count peak)
-
+-- a reader that has just started has the whole denial to give
 pub denial_start : (reader : Certificate) (text : List ℕ) (degree : ℕ) → reader.text ≡ text → reader.head ≡ Labels degree → reader.given ≡ 0
     → reader.refusal ≡ None → denial_left reader ≡ denial_of_lines degree text
 denial_start reader text degree is_text is_head is_given kept = rw (is_text, is_head, is_given, kept) refl

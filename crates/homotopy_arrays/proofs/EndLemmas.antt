@@ -1,5 +1,5 @@
 -- How questions end.
-use Rattle.std.proofs.Common.{◌≡◌, ◌⊎◌, ℕ, ◌+◌, ◌*◌, ◌<◌, List, length, get_or, sym, ap, subst, ◌∙◌, inl, inr, refl, arith}
+use Rattle.std.proofs.Common.{◌≡◌, ◌⊎◌, ℕ, List, sym, ap, subst, ◌∙◌, inl, inr, refl}
 use Rattle.std.specs.Prelude.{Result, Ok, Err, IsTrue}
 use Rattle.surf_model.specs.FaceLists.{FaceList}
 use Rattle.closed_surfaces.specs.SignedSurfaces.{IsNoSurface}
@@ -7,16 +7,12 @@ use Rattle.closed_surfaces.specs.declared.signed_mesh.NoSurface.{NoSurface}
 use Rattle.closed_surfaces.specs.declared.signed_mesh.NoSurface.TheVariants as nones
 use Rattle.closed_surfaces.proofs.Components.{signed_surface}
 use Rattle.closed_surfaces.specs.declared.signed_mesh.SignedMesh.{SignedMesh}
-use Rattle.homotopy_arrays.specs.CheckedPairs.{AreAnswersTo, AreChecked, IsAnswerTo, IsChecked, IsPairOf}
 use Rattle.homotopy_arrays.specs.Decisions.{AreDecided}
-use Rattle.homotopy_arrays.specs.Pairs.{IsAnswer, are_pairs, walk_at, AreAnswers}
+use Rattle.homotopy_arrays.specs.Pairs.{are_pairs, AreAnswers}
 use Rattle.homotopy_arrays.specs.Surfaces.{IsSurfaceFault, IsSurfaceOf, OfMesh, of_no_surface, of_surface_fault}
 use Rattle.homotopy_arrays.specs.declared.decide.PairAnswer.{PairAnswer}
 use Rattle.homotopy_arrays.specs.declared.fault.Fault.{Fault}
 use Rattle.homotopy_arrays.specs.declared.fault.Fault.TheVariants.{OutOfMemory}
-use Rattle.homotopy_arrays.specs.declared.pair.Checked.{Checked}
-use Rattle.homotopy_arrays.specs.declared.pair.Checked.TheVariants.{Pair, Faulty}
-use Rattle.homotopy_arrays.specs.declared.pair.WalkFault.TheVariants.{Empty}
 
 -- a fault, and what is said of it more weakly
 pub refused : (read : Result FaceList Fault) (P Q : FaceList → Fault → Type 0) (fault : Fault)
@@ -45,29 +41,6 @@ none_ends read mesh none fault was h e =
     ]
 
 -- ---- decisions
-
-pub checked_pair : (mesh : FaceList) (first second : List ℕ) (pair : Checked) → IsChecked mesh first second pair → IsPairOf mesh pair
-checked_pair mesh first second (Pair list) h = (first, second, h.0, h.1)
-checked_pair mesh first second (Faulty fault) h = tt
-
-answer_of : (mesh : FaceList) (first second : List ℕ) (pair : Checked) (answer : PairAnswer) → IsChecked mesh first second pair
-    → IsAnswerTo mesh pair answer → IsAnswer mesh first second answer
-answer_of mesh first second (Pair list) answer h to = to first second h.0 h.1
-answer_of mesh first second (Faulty fault) answer h to = subst (IsAnswer mesh first second) (sym to) h
-
--- an answer for each pair, from the answers on what was compared
-pub answers_on : (mesh : FaceList) (sizes vertices : List ℕ) (checked : List Checked) (given : List PairAnswer)
-    → 2 * length checked ≡ length sizes → AreChecked mesh sizes vertices checked → AreAnswersTo mesh checked given
-    → AreAnswers mesh sizes vertices given
-answers_on mesh sizes vertices checked given each are to =
-    record {
-      each_pair = omega (arith, each, to.each);
-      answer = λ k none below.
-          let d : Checked = Faulty (Empty 0) in
-          let there : k < length checked = omega (arith, below, to.each) in
-          answer_of mesh (walk_at sizes vertices (2 * k)) (walk_at sizes vertices (2 * k + 1)) (get_or checked k d) (get_or given k none)
-          (are k d there) (to.answer k d none there);
-    }
 
 pub decided : (read : Result FaceList Fault) (surface : SignedMesh) (sizes vertices : List ℕ) (given : List PairAnswer)
     → OfMesh read (λ mesh. IsSurfaceOf mesh surface) → IsTrue (are_pairs sizes vertices)

@@ -26,7 +26,9 @@ use Rattle.homotopy_arrays.specs.declared.verify.Judgement.{Judgement}
 use Rattle.homotopy_arrays.specs.declared.verify.Judgement.TheVariants.{Moves, Denial}
 use Rattle.homotopy_arrays.specs.declared.verify.VerifyFault.{VerifyFault}
 use Rattle.homotopy_arrays.specs.declared.verify.VerifyFault.TheVariants.{Mesh}
-use Rattle.homotopy_arrays.proofs.CertificateLemmas.{bad_head, denial_faulty, denial_given, denial_or_memory, denial_spelt, denial_start, left_start, list_faulty, list_spelt, started_ok}
+use Rattle.homotopy_arrays.proofs.CertificateLemmas.{bad_head, denial_faulty, denial_given, denial_or_memory, denial_start, started_ok}
+use Rattle.verify_commands.proofs.Gathering.{left_start, list-moves, list-wrong}
+use Rattle.verify_commands.proofs.Streaming.{denial_right}
 
 -- ---- the text
 
@@ -55,7 +57,7 @@ pub moves_faulty : (text : List ℕ) (reader : Certificate) (count peak : ℕ) (
 moves_faulty text reader count peak fault e head (inl memory) = inl memory
 moves_faulty text reader count peak fault e head (inr wrong) =
     let spelt : head_of_text text ≡ Ok (heads.Moves count peak) = head_is text reader (heads.Moves count peak) e head in
-    inr (wrong.0, list_faulty text count peak wrong.0 spelt (sym (left_of text reader count peak e head) ∙ wrong.1), wrong.2)
+    inr (wrong.0, list-wrong text count peak wrong.0 spelt (sym (left_of text reader count peak e head) ∙ wrong.1), wrong.2)
 
 pub moves_judged : (mesh : FaceList) (first second text : List ℕ) (reader : Certificate) (count peak : ℕ) (list : PeakedMoves)
     (verdict : Verdict) → Ok reader ≡ started text (head_of_text text) → reader.head ≡ heads.Moves count peak
@@ -64,7 +66,7 @@ pub moves_judged : (mesh : FaceList) (first second text : List ℕ) (reader : Ce
 moves_judged mesh first second text reader count peak list verdict e head left is_peak is =
     let same : reader.head ≡ heads.Moves count list.peak = head ∙ ap (λ (p : ℕ). heads.Moves count p) (sym is_peak) in
     let spelt : head_of_text text ≡ Ok (heads.Moves count list.peak) = head_is text reader (heads.Moves count list.peak) e same in
-    (shown.Moves list, list_spelt text count list.peak list.moves spelt (sym (left_of text reader count list.peak e same) ∙ left), is)
+    (shown.Moves list, list-moves text count list.peak list.moves spelt (sym (left_of text reader count list.peak e same) ∙ left), is)
 
 pub denial_wrong : (text : List ℕ) (reader : Certificate) (degree : ℕ) (first : CertFault) (fault : VerifyFault)
     → Ok reader ≡ started text (head_of_text text) → reader.head ≡ heads.Labels degree
@@ -86,7 +88,7 @@ denial_judged mesh first second text reader degree denial verdict e head answer 
     let spelt : head_of_text text ≡ Ok (heads.Labels degree) = head_is text reader (heads.Labels degree) e head in
     let given : denial_of_lines degree text ≡ Ok denial =
     denial_given text degree reader denial (denial_of text reader degree e head) answer in
-    (shown.Denial denial, denial_spelt text degree denial spelt given, is)
+    (shown.Denial denial, denial_right text degree denial spelt given, is)
 
 -- the text, where it is no longer than is read
 pub within_limit : (mesh : FaceList) (first second text : List ℕ) (end : Result Judgement VerifyFault) → length text ≤ MOST_BYTES

@@ -1,7 +1,6 @@
 pub mod MeshLemmas
 pub mod ArraysOfMeshes
 pub mod PairLemmas
-pub mod PartLemmas
 pub mod EndLemmas
 pub mod CertificateLemmas
 pub mod JudgementLemmas

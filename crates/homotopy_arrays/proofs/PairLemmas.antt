@@ -7,16 +7,17 @@ use Rattle.std.proofs.lemmas.List.{take_more, get_or_append_left, length_push}
 use Rattle.std.proofs.lemmas.Option.{none-some}
 use Rattle.std.proofs.lemmas.List.Sums.{sum_by-append, sum_by-take-drop, sum_by-cons}
 use Rattle.surf_model.specs.FaceLists.{FaceList}
-use Rattle.surf_model.specs.Walks.{IsWalk, HaveCommonEnds, AreWalkPair}
+use Rattle.surf_model.specs.Walks.{IsWalk, HaveCommonEnds}
 use Rattle.surf_model.specs.Moves as moves
 use Rattle.surf_model.specs.declared.decisions.Answer as deciding
 use Rattle.surf_model.specs.declared.decisions.Answer.TheVariants.{Homotopic}
+use Rattle.component_deciding.specs.PairDeciders.{IsFoundOn}
 use Rattle.walk_files.specs.Pairs.{IsPair, pair_fault}
 use Rattle.walk_files.specs.declared.pair.PairFault.{PairFault}
-use Rattle.homotopy_arrays.specs.CheckedPairs.{AreChecked, IsChecked}
+use Rattle.homotopy_arrays.specs.CheckedPairs.{AreSlices, IsPairAt}
 use Rattle.homotopy_arrays.specs.Pairs.{AreWalks, IsAnswer, length_fault, walk_at, walks_fault}
 use Rattle.homotopy_arrays.specs.declared.decide.PairAnswer.{PairAnswer}
-use Rattle.homotopy_arrays.specs.declared.pair.Checked.{Checked}
+use Rattle.homotopy_arrays.specs.declared.pair.PairSlices.{PairSlices}
 use Rattle.homotopy_arrays.specs.declared.pair.WalkFault.{WalkFault}
 use Rattle.homotopy_arrays.specs.declared.pair.WalkFault.TheVariants.{Empty, Long, Pair}
 use Rattle.homotopy_arrays.specs.declared.pair.TheConstants.{MOST_WALK}
@@ -142,41 +143,40 @@ one_more Holds xs k x many so_far is j none below =
     ]
 
 -- a pair more
-pub more_checked : (mesh : FaceList) (sizes vertices : List ℕ) (checked : List Checked) (k : ℕ) (pair : Checked) → length checked ≡ k
-    → AreChecked mesh sizes vertices checked → IsChecked mesh (walk_at sizes vertices (2 * k)) (walk_at sizes vertices (2 * k + 1)) pair
-    → AreChecked mesh sizes vertices (checked ++ pair ∷ [])
-more_checked mesh sizes vertices =
-    one_more (λ (j : ℕ). IsChecked mesh (walk_at sizes vertices (2 * j)) (walk_at sizes vertices (2 * j + 1)))
+pub more_slices : (sizes vertices : List ℕ) (pairs next : List PairSlices) (k : ℕ) (pair : PairSlices) → next ≡ pairs ++ pair ∷ []
+    → length pairs ≡ k → AreSlices sizes vertices pairs → IsPairAt sizes vertices k pair → AreSlices sizes vertices next
+more_slices sizes vertices pairs next k pair grown each slices is =
+    subst (AreSlices sizes vertices) (sym grown) (one_more (IsPairAt sizes vertices) pairs k pair each slices is)
 
 -- ---- the answers on pairs
 
--- what is told of two walks is told of their vertices
-pub told_of_vertices : (mesh : FaceList) (first second one other : List ℕ) (found : Option deciding.Answer) → one ≡ first → other ≡ second
-    → (length first ≤ MOST_WALK) × (length second ≤ MOST_WALK)
-    → MatchOption found (AreWalkPair mesh one other → ⊥)
-    (λ answer. AreWalkPair mesh one other × ((answer ≡ Homotopic) ↔ moves.Homotopic mesh one other))
+-- what is found of two walks is found of their vertices, of which there are not too many
+found_few : (mesh : FaceList) (first second : List ℕ) (found : Option deciding.Answer)
+    → (length first ≤ MOST_WALK) × (length second ≤ MOST_WALK) → IsFoundOn mesh first second found
     → MatchOption found (AreWalks mesh first second → ⊥)
     (λ answer. AreWalks mesh first second × ((answer ≡ Homotopic) ↔ moves.Homotopic mesh first second))
-told_of_vertices mesh first second one other None e f few none =
-    let so : AreWalkPair mesh first second → ⊥ =
-    subst (λ (w : List ℕ). AreWalkPair mesh first w → ⊥) f (subst (λ (w : List ℕ). AreWalkPair mesh w other → ⊥) e none) in
-    λ are. so (record { first_walk = are.first_walk; second_walk = are.second_walk; ends = are.ends })
-told_of_vertices mesh first second one other (Some answer) e f few told =
-    let so : AreWalkPair mesh first second × ((answer ≡ Homotopic) ↔ moves.Homotopic mesh first second) =
-    subst (λ (w : List ℕ). AreWalkPair mesh first w × ((answer ≡ Homotopic) ↔ moves.Homotopic mesh first w)) f
-    (subst (λ (w : List ℕ). AreWalkPair mesh w other × ((answer ≡ Homotopic) ↔ moves.Homotopic mesh w other)) e told) in
-    (record { first_walk = so.0.first_walk; second_walk = so.0.second_walk; ends = so.0.ends; few = few }, so.1)
+found_few mesh first second None few none =
+    λ are. none (record { first_walk = are.first_walk; second_walk = are.second_walk; ends = are.ends })
+found_few mesh first second (Some answer) few told =
+    (record { first_walk = told.0.first_walk; second_walk = told.0.second_walk; ends = told.0.ends; few = few }, told.1)
 
--- the answers on the first pairs
-abbrev pub AreFirstAnswers : FaceList → (sizes vertices : List ℕ) → List PairAnswer → Type 0
-AreFirstAnswers mesh sizes vertices answers =
-    (k : ℕ) (none : PairAnswer) → k < length answers
-    → IsAnswer mesh (walk_at sizes vertices (2 * k)) (walk_at sizes vertices (2 * k + 1)) (get_or answers k none)
+pub told_of_vertices : (mesh : FaceList) (first second one other : List ℕ) (found : Option deciding.Answer) → one ≡ first → other ≡ second
+    → (length first ≤ MOST_WALK) × (length second ≤ MOST_WALK) → IsFoundOn mesh one other found
+    → MatchOption found (AreWalks mesh first second → ⊥)
+    (λ answer. AreWalks mesh first second × ((answer ≡ Homotopic) ↔ moves.Homotopic mesh first second))
+told_of_vertices mesh first second one other found e f few told =
+    found_few mesh first second found few
+    (subst (λ (w : List ℕ). IsFoundOn mesh first w found) f (subst (λ (w : List ℕ). IsFoundOn mesh w other found) e told))
 
--- an answer more
-pub more_answered : (mesh : FaceList) (sizes vertices : List ℕ) (answers : List PairAnswer) (k : ℕ) (answer : PairAnswer)
-    → length answers ≡ k → AreFirstAnswers mesh sizes vertices answers
-    → IsAnswer mesh (walk_at sizes vertices (2 * k)) (walk_at sizes vertices (2 * k + 1)) answer
-    → AreFirstAnswers mesh sizes vertices (answers ++ answer ∷ [])
-more_answered mesh sizes vertices =
-    one_more (λ (j : ℕ). IsAnswer mesh (walk_at sizes vertices (2 * j)) (walk_at sizes vertices (2 * j + 1)))
+-- the answer on pair k
+abbrev pub IsAnswerAt : FaceList → (sizes vertices : List ℕ) → ℕ → PairAnswer → Type 0
+IsAnswerAt mesh sizes vertices k answer = IsAnswer mesh (walk_at sizes vertices (2 * k)) (walk_at sizes vertices (2 * k + 1)) answer
+
+pub answered_at : (mesh same : FaceList) (sizes vertices : List ℕ) (pairs : List PairSlices) (k : ℕ) (two : PairSlices)
+    (answer : PairAnswer) → AreSlices sizes vertices pairs → k < length pairs → two ≡ get_or pairs k two → mesh ≡ same
+    → IsAnswer mesh two.first.now two.second.now answer → IsAnswerAt same sizes vertices k answer
+answered_at mesh same sizes vertices pairs k two answer slices l is e told =
+    let here : IsPairAt sizes vertices k two = subst (IsPairAt sizes vertices k) (sym is) (slices k two l) in
+    subst (λ (m : FaceList). IsAnswerAt m sizes vertices k answer) e
+    (subst (λ (w : List ℕ). IsAnswer mesh w (walk_at sizes vertices (2 * k + 1)) answer) here.first
+    (subst (λ (w : List ℕ). IsAnswer mesh two.first.now w answer) here.second told))

@@ -2,7 +2,6 @@ pub mod MeshArrays
 pub mod Surfaces
 pub mod Pairs
 pub mod CheckedPairs
-pub mod AskedPairs
 pub mod Decisions
 pub mod Judgements
 pub mod Certifications

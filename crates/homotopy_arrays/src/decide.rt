@@ -3,18 +3,16 @@ ghost use Rattle.std.specs.Prelude.{IfOk, IsTrue};
 ghost use Rattle.homotopy_arrays.specs.Decisions.{AreDecided, IsDecideFault};
 ghost use Rattle.homotopy_arrays.specs.MeshArrays.{mesh_in};
 ghost use Rattle.homotopy_arrays.specs.Pairs.{AreAnswers, are_pairs};
-ghost use Rattle.surf_model.specs.ComponentParts.{AreParts};
 ghost use Rattle.homotopy_arrays.specs.Surfaces.{EndsOn};
 ghost use Rattle.closed_surfaces.specs.SignedSurfaces.{IsSigned};
 
-use crate::by_parts::answer_by_parts;
-use crate::connected::answer_connected;
+use crate::answering::answer_all;
 use crate::fault::Fault;
 use crate::mesh::MeshArrays;
-use crate::pair::{WalkFault, are_pairs, check_pairs};
+use crate::pair::{WalkFault, are_pairs};
 use crate::surface::surface_of_arrays;
-use closed_surfaces::{SignedMesh, connected};
-use manifold_check::Parts;
+use closed_surfaces::SignedMesh;
+use component_deciding::PairDecider;
 use std::alloc::{AllocError, Global};
 
 /// What is answered of a pair of walks.
@@ -59,31 +57,9 @@ fn answer_pairs(
     requires pairs { IsTrue (are_pairs walk_sizes.now walk_vertices.now) }
     ensures { IfOk result (λ answers. AreAnswers surface.faces walk_sizes.now walk_vertices.now answers.items) }
 {
-    let parts = Parts::build(alloc, &surface.faces, &surface.sides)?;
-    if parts.len() == 1 {
-        // Its memory is for the surface.
-        drop(parts);
-        return answer_connected(alloc, connected(alloc, surface)?, walk_sizes, walk_vertices);
-    }
-    answer_apart(alloc, &surface, &parts, walk_sizes, walk_vertices)
-}
-
-/// The answer on each pair of walks of a surface of several components. All walks are looked at first.
-fn answer_apart(
-    alloc: Global,
-    surface: &SignedMesh,
-    parts: &Parts,
-    walk_sizes: &[u32],
-    walk_vertices: &[u32],
-) -> Result<Vec<PairAnswer>, AllocError>
-    requires signed { IsSigned surface.now }
-    requires parts { AreParts surface.now.faces parts.now }
-    requires pairs { IsTrue (are_pairs walk_sizes.now walk_vertices.now) }
-    ensures { IfOk result (λ answers. AreAnswers surface.now.faces walk_sizes.now walk_vertices.now answers.items) }
-{
-    let checked = check_pairs(alloc, &surface.sides, walk_sizes, walk_vertices)?;
-    let answers = answer_by_parts(alloc, surface, parts, &checked);
+    let mut decider = PairDecider::of(alloc, surface, walk_vertices.len() as u64)?;
+    let answers = answer_all(alloc, &mut decider, walk_sizes, walk_vertices);
     // By a call, which is proved once, and not here again.
-    drop(checked);
-    Ok(answers?)
+    drop(decider);
+    answers
 }

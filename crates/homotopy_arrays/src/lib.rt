@@ -6,9 +6,8 @@
 //! arrays they are (`laws`).
 #![tactic(auto)]
 
-mod by_parts;
+mod answering;
 mod certify;
-mod connected;
 mod decide;
 mod fault;
 pub mod laws;

@@ -1,9 +1,9 @@
 //! Two walks that lie in arrays.
-ghost use Rattle.std.specs.Prelude.{◌≡◌, ◌≤◌, ◌<◌, ◌+◌, ◌*◌, ◌/◌, [], ◌∷◌, ℕ, length, sum, take, slice_index_or, IfOk, IfSome, IsTrue};
+ghost use Rattle.std.specs.Prelude.{◌≡◌, ◌≤◌, ◌<◌, ◌*◌, length, IfOk, IsTrue};
 ghost use Rattle.surf_model.specs.FaceLists.{FaceList};
 ghost use Rattle.surf_model.specs.Edges.{IsTableOf};
-ghost use Rattle.homotopy_arrays.specs.CheckedPairs.{IsChecked, AreChecked};
-ghost use Rattle.homotopy_arrays.specs.Pairs.{are_pairs, length_fault, walk_at};
+ghost use Rattle.homotopy_arrays.specs.CheckedPairs.{AreSlices, IsChecked};
+ghost use Rattle.homotopy_arrays.specs.Pairs.{are_pairs, length_fault};
 
 use crate::mesh::add_up_to;
 use std::alloc::{AllocError, Global};
@@ -33,12 +33,11 @@ pub(crate) enum Checked {
     Faulty(WalkFault),
 }
 
-/// The two walks of a pair as they lie in an array, and the place behind them.
+/// The two walks of a pair as they lie in an array.
 #[derive(Clone, Copy)]
 pub(crate) struct PairSlices<'a> {
     pub(crate) first: &'a [u32],
     pub(crate) second: &'a [u32],
-    pub(crate) end: usize,
 }
 
 /// Compares two walks with the mesh that has this table.
@@ -98,46 +97,26 @@ pub(crate) fn are_pairs(sizes: &[u32], vertices: &[u32]) -> bool
     add_up_to(sizes, vertices.len()) && sizes.len() % 2 == 0
 }
 
-/// The two walks of a pair that starts at a place.
-pub(crate) fn slices_of_pair<'a>(
+/// The two walks of each pair.
+pub(crate) fn slices_of_pairs<'a>(
+    alloc: Global,
     sizes: &[u32],
     vertices: &'a [u32],
-    pair: usize,
-    start: usize,
-) -> PairSlices<'a>
-    requires pairs { IsTrue (are_pairs sizes.now vertices.now) }
-    requires pair { 2 * pair + 1 < length sizes.now }
-    requires start { start ≡ sum (take (2 * pair) sizes.now) }
-    ensures first { result.first.now ≡ walk_at sizes.now vertices.now (2 * pair) }
-    ensures second { result.second.now ≡ walk_at sizes.now vertices.now (2 * pair + 1) }
-    ensures end { result.end ≡ sum (take (2 * (pair + 1)) sizes.now) }
-{
-    let middle = start + sizes[2 * pair] as usize;
-    let end = middle + sizes[2 * pair + 1] as usize;
-    let first = &vertices[start..middle];
-    let second = &vertices[middle..end];
-    PairSlices { first, second, end }
-}
-
-/// Compares pairs of walks with the mesh that has this table.
-pub(crate) fn check_pairs(
-    alloc: Global,
-    sides: &Sides,
-    sizes: &[u32],
-    vertices: &[u32],
-) -> Result<Vec<Checked>, AllocError>
+) -> Result<Vec<PairSlices<'a>>, AllocError>
     requires { IsTrue (are_pairs sizes.now vertices.now) }
-    ensures each { IfOk result (λ checked. 2 * length checked.items ≡ length sizes.now) }
-    ensures checked { IfOk result (λ checked. (mesh : FaceList) → IsTableOf mesh sides.now
-        → AreChecked mesh sizes.now vertices.now checked.items) }
+    ensures each { IfOk result (λ pairs. 2 * length pairs.items ≡ length sizes.now) }
+    ensures walks { IfOk result (λ pairs. AreSlices sizes.now vertices.now pairs.items) }
 {
     let count = sizes.len() / 2;
-    let mut checked = Vec::with_capacity(alloc, count)?;
+    let mut pairs = Vec::with_capacity(alloc, count)?;
     let mut at = 0;
     for pair in 0..count {
-        let two = slices_of_pair(sizes, vertices, pair, at);
-        checked.push(check_walks(alloc, sides, two.first, two.second)?)?;
-        at = two.end;
+        let middle = at + sizes[2 * pair] as usize;
+        let end = middle + sizes[2 * pair + 1] as usize;
+        let first = &vertices[at..middle];
+        let second = &vertices[middle..end];
+        pairs.push(PairSlices { first, second })?;
+        at = end;
     }
-    Ok(checked)
+    Ok(pairs)
 }

@@ -1,23 +1,18 @@
 -- How the checks of `decide` end, and `decide` in the words of the mesh.
-use Rattle.std.proofs.Common.{◌≡◌, inr, ℕ, List, [], ◌∷◌, codes, refl, sym, ◌∙◌, subst}
+use Rattle.std.proofs.Common.{◌≡◌, ℕ, List, [], ◌∷◌, codes, sym, ◌∙◌, subst}
 use Rattle.std.specs.Prelude.{◌↔◌, Option, All}
 use Rattle.surf_io.specs.Files.{Files}
 use Rattle.surf_model.specs.FaceLists.{FaceList}
 use Rattle.walk_files.specs.PairLists.{WalkPair, in_pairs}
 use Rattle.walk_files.specs.WalkLists.{WalkText}
-use Rattle.surf_model.specs.declared.decisions.Answer as deciding
-use Rattle.commands.proofs.Checking.{stops_second}
 use Rattle.surface_commands.proofs.SurfaceRows.{outcome_behind, sound-surface_in}
 use Rattle.commands.proofs.Sound.{IsSound, sound-then}
 use Rattle.commands.specs.Answers.{Answer}
-use Rattle.commands.specs.Checks.{Check, Refuse, Pass, Passes}
+use Rattle.commands.specs.Checks.{Check, Refuse, Pass}
 use Rattle.commands.specs.Outcomes.{Outcome, AnswersTo, IsAnswerOf}
-use Rattle.commands.specs.Stops.{Stops}
-use Rattle.surface_commands.specs.SurfaceInput.{surface_in}
 use Rattle.commands.specs.declared.status.Status.{Status}
 use Rattle.commands.specs.declared.status.Status.TheVariants.{Yes}
-use Rattle.commands.specs.declared.stop.Stop.{Stop}
-use Rattle.pair_commands.specs.Decide.{decide, all_decided, decisions_answer, AreDecided, AreDecisions, IsDecided, IsDecideInput, IsHomotopic}
+use Rattle.pair_commands.specs.Decide.{decide, all_decided, decisions_answer, AreDecided, IsDecided, IsDecideInput, IsHomotopic}
 use Rattle.pair_commands.specs.PairInput.{SpellsPairs, pairs_in}
 use Rattle.pair_commands.proofs.PairChecks.{sound-pairs_in, pairs_in_told, spelled_pairs}
 use Rattle.pair_commands.proofs.PairDecisions.{all_yes, sound-all_decided}
@@ -25,18 +20,8 @@ use Rattle.pair_commands.proofs.PairDecisions.{all_yes, sound-all_decided}
 -- ---- the parts of the command
 
 -- what is looked at behind the walks
-abbrev after_pairs : FaceList → WalkText → Check Answer
+abbrev pub after_pairs : FaceList → WalkText → Check Answer
 after_pairs surface text = all_decided surface (in_pairs text.walks)
-
-pub walks_stop : (held : Option Files) (mesh walks : List ℕ) (surface : FaceList) (stop : Stop) → Passes (surface_in held mesh) surface
-    → Stops (pairs_in held walks surface) stop → Stops (decide held mesh walks) stop
-walks_stop held mesh walks surface stop p h =
-    stops_second (surface_in held mesh) (pairs_in held walks) after_pairs surface stop p h
-
-pub decisions_pass : (held : Option Files) (mesh walks : List ℕ) (surface : FaceList) (text : WalkText) (decisions : List deciding.Answer)
-    → Passes (surface_in held mesh) surface → Passes (pairs_in held walks surface) text
-    → AreDecisions surface (in_pairs text.walks) decisions → Passes (decide held mesh walks) (decisions_answer decisions)
-decisions_pass held mesh walks surface text decisions p q right = inr (surface, p, inr (text, q, (decisions, refl, right)))
 
 pub sound-decide : (held : Option Files) (mesh walks : List ℕ) → IsSound held (decide held mesh walks)
 sound-decide held mesh walks =

@@ -1,4 +1,3 @@
 pub mod PairChecks
 pub mod PairDecisions
-pub mod AskedLemmas
 pub mod DecideOutcomes

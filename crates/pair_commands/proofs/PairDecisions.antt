@@ -1,17 +1,15 @@
 -- Decisions on pairs: one more, all of them, and what they are worth.
-use Rattle.std.proofs.Common.{◌≡◌, ◌↔◌, inl, inr, ℕ, zero, suc, ◌+◌, ◌*◌, ◌/◌, ◌<◌, ◌≤◌, true, List, [], ◌∷◌, ◌++◌, length, take, refl, sym, ap, ◌∙◌, subst, arith}
+use Rattle.std.proofs.Common.{◌≡◌, ◌↔◌, ℕ, zero, suc, ◌+◌, ◌*◌, ◌/◌, ◌<◌, true, List, [], ◌∷◌, length, get_or, refl, sym, ap, ◌∙◌, subst, arith}
 use Rattle.std.specs.Prelude.{All, Option, Some, slice_get}
-use Rattle.std.specs.List.{AllZip}
 use Rattle.std.proofs.lemmas.Bool.Decides.{nat_tests}
-use Rattle.std.proofs.lemmas.List.{take_all}
 use Rattle.std.proofs.lemmas.List.Elements.{All-nil, All-cons, All-head, All-tail}
+use Rattle.component_deciding.specs.PairDeciders.{IsFoundOn}
 use Rattle.surf_io.specs.Files.{Files}
 use Rattle.surf_model.specs.FaceLists.{FaceList}
 use Rattle.surf_model.specs.Moves as moves
 use Rattle.surf_model.specs.Walks.{IsWalk, HaveCommonEnds, AreWalkPair}
 use Rattle.walk_files.specs.PairLists.{WalkPair, ArePairs, are_paired, in_pairs}
 use Rattle.walk_files.specs.WalkLists.{WalkText}
-use Rattle.walk_translate.proofs.SpokedLemmas.{before_or_last}
 use Rattle.surf_model.specs.declared.decisions.Answer as deciding
 use Rattle.surf_model.specs.declared.decisions.Answer.TheVariants.{Homotopic, Different}
 use Rattle.commands.proofs.Deciding.{differs, one_decision}
@@ -20,7 +18,7 @@ use Rattle.commands.specs.Answers.{Answer}
 use Rattle.commands.specs.Certificates.{decisions_status}
 use Rattle.commands.specs.Checks.{End, Refuse, Pass}
 use Rattle.commands.specs.declared.status.Status.TheVariants.{Yes, No}
-use Rattle.pair_commands.specs.Decide.{IsHomotopic, IsDecision, AreDecisions, AreFirstDecisions, all_decided, decisions_answer}
+use Rattle.pair_commands.specs.Decide.{IsHomotopic, IsDecision, AreDecisions, ArePairsDecided, all_decided, decisions_answer}
 
 -- ---- the pairs of a list of walks
 
@@ -47,21 +45,6 @@ pair_at (x ∷ y ∷ walks) (suc k) a b e f =
     pair_at walks k a b (subst (λ n. slice_get (x ∷ y ∷ walks) n ≡ Some a) later e)
     (subst (λ n. slice_get (x ∷ y ∷ walks) n ≡ Some b) last f)
 
--- there are half as many
-pub few_pairs : (walks : List (List ℕ)) (k : ℕ) → length walks ≤ 2 * k + 1 → length (in_pairs walks) ≤ k
-few_pairs [] k few = omega arith
-few_pairs (x ∷ []) k few = omega arith
-few_pairs (x ∷ y ∷ walks) zero few = absurd (omega (arith, few))
-few_pairs (x ∷ y ∷ walks) (suc k) few =
-    let rest : length (in_pairs walks) ≤ k = few_pairs walks k (omega (arith, few)) in omega (arith, rest)
-
-pub many_pairs : (walks : List (List ℕ)) (k : ℕ) → 2 * k + 1 < length walks → k < length (in_pairs walks)
-many_pairs [] k many = absurd (omega (arith, many))
-many_pairs (x ∷ []) k many = absurd (omega (arith, many))
-many_pairs (x ∷ y ∷ walks) zero many = omega arith
-many_pairs (x ∷ y ∷ walks) (suc k) many =
-    let rest : k < length (in_pairs walks) = many_pairs walks k (omega (arith, many)) in omega (arith, rest)
-
 pub all_at : {A : Type 0} (P : A → Type 0) (xs : List A) (k : ℕ) (x : A) → All P xs → slice_get xs k ≡ Some x → P x
 all_at P [] k x all e = cc
 all_at P (y ∷ xs) zero x all e = let same : y ≡ x = cc in subst P same (All-head P y xs all)
@@ -78,30 +61,6 @@ walks_at mesh text k a b pairs e f =
           (record { first = a; second = b }) pairs.ends (pair_at text.walks k a b e f);
     }
 
--- each pair is one of walks of the mesh with common ends
-abbrev IsPairOf : FaceList → WalkPair → Type 0
-IsPairOf mesh pair = AreWalkPair mesh pair.first pair.second
-
-each_pair : (mesh : FaceList) (walks : List (List ℕ)) → All (IsWalk mesh) walks
-    → All (λ (pair : WalkPair). HaveCommonEnds pair.first pair.second) (in_pairs walks) → All (IsPairOf mesh) (in_pairs walks)
-each_pair mesh [] walk ends = All-nil (IsPairOf mesh)
-each_pair mesh (x ∷ []) walk ends = All-nil (IsPairOf mesh)
-each_pair mesh (x ∷ y ∷ walks) walk ends =
-    let two : WalkPair = record { first = x; second = y } in
-    let later = All-tail (IsWalk mesh) x (y ∷ walks) walk in
-    All-cons (IsPairOf mesh) two (in_pairs walks)
-    (record {
-      first_walk = All-head (IsWalk mesh) x (y ∷ walks) walk;
-      second_walk = All-head (IsWalk mesh) y walks later;
-      ends = All-head (λ (pair : WalkPair). HaveCommonEnds pair.first pair.second) two (in_pairs walks) ends;
-    })
-    (each_pair mesh walks (All-tail (IsWalk mesh) y walks later)
-    (All-tail (λ (pair : WalkPair). HaveCommonEnds pair.first pair.second) two (in_pairs walks) ends))
-
-pub pairs_are_walks : (mesh : FaceList) (text : WalkText) → ArePairs mesh text
-    → All (λ (pair : WalkPair). AreWalkPair mesh pair.first pair.second) (in_pairs text.walks)
-pairs_are_walks mesh text are = each_pair mesh text.walks are.walks are.ends
-
 -- ---- walks that come in pairs
 
 -- the number of such walks is even
@@ -112,19 +71,6 @@ paired_even version count is = grind (arith, nat_tests)
 abbrev pub ArePairsBelow : FaceList → List (List ℕ) → ℕ → Type 0
 ArePairsBelow mesh walks n =
     (k : ℕ) (a b : List ℕ) → k < n → slice_get walks (2 * k) ≡ Some a → slice_get walks (2 * k + 1) ≡ Some b → AreWalkPair mesh a b
-
--- one pair more
-pub pairs_more : (mesh : FaceList) (walks : List (List ℕ)) (n : ℕ) (a b : List ℕ) → ArePairsBelow mesh walks n
-    → slice_get walks (2 * n) ≡ Some a → slice_get walks (2 * n + 1) ≡ Some b → AreWalkPair mesh a b → ArePairsBelow mesh walks (n + 1)
-pairs_more mesh walks n a b below e f pair = λ k x y l p q. elim (before_or_last k n l) [
-  | inl before ↦ below k x y before p q
-  | inr last ↦
-      let here : slice_get walks (2 * n) ≡ Some x = subst (λ i. slice_get walks (2 * i) ≡ Some x) last p in
-      let there : slice_get walks (2 * n + 1) ≡ Some y = subst (λ i. slice_get walks (2 * i + 1) ≡ Some y) last q in
-      let one : a ≡ x = (let both : Some a ≡ Some x = sym e ∙ here in cc) in
-      let other : b ≡ y = (let both : Some b ≡ Some y = sym f ∙ there in cc) in
-      subst (λ (w : List ℕ). AreWalkPair mesh w y) one (subst (AreWalkPair mesh a) other pair)
-]
 
 -- all pairs but the first
 later_pairs : (mesh : FaceList) (x y : List ℕ) (walks : List (List ℕ)) (n : ℕ) → ArePairsBelow mesh (x ∷ y ∷ walks) (suc n)
@@ -171,38 +117,57 @@ all_pairs mesh text n paired e below = record {
   ends = ends_of_pairs mesh text.walks n e below;
 }
 
--- and one that is none is no such list
+-- and with one that is none they are no such list
 pub no_pairs : (mesh : FaceList) (text : WalkText) (k : ℕ) (a b : List ℕ) → slice_get text.walks (2 * k) ≡ Some a
     → slice_get text.walks (2 * k + 1) ≡ Some b → (AreWalkPair mesh a b → ⊥) → ArePairs mesh text → ⊥
 no_pairs mesh text k a b e f none pairs =
     let walks = walks_at mesh text k a b pairs e f in
     none (record { first_walk = walks.first_walk; second_walk = walks.second_walk; ends = walks.ends })
 
--- ---- one decision more
-
-zip_more : {A B : Type 0} (R : A → B → Type 0) (xs : List A) (ys : List B) (x : A) (y : B) → slice_get xs (length ys) ≡ Some x
-    → AllZip R (take (length ys) xs) ys → R x y → AllZip R (take (length (ys ++ y ∷ [])) xs) (ys ++ y ∷ [])
-zip_more R [] ys x y e all is = cc
-zip_more {A} R (z ∷ xs) [] x y e all is = let same : x ≡ z = cc in (subst (λ (w : A). R w y) same is, tt)
-zip_more R (z ∷ xs) (w ∷ ys) x y e all is = (all.0, zip_more R xs ys x y e all.1 is)
-
-pub decision_more : (mesh : FaceList) (walks : List (List ℕ)) (decisions : List deciding.Answer) (k : ℕ) (a b : List ℕ)
-    (decision : deciding.Answer) → k ≡ length decisions → slice_get walks (2 * k) ≡ Some a → slice_get walks (2 * k + 1) ≡ Some b
-    → AreFirstDecisions mesh (in_pairs walks) decisions → (decision ≡ Homotopic) ↔ moves.Homotopic mesh a b
-    → AreFirstDecisions mesh (in_pairs walks) (decisions ++ decision ∷ [])
-decision_more mesh walks decisions k a b decision is e f first right =
-    zip_more (IsDecision mesh) (in_pairs walks) decisions (record { first = a; second = b }) decision
-    (subst (λ n. slice_get (in_pairs walks) n ≡ Some (record { first = a; second = b })) is (pair_at walks k a b e f)) first right
-
--- as many decisions as there are pairs are all
-pub decisions_all : (mesh : FaceList) (walks : List (List ℕ)) (decisions : List deciding.Answer)
-    → AreFirstDecisions mesh (in_pairs walks) decisions → length walks ≤ 2 * length decisions + 1
-    → AreDecisions mesh (in_pairs walks) decisions
-decisions_all mesh walks decisions first few =
-    subst (λ (pairs : List WalkPair). AreDecisions mesh pairs decisions)
-    (take_all (length decisions) (in_pairs walks) (few_pairs walks (length decisions) few)) first
-
 -- ---- all decisions
+
+-- pair k is one of walks of the mesh with common ends, on which this is the decision
+abbrev pub IsDecidedAt : FaceList → List (List ℕ) → ℕ → deciding.Answer → Type 0
+IsDecidedAt mesh walks k decision =
+    (a b : List ℕ) → slice_get walks (2 * k) ≡ Some a → slice_get walks (2 * k + 1) ≡ Some b
+    → AreWalkPair mesh a b × ((decision ≡ Homotopic) ↔ moves.Homotopic mesh a b)
+
+-- what is found of its walks
+pub found_at : (mesh same : FaceList) (walks : List (List ℕ)) (k : ℕ) (first second : List ℕ) (decision : deciding.Answer)
+    → slice_get walks (2 * k) ≡ Some first → slice_get walks (2 * k + 1) ≡ Some second → mesh ≡ same
+    → IsFoundOn mesh first second (Some decision) → IsDecidedAt same walks k decision
+found_at mesh same walks k first second decision e f is told a b p q =
+    let one : first ≡ a = (let both : Some first ≡ Some a = sym e ∙ p in cc) in
+    let other : second ≡ b = (let both : Some second ≡ Some b = sym f ∙ q in cc) in
+    subst (λ (m : FaceList). IsFoundOn m a b (Some decision)) is
+    (subst (λ (w : List ℕ). IsFoundOn mesh w b (Some decision)) one
+    (subst (λ (w : List ℕ). IsFoundOn mesh first w (Some decision)) other told))
+
+all_decisions : (mesh : FaceList) (walks : List (List ℕ)) (n : ℕ) (decisions : List deciding.Answer) → length walks ≡ 2 * n
+    → length decisions ≡ n → ((k : ℕ) (d : deciding.Answer) → k < n → IsDecidedAt mesh walks k (get_or decisions k d))
+    → AreDecisions mesh (in_pairs walks) decisions
+all_decisions mesh [] n [] e f each = tt
+all_decisions mesh [] n (d ∷ ds) e f each = absurd (omega (arith, e, f))
+all_decisions mesh (x ∷ []) n ds e f each = absurd (omega (arith, e))
+all_decisions mesh (x ∷ y ∷ walks) n [] e f each = absurd (omega (arith, e, f))
+all_decisions mesh (x ∷ y ∷ walks) zero (d ∷ ds) e f each = absurd (omega (arith, e))
+all_decisions mesh (x ∷ y ∷ walks) (suc n) (d ∷ ds) e f each = (
+  (each 0 d (omega arith) x y refl refl).1,
+  all_decisions mesh walks n ds (omega (arith, e)) (omega (arith, f)) (λ k z l a b p q.
+      let later : 2 * suc k ≡ suc (suc (2 * k)) = omega arith in
+      let last : 2 * suc k + 1 ≡ suc (suc (2 * k + 1)) = omega arith in
+      each (suc k) z (omega (arith, l)) a b (subst (λ i. slice_get (x ∷ y ∷ walks) i ≡ Some a) (sym later) p)
+      (subst (λ i. slice_get (x ∷ y ∷ walks) i ≡ Some b) (sym last) q)),
+)
+
+pub pairs_decided : (mesh : FaceList) (text : WalkText) (n : ℕ) (decisions : List deciding.Answer)
+    → are_paired text.version (length text.walks) ≡ true → length text.walks ≡ 2 * n → length decisions ≡ n
+    → ((k : ℕ) (d : deciding.Answer) → k < n → IsDecidedAt mesh text.walks k (get_or decisions k d))
+    → ArePairsDecided mesh text decisions
+pairs_decided mesh text n decisions paired e f each = record {
+  pairs = all_pairs mesh text n paired e (λ k a b l p q. (each k Different l a b p q).0);
+  right = all_decisions mesh text.walks n decisions e f each;
+}
 
 no_yes : No ≡ Yes → ⊥
 no_yes e = cc

@@ -1,5 +1,5 @@
 -- The command `decide`.
-use Rattle.std.specs.Prelude.{◌≡◌, ℕ, ◌↔◌, List, length, take, codes, Option, All}
+use Rattle.std.specs.Prelude.{◌≡◌, ℕ, ◌↔◌, List, codes, Option, All}
 use Rattle.std.specs.List.{AllZip}
 use Rattle.surf_io.specs.Files.{Files}
 use Rattle.surf_model.specs.FaceLists.{FaceList}
@@ -33,10 +33,6 @@ IsDecision mesh pair decision = (decision ≡ Homotopic) ↔ IsHomotopic mesh pa
 -- one after another, these are the decisions on the pairs
 abbrev pub AreDecisions : FaceList → List WalkPair → List deciding.Answer → Type 0
 AreDecisions mesh pairs decisions = AllZip (IsDecision mesh) pairs decisions
-
--- these are the decisions on the first pairs, as many as there are decisions
-abbrev pub AreFirstDecisions : FaceList → List WalkPair → List deciding.Answer → Type 0
-AreFirstDecisions mesh pairs decisions = AreDecisions mesh (take (length decisions) pairs) decisions
 
 -- the walks of a text come in pairs of walks of the mesh with common ends, and these are the decisions on them
 pub record ArePairsDecided (mesh : FaceList) (text : WalkText) (decisions : List deciding.Answer) : Type 0 where

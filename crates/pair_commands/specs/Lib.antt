@@ -1,3 +1,2 @@
 pub mod PairInput
 pub mod Decide
-pub mod Asked

@@ -1,25 +1,23 @@
-//! Deciding on many pairs of walks of a surface, of one component or of several.
-ghost use Rattle.std.specs.Prelude.{◌≡◌, length, Err, IfOk, MatchOption, MatchResult};
-ghost use Rattle.surf_model.specs.ComponentParts.{AreParts};
-ghost use Rattle.walk_files.specs.PairLists.{ArePairs, are_paired, in_pairs};
+//! Deciding on many pairs of walks of a surface.
+ghost use Rattle.std.specs.Prelude.{◌≡◌, ◌≤◌, ◌/◌, length, Err, IfOk, MatchResult};
+ghost use Rattle.walk_files.specs.PairLists.{are_paired};
+ghost use Rattle.walk_files.specs.declared.limits.TheConstants.{MOST_LINES};
 ghost use Rattle.closed_surfaces.specs.SignedSurfaces.{IsSigned};
 ghost use Rattle.commands.specs.Stops.{Stops};
-ghost use Rattle.pair_commands.specs.Asked.{walk_pairs};
-ghost use Rattle.pair_commands.specs.Decide.{AreDecisions, ArePairsDecided};
+ghost use Rattle.component_deciding.specs.Orders.{AreAllPairs};
+ghost use Rattle.component_deciding.specs.PairDeciders.{mesh_of};
+ghost use Rattle.pair_commands.specs.Decide.{ArePairsDecided};
 ghost use Rattle.pair_commands.specs.PairInput.{come_in_pairs};
 
 use crate::pair_input::check_list;
-use closed_surfaces::{SignedMesh, connected};
+use closed_surfaces::SignedMesh;
 use commands::Stop;
-use component_deciding::{AskedPair, SignedParts, decide_by_components};
-use halfedge_map::Surface;
-use manifold_check::Parts;
+use component_deciding::{PairDecider, Placed};
 use std::alloc::{AllocError, Global};
 use walk_files::WalkList;
-use walk_translate::{Answer, Decider};
+use walk_translate::Answer;
 
-/// The decisions on the walks of a surface, pair by pair, or what is first wrong where they do not come in pairs. Where there is
-/// one component alone, no face is copied, and a walk is looked at while it is decided on.
+/// The decisions on the walks of a surface, pair by pair, or what is first wrong where they do not come in pairs.
 pub(crate) fn decide_walks(
     alloc: Global,
     mesh: SignedMesh,
@@ -30,41 +28,8 @@ pub(crate) fn decide_walks(
         (Stops (come_in_pairs mesh.faces walks.now)) }
     ensures no_fault { result ≡ Err Stop.ReadFault → ⊥ }
 {
-    let parts = Parts::build(alloc, &mesh.faces, &mesh.sides)?;
-    if parts.len() == 1 {
-        // Its memory is for the surface.
-        drop(parts);
-        let surface = connected(alloc, mesh)?;
-        return decide_in_one(alloc, surface, walks);
-    }
-    decide_apart(alloc, &mesh, &parts, walks)
-}
-
-/// The decisions on the walks of a surface of several components, pair by pair, or what is first wrong with the walks.
-fn decide_apart(
-    alloc: Global,
-    mesh: &SignedMesh,
-    parts: &Parts,
-    walks: &WalkList,
-) -> Result<Vec<Answer>, Stop>
-    requires signed { IsSigned mesh.now }
-    requires parts { AreParts mesh.now.faces parts.now }
-    ensures ends { MatchResult result (λ decisions. ArePairsDecided mesh.now.faces walks.now decisions.items)
-        (Stops (come_in_pairs mesh.now.faces walks.now)) }
-    ensures no_fault { result ≡ Err Stop.ReadFault → ⊥ }
-{
-    check_list(&mesh.sides, walks)?;
-    Ok(decide_in_several(alloc, mesh, parts, walks)?)
-}
-
-/// The decisions on the walks of a connected surface, pair by pair, or what is first wrong with the walks.
-fn decide_in_one(alloc: Global, surface: Surface, walks: &WalkList) -> Result<Vec<Answer>, Stop>
-    ensures ends { MatchResult result (λ decisions. ArePairsDecided surface.mesh walks.now decisions.items)
-        (Stops (come_in_pairs surface.mesh walks.now)) }
-    ensures no_fault { result ≡ Err Stop.ReadFault → ⊥ }
-{
-    let mut decider = Decider::for_darts(alloc, surface, darts_of(walks))?;
-    let decided = decide_or_refuse(alloc, &mut decider, walks);
+    let mut decider = PairDecider::of(alloc, mesh, darts_of(walks))?;
+    let decided = decide_all(alloc, &mut decider, walks);
     // By a call, which is proved once, and not here again.
     drop(decider);
     decided
@@ -79,47 +44,31 @@ fn darts_of(walks: &WalkList) -> u64 {
     darts
 }
 
-/// The decisions on the walks of the surface that a decider has, pair by pair, or what is first wrong with the walks.
-fn decide_or_refuse(
-    alloc: Global,
-    decider: &mut Decider,
-    walks: &WalkList,
-) -> Result<Vec<Answer>, Stop>
-    ensures ends { MatchResult result (λ decisions. ArePairsDecided decider.old walks.now decisions.items)
-        (Stops (come_in_pairs decider.old walks.now)) }
-    ensures no_fault { result ≡ Err Stop.ReadFault → ⊥ }
-{
-    if let Some(decisions) = decide_all(alloc, decider, walks)? {
-        return Ok(decisions);
-    }
-    // Some walk is none, or some ends differ. What comes first in the order of refusals is looked for now.
-    check_list(decider.sides(), walks)?;
-    unreachable!()
-}
-
-/// The decisions on the walks of the surface that a decider has, pair by pair; none where they do not come in pairs.
+/// The decisions on the walks of the surface that a decider has, pair by pair, or what is first wrong with the walks. They are looked at
+/// for that only where they do not come in pairs, and then they are refused.
 fn decide_all(
     alloc: Global,
-    decider: &mut Decider,
+    decider: &mut PairDecider,
     walks: &WalkList,
-) -> Result<Option<Vec<Answer>>, AllocError>
-    ensures same { decider.new ≡ decider.old }
-    ensures decisions { IfOk result (λ found. MatchOption found (ArePairs decider.old walks.now → ⊥)
-        (λ decisions. ArePairsDecided decider.old walks.now decisions.items)) }
+) -> Result<Vec<Answer>, Stop>
+    ensures ends { MatchResult result (λ decisions. ArePairsDecided (mesh_of decider.old) walks.now decisions.items)
+        (Stops (come_in_pairs (mesh_of decider.old) walks.now)) }
+    ensures no_fault { result ≡ Err Stop.ReadFault → ⊥ }
 {
     if !are_paired(walks) {
-        return Ok(None);
+        check_list(decider.sides(), walks)?;
     }
-    let count = walks.len() / 2;
-    let mut decisions = Vec::with_capacity(alloc, count as usize)?;
-    for k in 0..count {
-        let pair = decider.answer_if_pair(walks.at(2 * k), walks.at(2 * k + 1))?;
-        let Some(decision) = pair else {
-            return Ok(None);
-        };
-        decisions.push(decision)?;
+    let order = order_of(alloc, decider, walks)?;
+    let mut decisions = vec![in alloc; Answer::Different; order.len()]?;
+    for at in 0..order.len() {
+        let pair = order[at].pair;
+        let (first, second) = (2 * pair as u64, 2 * pair as u64 + 1);
+        match decider.answer_if_pair(walks.at(first), walks.at(second))? {
+            Some(decision) => decisions[pair] = decision,
+            None => check_list(decider.sides(), walks)?,
+        }
     }
-    Ok(Some(decisions))
+    Ok(decisions)
 }
 
 /// Whether the number of walks is one of pairs, for the version of the text.
@@ -133,39 +82,19 @@ fn are_paired(walks: &WalkList) -> bool
     }
 }
 
-/// The decisions on the pairs of walks of a surface of several components.
-fn decide_in_several(
+/// The order in which the pairs are asked about.
+fn order_of(
     alloc: Global,
-    mesh: &SignedMesh,
-    parts: &Parts,
+    decider: &PairDecider,
     walks: &WalkList,
-) -> Result<Vec<Answer>, AllocError>
-    requires signed { IsSigned mesh.now }
-    requires parts { AreParts mesh.now.faces parts.now }
-    requires pairs { ArePairs mesh.now.faces walks.now }
-    ensures { IfOk result (λ decisions. AreDecisions mesh.now.faces (in_pairs walks.now.walks) decisions.items) }
-{
-    let pairs = asked_pairs(alloc, walks)?;
-    let surface = SignedParts {
-        faces: &mesh.faces,
-        sides: &mesh.sides,
-        signs: &mesh.signs,
-        parts,
-    };
-    decide_by_components(alloc, &surface, &pairs)
-}
-
-/// The pairs that the walks come in.
-fn asked_pairs<'a>(alloc: Global, walks: &'a WalkList) -> Result<Vec<AskedPair<'a>>, AllocError>
-    ensures { IfOk result (λ pairs. walk_pairs pairs.items ≡ in_pairs walks.now.walks) }
+) -> Result<Vec<Placed>, AllocError>
+    ensures order { IfOk result (λ order. AreAllPairs (length walks.now.walks / 2) order.items) }
+    ensures few { length walks.now.walks ≤ MOST_LINES }
 {
     let count = walks.len() / 2;
-    let mut pairs = Vec::with_capacity(alloc, count as usize)?;
-    for k in 0..count {
-        pairs.push(AskedPair {
-            first: walks.at(2 * k),
-            second: walks.at(2 * k + 1),
-        })?;
+    let mut starts = Vec::with_capacity(alloc, count as usize)?;
+    for pair in 0..count {
+        starts.push(walks.at(2 * pair).at(0))?;
     }
-    Ok(pairs)
+    decider.order(alloc, &starts)
 }

@@ -14,8 +14,8 @@ use Rattle.component_deciding.proofs.own_numbers.number_vertices.Goals.{then-use
 
 pub index-number-requires : goal.index-number-requires
 index-number-requires c =
-    let used : is_used c.args.surface.now.faces.now c.loop-vertex.vertex ≡ true =
-    sym (c.if-used.ensures.mesh c.args.surface.now.faces.now c.requires.table) in
+    let used : is_used c.args.mesh.now.faces c.loop-vertex.vertex ≡ true =
+    sym (c.if-used.ensures.mesh c.args.mesh.now.faces c.requires.signed.table) in
     omega (
       arith,
       c.part_of-place.ensures,
@@ -26,8 +26,8 @@ index-number-requires c =
 
 pub index_mut-requires : goal.index_mut-requires
 index_mut-requires c =
-    let used : is_used c.args.surface.now.faces.now c.loop-vertex.vertex ≡ true =
-    sym (c.if-used.ensures.mesh c.args.surface.now.faces.now c.requires.table) in
+    let used : is_used c.args.mesh.now.faces c.loop-vertex.vertex ≡ true =
+    sym (c.if-used.ensures.mesh c.args.mesh.now.faces c.requires.signed.table) in
     omega (
       arith,
       c.part_of-place.ensures,
@@ -38,10 +38,10 @@ index_mut-requires c =
 
 pub overflow_add-index_mut : goal.overflow_add-index_mut
 overflow_add-index_mut c =
-    let mesh = c.args.surface.now.faces.now in
+    let mesh = c.args.mesh.now.faces in
     let v : ℕ = c.loop-vertex.vertex in
     let place : ℕ = c.part_of-place.result in
-    let used : is_used mesh v ≡ true = sym (c.if-used.ensures.mesh mesh c.requires.table) in
+    let used : is_used mesh v ≡ true = sym (c.if-used.ensures.mesh mesh c.requires.signed.table) in
     let inside : place < length c.loop-vertex.counts.items =
     omega (arith, c.part_of-place.ensures, c.requires.parts.places.below v used, c.loop-vertex.invariant.each_component) in
     let read : c.index_mut.result.now ≡ get_or c.loop-vertex.counts.items place 0 =
@@ -50,7 +50,7 @@ overflow_add-index_mut c =
       arith,
       read,
       c.loop-vertex.invariant.counted place inside,
-      group_of_within (place_of_used mesh c.args.surface.now.parts.now) place v,
+      group_of_within (place_of_used mesh c.args.parts.now) place v,
       c.loop-vertex-test.true,
       c.count-count.ensures.count,
       c.count-count.ensures.small.few_vertices,
@@ -58,8 +58,8 @@ overflow_add-index_mut c =
 
 pub loop-vertex-preserved : goal.loop-vertex-preserved
 loop-vertex-preserved c =
-    let mesh = c.args.surface.now.faces.now in
-    let parts = c.args.surface.now.parts.now in
+    let mesh = c.args.mesh.now.faces in
+    let parts = c.args.parts.now in
     let v : ℕ = c.loop-vertex.vertex in
     let counts : List ℕ = c.loop-vertex.counts.items in
     let inv = c.loop-vertex.invariant in
@@ -69,7 +69,7 @@ loop-vertex-preserved c =
     elim c.if-used.branch [
       | then-used w ↦
           (let place : ℕ = w.part_of-place.result in
-          let used : is_used mesh v ≡ true = sym (w.if-used.ensures.mesh mesh c.requires.table) in
+          let used : is_used mesh v ≡ true = sym (w.if-used.ensures.mesh mesh c.requires.signed.table) in
           let below = c.requires.parts.places.below v used in
           let inside : place < length counts = omega (arith, w.part_of-place.ensures, below, inv.each_component) in
           let read : w.index_mut.result.now ≡ get_or counts place 0 = get_or_read counts place _ inside w.index_mut.ensures.value 0 in
@@ -87,7 +87,7 @@ loop-vertex-preserved c =
                 inv.each_vertex (λ _. number) inv.numbered);
           })
       | else-used w ↦
-          (let unused : is_used mesh v ≡ false = sym (w.if-used.ensures.mesh mesh c.requires.table) in
+          (let unused : is_used mesh v ≡ false = sym (w.if-used.ensures.mesh mesh c.requires.signed.table) in
           record {
             each_component = ap (λ (x : Vec ℕ Global). length x.items) w.counts-is ∙ inv.each_component;
             each_vertex = long;
@@ -99,8 +99,8 @@ loop-vertex-preserved c =
 
 pub returns : goal.returns
 returns c =
-    let mesh = c.args.surface.now.faces.now in
-    let parts = c.args.surface.now.parts.now in
+    let mesh = c.args.mesh.now.faces in
+    let parts = c.args.parts.now in
     let inv = c.loop-vertex.invariant in
     let all : c.loop-vertex.vertex ≡ mesh.count =
     omega (arith, c.loop-vertex-test.false, c.count-count.ensures.count, c.loop-vertex.auto.vertex-end) in

@@ -8,9 +8,9 @@ use Rattle.component_deciding.proofs.own_numbers.number_vertices.Given as goal
 
 abbrev pub invariant-loop-vertex : goal.invariant-loop-vertex
 invariant-loop-vertex l = record {
-  each_component : length l.counts.items ≡ length l.surface.parts.now.components;
+  each_component : length l.counts.items ≡ length l.parts.components;
   each_vertex : length l.numbers.items ≡ l.vertex;
-  counted : IsCounted (place_of_used l.surface.faces.now l.surface.parts.now) l.vertex l.counts.items;
-  numbered : (v : ℕ) → v < l.vertex → is_used l.surface.faces.now v ≡ true → get_or l.numbers.items v 0
-      ≡ own_number (component_mesh l.surface.faces.now l.surface.parts.now (get_or l.surface.parts.now.places v 0)) v;
+  counted : IsCounted (place_of_used l.mesh.faces l.parts) l.vertex l.counts.items;
+  numbered : (v : ℕ) → v < l.vertex → is_used l.mesh.faces v ≡ true → get_or l.numbers.items v 0
+      ≡ own_number (component_mesh l.mesh.faces l.parts (get_or l.parts.places v 0)) v;
 }

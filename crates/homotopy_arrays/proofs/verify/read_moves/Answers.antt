@@ -4,7 +4,7 @@ use Rattle.surf_model.specs.Moves.{PeakedMoves}
 use Rattle.surf_model.specs.declared.moves.Move.{Move}
 use Rattle.walk_files.specs.Readers.{Certificate, moves_left, answer_first, after_answer}
 use Rattle.walk_files.proofs.EachLemmas.{before_ok}
-use Rattle.homotopy_arrays.proofs.CertificateLemmas.{one_more}
+use Rattle.verify_commands.proofs.Gathering.{one_more}
 use Rattle.homotopy_arrays.proofs.verify.read_moves.Goals as goal
 
 pub moves-preserved : goal.moves-preserved

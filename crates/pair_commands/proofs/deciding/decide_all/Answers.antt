@@ -1,63 +1,158 @@
-use Rattle.std.proofs.Common.{◌≡◌, ℕ, ◌*◌, true, List, length, sym, ◌∙◌, subst, arith}
-use Rattle.std.specs.Prelude.{◌↔◌, MatchOption}
-use Rattle.std.proofs.lemmas.Grind.{common_steps}
+use Rattle.std.proofs.Common.{◌≡◌, ◌+◌, ◌/◌, ◌<◌, ℕ, true, List, length, get_or, set, sym, ap, ◌∙◌, subst, arith}
+use Rattle.std.proofs.lemmas.List.{get_or_read, length-set}
+use Rattle.std.proofs.lemmas.Result.{err_from_is_err_and}
+use Rattle.std.specs.Prelude.{Some}
 use Rattle.surf_model.specs.FaceLists.{FaceList}
-use Rattle.surf_model.specs.Moves as moves
+use Rattle.surf_model.specs.Edges.{IsTableOf}
 use Rattle.surf_model.specs.Walks.{AreWalkPair}
-use Rattle.walk_files.specs.PairLists.{are_paired, in_pairs}
-use Rattle.surf_model.specs.declared.decisions.Answer.{Answer}
-use Rattle.surf_model.specs.declared.decisions.Answer.TheVariants.{Homotopic}
-use Rattle.pair_commands.specs.Decide.{AreFirstDecisions}
-use Rattle.pair_commands.proofs.PairDecisions.{all_pairs, decision_more, decisions_all, no_pairs, paired_even, pairs_more}
+use Rattle.walk_files.specs.PairLists.{are_paired}
+use Rattle.component_deciding.specs.Orders.{AreAllPairs}
+use Rattle.component_deciding.specs.PairDeciders.{IsFoundOn, mesh_of}
+use Rattle.component_deciding.specs.declared.order.Placed.{Placed}
+use Rattle.component_deciding.proofs.OrderLemmas.{HoldsUpTo, all_hold, as_many, entry_within, holds_more}
+use Rattle.pair_commands.proofs.PairDecisions.{IsDecidedAt, found_at, no_pairs, paired_even, pairs_decided}
 use Rattle.pair_commands.proofs.deciding.decide_all.Goals as goal
+use Rattle.pair_commands.proofs.deciding.decide_all.Goals.{in-Some, in-None+in_ok-check_list-in-None, then-not-are_paired+in_ok-check_list, else-not-are_paired}
 
-pub returns-in_default-clause-decisions : goal.returns-in_default-clause-decisions
-returns-in_default-clause-decisions c =
-    let first = c.at.result.now in
-    let second = c.at-in-loop-k.result.now in
-    no_pairs c.args.decider.now c.args.walks.now c.loop-k.k first second c.at.ensures c.at-in-loop-k.ensures
-    (subst (λ (mesh : FaceList). AreWalkPair mesh first second → ⊥) c.loop-k.invariant.same
-    (rw c.in_default.is at c.in_ok-pair.ensures.answer))
+pub returns-in_err-check_list-clause-ends : goal.returns-in_err-check_list-clause-ends
+returns-in_err-check_list-clause-ends c =
+    let p = err_from_is_err_and c.from_residual.result c.from_residual.ensures.1 in
+    rw (p.1, p.2) (c.in_err-check_list.ensures.ends (mesh_of c.args.decider.now) c.sides.ensures)
 
-pub loop-k-preserved : goal.loop-k-preserved
-loop-k-preserved c =
-    let mesh = c.args.decider.now in
-    let walks = c.args.walks.now.walks in
-    let k : ℕ = c.loop-k.k in
-    let first = c.at.result.now in
-    let second = c.at-in-loop-k.result.now in
-    let decision = c.in-Some.decision in
-    let told =
-    subst (λ (m : FaceList). MatchOption c.in_ok-pair.pair (AreWalkPair m first second → ⊥)
-    (λ answer. AreWalkPair m first second × ((answer ≡ Homotopic) ↔ moves.Homotopic m first second))) c.loop-k.invariant.same
-    c.in_ok-pair.ensures.answer in
-    let here : AreWalkPair mesh first second × ((decision ≡ Homotopic) ↔ moves.Homotopic mesh first second) = rw c.in-Some.is at told in
-    record {
-      same = c.in_ok-pair.ensures.same ∙ c.loop-k.invariant.same;
-      pairs = pairs_more mesh walks k first second c.loop-k.invariant.pairs c.at.ensures c.at-in-loop-k.ensures here.0;
-      first =
-          subst (λ (decisions : List Answer). AreFirstDecisions mesh (in_pairs walks) decisions) (sym c.in_ok-push.ensures.items)
-          (decision_more mesh walks c.loop-k.decisions.items k first second decision c.loop-k.invariant.counted c.at.ensures
-          c.at-in-loop-k.ensures c.loop-k.invariant.first here.1);
-      counted = grind (arith, common_steps);
-    }
+pub returns-in_err-check_list-in-None-clause-ends : goal.returns-in_err-check_list-in-None-clause-ends
+returns-in_err-check_list-in-None-clause-ends c =
+    let mesh = mesh_of c.args.decider.now in
+    let p = err_from_is_err_and c.from_residual-in_err-check_list-in-None.result c.from_residual-in_err-check_list-in-None.ensures.1 in
+    let table : IsTableOf mesh c.sides-in-None.result.now =
+    subst (λ (m : FaceList). IsTableOf m c.sides-in-None.result.now) (c.in_ok-decision.ensures.same ∙ c.loop-at.invariant.same)
+    c.sides-in-None.ensures in
+    rw (p.1, p.2) (c.in_err-check_list-in-None.ensures.ends mesh table)
 
-pub returns-clause-decisions : goal.returns-clause-decisions
-returns-clause-decisions c =
-    let text = c.args.walks.now in
-    let k : ℕ = c.loop-k.k in
-    let paired : are_paired text.version (length text.walks) ≡ true = sym c.are_paired.ensures ∙ c.if-not-are_paired.false in
-    let all : length text.walks ≡ 2 * k =
+-- the pair that stands next in the order is one of them
+below : (count at : ℕ) (order : List Placed) (entry : Placed) → AreAllPairs count order → (l : at < length order)
+    → entry ≡ get_or order at entry → entry.pair < count
+below count at order entry are l is =
+    omega (arith, ap (λ (p : Placed). p.pair) is, entry_within count order at entry are l)
+
+holds_next : {X : Type 0} (Holds : ℕ → X → Type 0) (order : List Placed) (n : ℕ) (xs : List X) (entry : Placed) (x : X)
+    → entry ≡ get_or order n entry → entry.pair < length xs → n < length order → Holds entry.pair x → HoldsUpTo Holds order n xs
+    → HoldsUpTo Holds order (n + 1) (set xs entry.pair x)
+holds_next {X} Holds order n xs entry x is inside few holds before =
+    subst (λ (p : Placed). p.pair < length xs → Holds p.pair x → HoldsUpTo Holds order (n + 1) (set xs p.pair x)) (sym is)
+    (λ b h. holds_more Holds order n xs entry x b few h before) inside holds
+
+pub overflow_mul-first : goal.overflow_mul-first
+overflow_mul-first c =
     omega (
       arith,
-      paired_even text.version (length text.walks) paired,
-      c.loop-k-test.false,
-      c.loop-k.auto.k-end,
-      c.len-count.ensures.count,
+      below (length c.args.walks.now.walks / 2) c.loop-at.at c.in_ok-order.order.items c.index.result.now c.in_ok-order.ensures.order
+          (omega (arith, c.loop-at-test.true))
+          (get_or_read c.in_ok-order.order.items c.loop-at.at _ (omega (arith, c.loop-at-test.true)) c.index.ensures c.index.result.now),
+      c.in_ok-order.ensures.few,
+    )
+
+pub overflow_mul-second : goal.overflow_mul-second
+overflow_mul-second c =
+    omega (
+      arith,
+      below (length c.args.walks.now.walks / 2) c.loop-at.at c.in_ok-order.order.items c.index.result.now c.in_ok-order.ensures.order
+          (omega (arith, c.loop-at-test.true))
+          (get_or_read c.in_ok-order.order.items c.loop-at.at _ (omega (arith, c.loop-at-test.true)) c.index.ensures c.index.result.now),
+      c.in_ok-order.ensures.few,
+    )
+
+pub overflow_add-second : goal.overflow_add-second
+overflow_add-second c =
+    omega (
+      arith,
+      below (length c.args.walks.now.walks / 2) c.loop-at.at c.in_ok-order.order.items c.index.result.now c.in_ok-order.ensures.order
+          (omega (arith, c.loop-at-test.true))
+          (get_or_read c.in_ok-order.order.items c.loop-at.at _ (omega (arith, c.loop-at-test.true)) c.index.ensures c.index.result.now),
+      c.in_ok-order.ensures.few,
+    )
+
+pub at-requires : goal.at-requires
+at-requires c =
+    omega (
+      arith,
+      below (length c.args.walks.now.walks / 2) c.loop-at.at c.in_ok-order.order.items c.index.result.now c.in_ok-order.ensures.order
+          (omega (arith, c.loop-at-test.true))
+          (get_or_read c.in_ok-order.order.items c.loop-at.at _ (omega (arith, c.loop-at-test.true)) c.index.ensures c.index.result.now),
+    )
+
+pub at-requires-in-loop-at : goal.at-requires-in-loop-at
+at-requires-in-loop-at c =
+    omega (
+      arith,
+      below (length c.args.walks.now.walks / 2) c.loop-at.at c.in_ok-order.order.items c.index.result.now c.in_ok-order.ensures.order
+          (omega (arith, c.loop-at-test.true))
+          (get_or_read c.in_ok-order.order.items c.loop-at.at _ (omega (arith, c.loop-at-test.true)) c.index.ensures c.index.result.now),
+    )
+
+pub index_mut-requires : goal.index_mut-requires
+index_mut-requires c =
+    omega (
+      arith,
+      below (length c.args.walks.now.walks / 2) c.loop-at.at c.in_ok-order.order.items c.index.result.now c.in_ok-order.ensures.order
+          (omega (arith, c.loop-at-test.true))
+          (get_or_read c.in_ok-order.order.items c.loop-at.at _ (omega (arith, c.loop-at-test.true)) c.index.ensures c.index.result.now),
+      as_many (length c.args.walks.now.walks / 2) c.in_ok-order.order.items c.in_ok-order.ensures.order,
+      c.loop-at.invariant.each,
+    )
+
+pub loop-at-preserved : goal.loop-at-preserved
+loop-at-preserved c =
+    let mesh = mesh_of c.args.decider.now in
+    let text = c.args.walks.now in
+    let order : List Placed = c.in_ok-order.order.items in
+    let entry : Placed = c.index.result.now in
+    let at : ℕ = c.loop-at.at in
+    let pair : ℕ = entry.pair in
+    let first = c.at.result.now in
+    let second = c.at-in-loop-at.result.now in
+    let count : ℕ = length text.walks / 2 in
+    let few : at < length order = omega (arith, c.loop-at-test.true) in
+    let is : entry ≡ get_or order at entry = get_or_read order at entry few c.index.ensures entry in
+    let inside : pair < length c.loop-at.decisions.items =
+    omega (
+      arith,
+      below count at order entry c.in_ok-order.ensures.order few is,
+      as_many count order c.in_ok-order.ensures.order,
+      c.loop-at.invariant.each,
     ) in
-    record {
-      pairs = all_pairs c.args.decider.now text k paired all c.loop-k.invariant.pairs;
-      right =
-          decisions_all c.args.decider.now text.walks c.loop-k.decisions.items c.loop-k.invariant.first
-          (omega (arith, all, c.loop-k.invariant.counted));
-    }
+    let same : mesh_of c.answer_if_pair.new.self ≡ mesh = c.in_ok-decision.ensures.same ∙ c.loop-at.invariant.same in
+    elim c.match-branch-5.branch [
+      | in-Some w ↦
+          (let told : IsFoundOn (mesh_of c.loop-at.decider) first second (Some w.in-Some.decision) =
+          subst (IsFoundOn (mesh_of c.loop-at.decider) first second) w.in-Some.is c.in_ok-decision.ensures.answer in
+          let here : IsDecidedAt mesh text.walks pair w.in-Some.decision =
+          found_at (mesh_of c.loop-at.decider) mesh text.walks pair first second w.in-Some.decision c.at.ensures c.at-in-loop-at.ensures
+          c.loop-at.invariant.same told in
+          record {
+            same = same;
+            each = rw w.decisions-is (length-set c.loop-at.decisions.items pair w.in-Some.decision ∙ c.loop-at.invariant.each);
+            right = rw w.decisions-is (holds_next (IsDecidedAt mesh text.walks) order at c.loop-at.decisions.items entry w.in-Some.decision is
+                inside few here c.loop-at.invariant.right);
+          })
+      | in-None+in_ok-check_list-in-None w ↦
+          (let table : IsTableOf mesh w.sides-in-None.result.now = subst (λ (m : FaceList). IsTableOf m w.sides-in-None.result.now) same w.sides-in-None.ensures in
+          let none : AreWalkPair mesh first second → ⊥ =
+          subst (λ (m : FaceList). AreWalkPair m first second → ⊥) c.loop-at.invariant.same
+          (rw w.in-None.is at c.in_ok-decision.ensures.answer) in
+          absurd (no_pairs mesh text pair first second c.at.ensures c.at-in-loop-at.ensures none (w.in_ok-check_list-in-None.ensures.ends mesh table)))
+    ]
+
+pub returns-clause-ends : goal.returns-clause-ends
+returns-clause-ends c =
+    let mesh = mesh_of c.args.decider.now in
+    let text = c.args.walks.now in
+    let order : List Placed = c.in_ok-order.order.items in
+    let count : ℕ = length text.walks / 2 in
+    let paired : are_paired text.version (length text.walks) ≡ true = elim c.if-not-are_paired.branch [
+      | then-not-are_paired+in_ok-check_list w ↦ (w.in_ok-check_list.ensures.ends mesh w.sides.ensures).paired
+      | else-not-are_paired w ↦ sym c.are_paired.ensures ∙ w.if-not-are_paired.false
+    ] in
+    pairs_decided mesh text count c.loop-at.decisions.items paired (paired_even text.version (length text.walks) paired)
+    (c.loop-at.invariant.each ∙ as_many count order c.in_ok-order.ensures.order)
+    (all_hold (IsDecidedAt mesh text.walks) order c.loop-at.decisions.items c.loop-at.at count (omega (arith, c.loop-at-test.false))
+    c.in_ok-order.ensures.order c.loop-at.invariant.right)

@@ -1,15 +1,14 @@
 use Rattle.std.proofs.Common.{◌≡◌, length}
-use Rattle.walk_files.specs.PairLists.{in_pairs}
-use Rattle.pair_commands.specs.Decide.{AreFirstDecisions}
-use Rattle.pair_commands.proofs.PairDecisions.{ArePairsBelow}
+use Rattle.component_deciding.specs.PairDeciders.{mesh_of}
+use Rattle.component_deciding.proofs.OrderLemmas.{HoldsUpTo}
+use Rattle.pair_commands.proofs.PairDecisions.{IsDecidedAt}
 use Rattle.pair_commands.proofs.deciding.decide_all.Given as goal
 
--- the pairs so far, and the decisions on them
-abbrev pub invariant-loop-k : goal.invariant-loop-k
-invariant-loop-k l =
+-- the decisions on the pairs so far
+abbrev pub invariant-loop-at : goal.invariant-loop-at
+invariant-loop-at l =
     record {
-      same : l.decider ≡ l.fn.decider;
-      pairs : ArePairsBelow l.fn.decider l.walks.walks l.k;
-      first : AreFirstDecisions l.fn.decider (in_pairs l.walks.walks) l.decisions.items;
-      counted : l.k ≡ length l.decisions.items;
+      same : mesh_of l.decider ≡ mesh_of l.fn.decider;
+      each : length l.decisions.items ≡ length l.order.items;
+      right : HoldsUpTo (IsDecidedAt (mesh_of l.fn.decider) l.walks.walks) l.order.items l.at l.decisions.items;
     }

@@ -1,0 +1,114 @@
+//! Deciding on pairs of walks of a surface of several components.
+ghost use Rattle.std.specs.Prelude.{◌≡◌, ◌<◌, length, None, IfOk, IfSome};
+ghost use Rattle.closed_surfaces.specs.SignedSurfaces.{IsSigned};
+ghost use Rattle.component_deciding.specs.OwnVertices.{IsApart, IsLabelled, own_mesh};
+ghost use Rattle.component_deciding.specs.PairDeciders.{IsFoundOn};
+ghost use Rattle.surf_model.specs.ComponentParts.{AreParts, component_mesh};
+ghost use Rattle.surf_model.specs.Edges.{IsTableOf};
+
+use crate::apart::Apart;
+use crate::own_mesh::{own_surface, own_walk};
+use crate::own_numbers::number_vertices;
+use closed_surfaces::SignedMesh;
+use manifold_check::Parts;
+use std::alloc::{AllocError, Global};
+use std::marker::Model;
+use surf_model::{Answer, Sides, VertexName, Walk};
+use walk_translate::Decider;
+
+/// A surface of several components, of which pairs of walks may be asked. Contracts see its mesh.
+#[derive(Drop)]
+pub struct Several {
+    apart: Apart,
+    /// The component of the pair before, by its place, with its labels. It is given back before another is labelled.
+    last: Option<(u32, Decider)>,
+}
+
+impl Model for Several {
+    ghost use Rattle.std.specs.Prelude.{IfSome};
+    ghost use Rattle.component_deciding.specs.OwnVertices.{IsApart, IsLabelled};
+    ghost use Rattle.surf_model.specs.FaceLists.{FaceList};
+
+    ghost Value = { FaceList };
+
+    ghost view = { λ a. a.apart.mesh.faces };
+
+    ghost invariant = { λ a. IsApart a.apart × IfSome a.last (IsLabelled a.apart) };
+}
+
+impl Several {
+    /// Numbers the vertices of each component. Nothing is labelled yet.
+    pub(crate) fn of(alloc: Global, mesh: SignedMesh, parts: Parts) -> Result<Several, AllocError>
+        requires signed { IsSigned mesh }
+        requires parts { AreParts mesh.faces parts }
+        ensures { IfOk result (λ several. several ≡ mesh.faces) }
+    {
+        let own = number_vertices(alloc, &mesh, &parts)?;
+        let apart = Apart {
+            alloc,
+            mesh,
+            parts,
+            own,
+        };
+        Ok(Several { apart, last: None })
+    }
+
+    /// The edge table of the surface.
+    pub(crate) fn sides(&self) -> &Sides
+        ensures { IsTableOf self.now result.now }
+    {
+        &self.apart.mesh.sides
+    }
+
+    /// The place of the component of a vertex, or some number for one that no face names.
+    pub(crate) fn place_of(&self, vertex: VertexName) -> u32 {
+        self.apart.place_of(vertex).unwrap_or(0)
+    }
+
+    /// Decides whether two walks are homotopic, or tells by `None` that they are no walks of the surface with common ends. Their component
+    /// is labelled where the pair before lay in another.
+    pub(crate) fn answer_if_pair(
+        &mut self,
+        first: &Walk,
+        second: &Walk,
+    ) -> Result<Option<Answer>, AllocError>
+        ensures same { self.new ≡ self.old }
+        ensures answer { IfOk result (IsFoundOn self.old first.now second.now) }
+    {
+        let Some(place) = self.apart.place_of(first.at(0)) else {
+            return Ok(None);
+        };
+        let Some(one) = own_walk(&self.apart, place, first)? else {
+            return Ok(None);
+        };
+        let Some(other) = own_walk(&self.apart, place, second)? else {
+            return Ok(None);
+        };
+        let mut decider = take_labelled(&self.apart, &mut self.last, place)?;
+        let found = decider.answer_if_pair(&one, &other);
+        self.last = Some((place, decider));
+        found
+    }
+}
+
+/// A component by its place with its labels, which are made where it is not the one that is kept. They are the caller's then.
+fn take_labelled(
+    apart: &Apart,
+    last: &mut Option<(u32, Decider)>,
+    place: u32,
+) -> Result<Decider, AllocError>
+    requires apart { IsApart apart.now }
+    requires place { place < length apart.now.parts.components }
+    requires last { IfSome last.old (IsLabelled apart.now) }
+    ensures taken { last.new ≡ None }
+    ensures decider { IfOk result (λ decider. decider ≡ own_mesh (component_mesh apart.now.mesh.faces apart.now.parts place)) }
+{
+    if let Some((at, decider)) = last.take() {
+        if at == place {
+            return Ok(decider);
+        }
+        drop(decider);
+    }
+    let alone = own_surface(apart, place)?;
+    Decider::start(apart.alloc, alone)
+}
