@@ -2,3 +2,4 @@ pub mod OwnLemmas
 pub mod ComponentLemmas
 pub mod OwnSurfaces
 pub mod OrderLemmas
+pub mod SphereLemmas

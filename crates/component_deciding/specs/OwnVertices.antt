@@ -3,6 +3,7 @@ use Rattle.std.specs.Prelude.{◌≡◌, ℕ, ◌<◌, List, length, map, filter
 use Rattle.std.specs.List.{range_with_len}
 use Rattle.surf_model.specs.FaceLists.{FaceList, IsFaceList, HasFileSize, is_used}
 use Rattle.surf_model.specs.ComponentParts.{PartsView, AreParts, component_mesh}
+use Rattle.closed_surfaces.specs.ComponentGenera.{AreGeneraOf}
 use Rattle.closed_surfaces.specs.SignedSurfaces.{IsSigned}
 use Rattle.component_deciding.specs.declared.apart.Apart.{Apart}
 use Rattle.component_deciding.specs.declared.own_numbers.OwnNumbers.{OwnNumbers}
@@ -33,11 +34,12 @@ pub record AreOwnNumbers (mesh : FaceList) (parts : PartsView) (own : OwnNumbers
       → slice_index own.numbers.items v ≡ own_number (component_mesh mesh parts (slice_index parts.places v)) v
   pub counted : (k : ℕ) → k < length parts.components → slice_index own.counts.items k ≡ used_number (component_mesh mesh parts k)
 
--- an orientable closed surface with its components, and the numbers of their vertices
+-- an orientable closed surface with its components, the numbers of their vertices, and their genera
 pub record IsApart (apart : Apart) : Type 0 where
   pub signed : IsSigned apart.mesh
   pub parts : AreParts apart.mesh.faces apart.parts
   pub own : AreOwnNumbers apart.mesh.faces apart.parts apart.own
+  pub genera : AreGeneraOf apart.mesh.faces apart.genera.items
 
 -- the component at a place, as a mesh over its own vertices
 abbrev pub IsLabelled : Apart → ℕ × FaceList → Type 0

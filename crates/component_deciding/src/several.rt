@@ -9,7 +9,7 @@ ghost use Rattle.surf_model.specs.Edges.{IsTableOf};
 use crate::apart::Apart;
 use crate::own_mesh::{own_surface, own_walk};
 use crate::own_numbers::number_vertices;
-use closed_surfaces::SignedMesh;
+use closed_surfaces::{SignedMesh, genera_of};
 use manifold_check::Parts;
 use std::alloc::{AllocError, Global};
 use std::marker::Model;
@@ -37,18 +37,20 @@ impl Model for Several {
 }
 
 impl Several {
-    /// Numbers the vertices of each component. Nothing is labelled yet.
+    /// Numbers the vertices of each component, and finds its genus. Nothing is labelled yet.
     pub(crate) fn of(alloc: Global, mesh: SignedMesh, parts: Parts) -> Result<Several, AllocError>
         requires signed { IsSigned mesh }
         requires parts { AreParts mesh.faces parts }
         ensures { IfOk result (λ several. several ≡ mesh.faces) }
     {
         let own = number_vertices(alloc, &mesh, &parts)?;
+        let genera = genera_of(alloc, &mesh, &parts)?;
         let apart = Apart {
             alloc,
             mesh,
             parts,
             own,
+            genera,
         };
         Ok(Several { apart, last: None })
     }
@@ -66,7 +68,7 @@ impl Several {
     }
 
     /// Decides whether two walks are homotopic, or tells by `None` that they are no walks of the surface with common ends. Their component
-    /// is labelled where the pair before lay in another.
+    /// is labelled where it is no sphere, and the pair before lay in another.
     pub(crate) fn answer_if_pair(
         &mut self,
         first: &Walk,
@@ -78,6 +80,9 @@ impl Several {
         let Some(place) = self.apart.place_of(first.at(0)) else {
             return Ok(None);
         };
+        if self.apart.is_sphere(place) {
+            return Ok(self.apart.answer_on_sphere(place, first, second));
+        }
         let Some(one) = own_walk(&self.apart, place, first)? else {
             return Ok(None);
         };
