@@ -1,9 +1,10 @@
 //! Whether pairs of walks of a surface are homotopic, of one component or of several.
 //!
-//! A `PairDecider` is made of a surface once, and asked of any number of pairs. A connected surface is labelled as it is, with no face copied.
-//! Of several components each is labelled where a pair lies in it, as a mesh over its own vertices alone, numbered anew: so what it costs
-//! hangs on its own size, and not on that of the whole mesh. Who asks in the `order` that a decider tells has none labelled twice. Each answer
-//! is proved to be that of the whole mesh, in any order; that no component is labelled twice is meant, and no clause says so.
+//! A `PairDecider` is made of a surface once, and asked of any number of pairs. A connected surface is labelled as it is, with no face
+//! copied. Of several components each that is no sphere is labelled where a pair lies in it, as a mesh over its own vertices alone,
+//! numbered anew: so what it costs hangs on its own size, and not on that of the whole mesh. Who asks in the `order` that a decider tells
+//! has none labelled twice. Each answer is proved to be that of the whole mesh, in any order; that no component is labelled twice is
+//! meant, and no clause says so.
 //!
 //!     let mut decider = PairDecider::of(alloc, mesh, darts)?;
 //!     let answer = decider.answer_if_pair(&first, &second)?;

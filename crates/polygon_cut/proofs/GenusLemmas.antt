@@ -32,5 +32,6 @@ homotopic_at_genus_0 mesh first second valid is sphere pair =
     let euler : sphere.0.euler ≡ (pos (count_below (is_used mesh) mesh.count) -ℤ pos (length are.table)) +ℤ pos (length mesh.faces) =
     rw (sym are.vertices, sym are.edges, sym are.faces) are.euler in
     all_homotopic s split.0 first second o split.1
-    (none_left (count_below (is_used mesh) mesh.count) (length are.table) (length mesh.faces) split.0.genus sphere.0.euler count euler sphere.2)
+    (none_left (count_below (is_used mesh) mesh.count) (length are.table) (length mesh.faces) split.0.genus sphere.0.euler count euler
+    sphere.2)
     pair.first_walk pair.second_walk pair.ends

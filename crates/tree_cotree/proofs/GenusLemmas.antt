@@ -1,5 +1,5 @@
--- Each surface has a split, and so a genus: its edges are tried one after another, as a colouring is made, until they span its vertices, and
--- then its faces.
+-- Each surface has a split, and so a genus: its edges are tried one after another, as a colouring is made, until they span its vertices,
+-- and then its faces.
 use Rattle.std.proofs.Common.{◌≡◌, inl, inr, ℕ, zero, suc, ◌+◌, ◌*◌, ◌/◌, ◌<◌, ◌≤◌, Bool, true, false, List, length, get_or, refl, ap, sym, ◌∙◌, subst, arith}
 use Rattle.std.proofs.Math.ListN.{set}
 use Rattle.std.specs.List.{range_with_len}

@@ -14,7 +14,8 @@ use Rattle.component_deciding.proofs.own_mesh.own_walk.Goals as goal
 pub returns-in_default : goal.returns-in_default
 returns-in_default c = λ walk start.
     (let at : ℕ = c.loop-at.at in
-    let few : at < length c.args.walk.now = omega (arith, c.loop-at-test.true, c.darts-entries.ensures.count, c.darts-entries.ensures.starts) in
+    let few : at < length c.args.walk.now =
+    omega (arith, c.loop-at-test.true, c.darts-entries.ensures.count, c.darts-entries.ensures.starts) in
     let used : is_used c.args.apart.now.mesh.faces c.at-vertex.result.0 ≡ true =
     subst (λ (v : ℕ). is_used c.args.apart.now.mesh.faces v ≡ true) (sym c.at-vertex.ensures) (walk.used at 0 few) in
     both_ways (is_used c.args.apart.now.mesh.faces c.at-vertex.result.0) (c.in_default.ensures) used)
@@ -22,7 +23,8 @@ returns-in_default c = λ walk start.
 pub returns-then-there-place : goal.returns-then-there-place
 returns-then-there-place c = λ walk start.
     (let at : ℕ = c.loop-at.at in
-    let few : at < length c.args.walk.now = omega (arith, c.loop-at-test.true, c.darts-entries.ensures.count, c.darts-entries.ensures.starts) in
+    let few : at < length c.args.walk.now =
+    omega (arith, c.loop-at-test.true, c.darts-entries.ensures.count, c.darts-entries.ensures.starts) in
     let told = c.in-Some.ensures in
     let same : c.in-Some.there ≡ c.args.place =
     sym told.1 ∙ ap (λ (v : ℕ). get_or c.args.apart.now.parts.places v 0) c.at-vertex.ensures
@@ -49,7 +51,8 @@ loop-at-preserved c =
     let told = c.in-Some.ensures in
     let same : c.in-Some.there ≡ c.args.place = omega (arith, c.if-there-place.false) in
     let here : IsThere mesh c.args.apart.now.parts c.args.place c.at-vertex.result.0 = (told.0, told.1 ∙ same) in
-    let within : c.at-vertex.result.0 < length own = omega (arith, used_below mesh c.at-vertex.result.0 c.requires.own.valid told.0, c.requires.own.each_vertex) in
+    let within : c.at-vertex.result.0 < length own =
+    omega (arith, used_below mesh c.at-vertex.result.0 c.requires.own.valid told.0, c.requires.own.each_vertex) in
     record {
       there = subst (All (IsThere mesh c.args.apart.now.parts c.args.place)) (sym (take_more walk at 0 few))
           (All-push (IsThere mesh c.args.apart.now.parts c.args.place) _ _ c.loop-at.invariant.there

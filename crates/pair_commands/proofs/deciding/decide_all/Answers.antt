@@ -131,15 +131,18 @@ loop-at-preserved c =
           record {
             same = same;
             each = rw w.decisions-is (length-set c.loop-at.decisions.items pair w.in-Some.decision ∙ c.loop-at.invariant.each);
-            right = rw w.decisions-is (holds_next (IsDecidedAt mesh text.walks) order at c.loop-at.decisions.items entry w.in-Some.decision is
+            right = rw w.decisions-is
+                (holds_next (IsDecidedAt mesh text.walks) order at c.loop-at.decisions.items entry w.in-Some.decision is
                 inside few here c.loop-at.invariant.right);
           })
       | in-None+in_ok-check_list-in-None w ↦
-          (let table : IsTableOf mesh w.sides-in-None.result.now = subst (λ (m : FaceList). IsTableOf m w.sides-in-None.result.now) same w.sides-in-None.ensures in
+          (let table : IsTableOf mesh w.sides-in-None.result.now =
+          subst (λ (m : FaceList). IsTableOf m w.sides-in-None.result.now) same w.sides-in-None.ensures in
           let none : AreWalkPair mesh first second → ⊥ =
           subst (λ (m : FaceList). AreWalkPair m first second → ⊥) c.loop-at.invariant.same
           (rw w.in-None.is at c.in_ok-decision.ensures.answer) in
-          absurd (no_pairs mesh text pair first second c.at.ensures c.at-in-loop-at.ensures none (w.in_ok-check_list-in-None.ensures.ends mesh table)))
+          absurd (no_pairs mesh text pair first second c.at.ensures c.at-in-loop-at.ensures none
+          (w.in_ok-check_list-in-None.ensures.ends mesh table)))
     ]
 
 pub returns-clause-ends : goal.returns-clause-ends
