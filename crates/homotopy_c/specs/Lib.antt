@@ -3,3 +3,4 @@ pub mod Told
 pub mod Judged
 pub mod Certified
 pub mod Meanings
+pub mod Examples

@@ -1,0 +1,81 @@
+-- What each end of a call is told as, by the numbers that homotopy.h lists. Each is proved by computing.
+use Rattle.std.specs.Prelude.{◌≡◌, ℕ, true, false, refl}
+use Rattle.surf_model.specs.declared.names.FaceName.{FaceName}
+use Rattle.surf_model.specs.declared.names.VertexName.{VertexName}
+use Rattle.labellings.specs.declared.fault.LabelFault.TheVariants as labels
+use Rattle.labellings.specs.declared.verdict.DenialVerdict.TheVariants as denials
+use Rattle.move_checker.specs.declared.fault.MoveFault.TheVariants as moves
+use Rattle.move_checker.specs.declared.judge.Verdict.TheVariants as lists
+use Rattle.walk_files.specs.declared.fault.CertFault.TheVariants as texts
+use Rattle.walk_files.specs.declared.pair.PairFault.TheVariants.{NoVertex, NoEdge, EndsDiffer}
+use Rattle.commands.specs.declared.limits.OverLimit.TheVariants.{Sides, Darts}
+use Rattle.homotopy_arrays.specs.declared.certify.CertifyFault.TheVariants.{Over}
+use Rattle.homotopy_arrays.specs.declared.decide.PairAnswer.TheVariants.{Homotopic, Different, Faulty}
+use Rattle.homotopy_arrays.specs.declared.fault.Fault.TheVariants as faults
+use Rattle.homotopy_arrays.specs.declared.pair.WalkFault.TheVariants.{Empty, Long, Pair}
+use Rattle.homotopy_arrays.specs.declared.verify.VerifyFault.TheVariants as unjudged
+use Rattle.homotopy_c.specs.Certified.{told_certify}
+use Rattle.homotopy_c.specs.Judged.{judged_moves, judged_labels, judged_denial, told_certificate, told_verify}
+use Rattle.homotopy_c.specs.Outcomes.{byte_of, coded, done, short_room, told, told_walks}
+
+abbrev named : ℕ → VertexName
+named v = record { 0 = v }
+
+abbrev face : ℕ → FaceName
+face f = record { 0 = f }
+
+-- ---- arrays, and the meshes that they are
+
+arrays :
+    (done ≡ coded 0 0 0 0) × (short_room 9 ≡ coded 4 9 0 0) × (told faults.OutOfMemory ≡ coded 5 0 0 0)
+    × (told faults.ManyVertices ≡ coded 10 0 0 0) × (told faults.CornerCount ≡ coded 11 0 0 0) × (told faults.ManySides ≡ coded 12 0 0 0)
+    × (told (faults.FewCorners (face 3)) ≡ coded 13 3 0 0) × (told (faults.NoVertex (face 3)) ≡ coded 14 3 0 0)
+    × (told (faults.EqualNeighbours (face 3)) ≡ coded 15 3 0 0)
+arrays = (refl, refl, refl, refl, refl, refl, refl, refl, refl)
+
+meshes :
+    (told faults.NoFace ≡ coded 20 0 0 0) × (told (faults.EdgeSides (named 1) (named 2) 3) ≡ coded 21 1 2 3)
+    × (told (faults.Pinched (named 4)) ≡ coded 22 4 0 0) × (told faults.NotOrientable ≡ coded 23 0 0 0)
+meshes = (refl, refl, refl, refl)
+
+-- ---- walks
+
+walks :
+    (told faults.WalkCount ≡ coded 30 0 0 0) × (told_walks (Empty 2) ≡ coded 31 2 0 0) × (told_walks (Long 1) ≡ coded 32 1 0 0)
+    × (told_walks (Pair (NoVertex 1 5)) ≡ coded 33 1 5 0) × (told_walks (Pair (NoEdge 2 0)) ≡ coded 34 2 0 0)
+    × (told_walks (Pair (EndsDiffer true)) ≡ coded 35 0 0 0) × (told_walks (Pair (EndsDiffer false)) ≡ coded 36 0 0 0)
+walks = (refl, refl, refl, refl, refl, refl, refl)
+
+bytes :
+    (byte_of Homotopic ≡ 1) × (byte_of Different ≡ 2) × (byte_of (Faulty (Empty 2)) ≡ 31) × (byte_of (Faulty (Long 1)) ≡ 32)
+    × (byte_of (Faulty (Pair (NoVertex 1 5))) ≡ 33) × (byte_of (Faulty (Pair (NoEdge 2 0))) ≡ 34)
+    × (byte_of (Faulty (Pair (EndsDiffer true))) ≡ 35) × (byte_of (Faulty (Pair (EndsDiffer false))) ≡ 36)
+bytes = (refl, refl, refl, refl, refl, refl, refl, refl)
+
+-- ---- certificates
+
+certificates :
+    (told_verify unjudged.Long ≡ coded 40 0 0 0) × (told_certificate texts.NoHead ≡ coded 41 0 0 0)
+    × (told_certificate (texts.Bad 2) ≡ coded 42 2 0 0) × (told_certificate (texts.Ended 3) ≡ coded 43 3 0 0)
+    × (told_certificate (texts.Extra 4) ≡ coded 44 4 0 0) × (told_certificate (texts.Peak 1) ≡ coded 45 1 0 0)
+    × (told_certificate texts.OutOfMemory ≡ coded 5 0 0 0)
+certificates = (refl, refl, refl, refl, refl, refl, refl)
+
+verdicts_on_lists :
+    (judged_moves lists.Accepted ≡ coded 3 0 0 0) × (judged_moves lists.Peak ≡ coded 50 0 0 0)
+    × (judged_moves (lists.AtMove 1 moves.Place) ≡ coded 51 1 0 0) × (judged_moves (lists.AtMove 2 moves.NoEdge) ≡ coded 52 2 0 0)
+    × (judged_moves (lists.AtMove 3 moves.NotSpur) ≡ coded 53 3 0 0) × (judged_moves (lists.AtMove 4 moves.NotOnFace) ≡ coded 54 4 0 0)
+    × (judged_moves (lists.AtMove 5 moves.OverPeak) ≡ coded 55 5 0 0) × (judged_moves lists.End ≡ coded 56 0 0 0)
+verdicts_on_lists = (refl, refl, refl, refl, refl, refl, refl, refl)
+
+verdicts_on_denials :
+    (judged_denial denials.Accepted ≡ coded 3 0 0 0) × (judged_denial (denials.Label labels.Shape) ≡ coded 57 0 0 0)
+    × (judged_denial (denials.Label (labels.Degree 3)) ≡ coded 58 3 0 0)
+    × (judged_denial (denials.Label (labels.PlaceTwice 1)) ≡ coded 59 1 0 0)
+    × (judged_denial (denials.Label (labels.EdgeRule (named 0) (named 6))) ≡ coded 60 0 6 0)
+    × (judged_labels labels.OutOfMemory ≡ coded 5 0 0 0) × (judged_denial (denials.WordWrong 2) ≡ coded 61 2 0 0)
+    × (judged_denial denials.Equal ≡ coded 62 0 0 0)
+verdicts_on_denials = (refl, refl, refl, refl, refl, refl, refl, refl)
+
+limits : (told_certify (Over (Sides 16388)) ≡ coded 70 16388 0 0) × (told_certify (Over (Darts 513)) ≡ coded 71 513 0 0)
+limits = (refl, refl)
