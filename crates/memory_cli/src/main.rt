@@ -8,10 +8,10 @@
 #![tactic(auto)]
 
 use program::run;
+use std::io;
 use std::process::ExitCode;
 use std::rt::{Env, Files};
-use std::{env, io};
-use surf_io::{FileShelf, MemoryShelf, QuietSink, ReadEnd, read_whole};
+use surf_io::{FileShelf, MemoryShelf, QuietSink, ReadEnd, read_whole, read_words};
 
 /// How the program ends where it has not come so far as to ask anything. No status of an answer has this number.
 const NOT_FILLED: u8 = 6;
@@ -29,7 +29,7 @@ fn main(rt: HostRuntime) -> ExitCode {
 
 /// The words behind the program's name, and the files that they name. A word that names no file is passed over.
 fn fill<R: Env + Files + AllocGlobal>(rt: &R) -> io::Result<(Vec<String>, MemoryShelf)> {
-    let words: Vec<String> = env::args(rt)?.skip(1).collect(rt.alloc())?;
+    let words = read_words(rt)?;
     let mut shelf = MemoryShelf::new(rt.alloc());
     for name in &words {
         let mut files = FileShelf::new(rt, rt.alloc());

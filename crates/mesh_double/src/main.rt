@@ -9,18 +9,11 @@
 use commands::Status;
 use double_commands::{refuse_words, write_double};
 use std::process::ExitCode;
-use std::rt::Env;
-use std::{env, io};
-use surf_io::{FileShelf, OutSink};
+use surf_io::{FileShelf, OutSink, read_words};
 
 fn main(rt: HostRuntime) -> ExitCode {
-    let words = match read_words(&rt) {
-        Ok(words) => words,
-        Err(error) if error.kind() == io::ErrorKind::OutOfMemory => {
-            return ExitCode::from(Status::OutOfMemory.number());
-        }
-        // Words that are no text are no name of a file, as no words are.
-        Err(_) => Vec::new(rt.alloc()),
+    let Ok(words) = read_words(&rt) else {
+        return ExitCode::from(Status::OutOfMemory.number());
     };
     let mut shelf = FileShelf::new(&rt, rt.alloc());
     let mut out = OutSink::new(&rt);
@@ -29,9 +22,4 @@ fn main(rt: HostRuntime) -> ExitCode {
         _ => refuse_words(&mut out),
     };
     ExitCode::from(status.number())
-}
-
-/// The words behind the program's name.
-fn read_words<R: Env + AllocGlobal>(rt: &R) -> io::Result<Vec<String>> {
-    Ok(env::args(rt)?.skip(1).collect(rt.alloc())?)
 }

@@ -1,4 +1,4 @@
-//! The world outside, as files to read by name and a sink to write to, with a count of faults.
+//! The world outside, as files to read by name and a sink to write to, with a count of faults, and the words of a program.
 //!
 //! A caller sees a shelf as the files that it holds and a sink as the bytes that it took, where they tell; and each as a
 //! count of faults. Proved: what is read whole is the file, what is written is appended, digits and all, and a read or a
@@ -23,6 +23,7 @@ mod read;
 mod shelf;
 mod sink;
 mod stored_files;
+mod words;
 mod write;
 
 pub use digits::{put_natural, put_signed};
@@ -37,4 +38,5 @@ pub use quiet_sink::QuietSink;
 pub use read::{ReadEnd, read_whole};
 pub use shelf::Shelf;
 pub use sink::Sink;
+pub use words::read_words;
 pub use write::write_whole;
