@@ -1,8 +1,5 @@
 -- Entries of a chain that go, some at a time.
-use Rattle.std.proofs.Common.{◌≡◌, ◌≢◌, ℕ, ◌+◌, ◌≤◌, List, length, Some, refl, sym, ap, ◌∙◌, arith}
-use Rattle.std.proofs.lemmas.List.{take-append-drop}
-use Rattle.chain_pool.specs.Chains.{Chains, under, IsUnder, IsEdit, list_under, cut}
-use Rattle.chain_pool.proofs.Lists.{list_is, list_under-is}
+use Rattle.segmented_pool.proofs.Common.{list_is, list_under-is, Chains, under, IsUnder, IsEdit, list_under, cut, ◌≡◌, ◌≢◌, ℕ, ◌+◌, ◌≤◌, List, length, Some, refl, sym, ap, ◌∙◌, arith, take-append-drop}
 use Rattle.segmented_pool.proofs.Lists.{cut_again, length-cut}
 use Rattle.segmented_pool.proofs.Moved.{live_from}
 

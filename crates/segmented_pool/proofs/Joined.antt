@@ -1,7 +1,5 @@
 -- Lists one after the other, where one of them changes, becomes two or is joined to the next.
-use Rattle.std.proofs.Common.{◌≡◌, ℕ, zero, suc, ◌<◌, List, [], ◌∷◌, ◌++◌, length, take, drop, set, refl, sym, ap, ◌∙◌, arith, append_assoc}
-use Rattle.std.specs.List.{concat, insert, remove}
-use Rattle.std.proofs.lemmas.List.{take-append-drop}
+use Rattle.segmented_pool.proofs.Common.{◌≡◌, ℕ, zero, suc, ◌<◌, List, [], ◌∷◌, ◌++◌, length, take, drop, set, refl, sym, ap, ◌∙◌, arith, append_assoc, take-append-drop, concat, insert, remove}
 use Rattle.segmented_pool.specs.Segments.{part}
 
 pub concat_at : (ps : List (List ℕ)) (k : ℕ) → k < length ps

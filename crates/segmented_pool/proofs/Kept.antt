@@ -1,7 +1,5 @@
 -- A chain in segments after an edit.
-use Rattle.std.proofs.Common.{◌≡◌, ℕ, ◌+◌, ◌-◌, ◌<◌, ◌≤◌, List, length, take, set, ◌^◌, sym, ap, subst, ◌∙◌, arith}
-use Rattle.std.specs.List.{concat}
-use Rattle.chain_pool.specs.Chains.{inserted, cut}
+use Rattle.segmented_pool.proofs.Common.{inserted, cut, ◌≡◌, ℕ, ◌+◌, ◌-◌, ◌<◌, ◌≤◌, List, length, take, set, ◌^◌, sym, ap, subst, ◌∙◌, arith, concat}
 use Rattle.segmented_pool.specs.Segments.{Parts, part, IsMark, IsIn, IsKept}
 use Rattle.segmented_pool.specs.declared.segments.Mark.{Mark}
 use Rattle.segmented_pool.proofs.Lists.{length-inserted, length-cut}

@@ -1,9 +1,7 @@
 -- Edits of a list that is cut in three, and of one whose entries move to another.
-use Rattle.std.proofs.Common.{◌≡◌, ℕ, ◌+◌, ◌-◌, ◌<◌, ◌≤◌, List, ◌∷◌, ◌++◌, length, take, drop, get_or, refl, sym, ap, ◌∙◌, arith, append_assoc}
+use Rattle.segmented_pool.proofs.Common.{inserted, cut, spliced, ◌≡◌, ℕ, ◌+◌, ◌-◌, ◌<◌, ◌≤◌, List, ◌∷◌, ◌++◌, length, take, drop, get_or, refl, sym, ap, ◌∙◌, arith, append_assoc, get_or-append, take-append-le, drop-append-le, get_or-append-add, get_or-drop, length-take-le, length-drop, drop-drop, take_more, take_all, drop_all, append-nil, take-append-drop}
+use Rattle.std.proofs.Math.ListN.{length-append}
 use Rattle.std.proofs.Math.Seq.{take-append-add, drop-append-add, get_or-append_right, take-append_seam, drop-append_seam}
-use Rattle.std.proofs.Math.ListN.{get_or-append, length-append}
-use Rattle.std.proofs.lemmas.List.{take-append-le, drop-append-le, get_or-append-add, get_or-drop, length-take-le, length-drop, drop-drop, take_more, take_all, drop_all, append-nil, take-append-drop}
-use Rattle.chain_pool.specs.Chains.{inserted, cut, spliced}
 
 module _ (a p b : List ℕ) where
   take_within : (i : ℕ) → i ≤ length p → take (length a + i) (a ++ (p ++ b)) ≡ a ++ take i p

@@ -1,8 +1,5 @@
 -- Marks of segments, and what an edit of one segment is of the whole list.
-use Rattle.std.proofs.Common.{◌≡◌, ℕ, zero, suc, ◌+◌, ◌-◌, ◌<◌, ◌≤◌, List, [], ◌∷◌, ◌++◌, length, take, drop, set, get_or, sym, ap, ◌∙◌, arith, add-one, length-append}
-use Rattle.std.specs.List.{concat}
-use Rattle.std.proofs.lemmas.List.{take-set, length-set, take_all}
-use Rattle.chain_pool.specs.Chains.{inserted, cut}
+use Rattle.segmented_pool.proofs.Common.{inserted, cut, ◌≡◌, ℕ, zero, suc, ◌+◌, ◌-◌, ◌<◌, ◌≤◌, List, [], ◌∷◌, ◌++◌, length, take, drop, set, get_or, sym, ap, ◌∙◌, arith, add-one, length-append, take-set, length-set, take_all, concat}
 use Rattle.segmented_pool.specs.Segments.{part, IsMark, IsIn}
 use Rattle.segmented_pool.specs.declared.segments.Mark.{Mark}
 use Rattle.segmented_pool.proofs.Joined.{concat_at, concat_set}

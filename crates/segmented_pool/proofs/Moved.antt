@@ -1,8 +1,5 @@
 -- Entries that go from one chain of a pool to another.
-use Rattle.std.proofs.Common.{◌≡◌, ◌≢◌, ℕ, ◌+◌, ◌-◌, ◌<◌, ◌≤◌, List, [], ◌++◌, length, take, drop, get_or, Option, Some, None, is_some, sym, ap, ◌∙◌, arith}
-use Rattle.std.proofs.lemmas.List.{length-take-le, length-drop, get_or-drop, take-append-drop}
-use Rattle.chain_pool.specs.Chains.{Chains, under, IsUnder, IsEdit, list_under, inserted, cut}
-use Rattle.chain_pool.proofs.Lists.{list_is, list_under-is}
+use Rattle.segmented_pool.proofs.Common.{list_is, list_under-is, Chains, under, IsUnder, IsEdit, list_under, inserted, cut, ◌≡◌, ◌≢◌, ℕ, ◌+◌, ◌-◌, ◌<◌, ◌≤◌, List, [], ◌++◌, length, take, drop, get_or, Option, Some, None, is_some, sym, ap, ◌∙◌, arith, length-take-le, length-drop, get_or-drop, take-append-drop}
 use Rattle.segmented_pool.proofs.Lists.{entry_behind_cut, cut_again, inserted_last}
 
 -- so many entries from a place of a chain on lie in another chain, which was none before

@@ -1,6 +1,5 @@
 -- A pool with one chain.
-use Rattle.std.proofs.Common.{◌≡◌, ℕ, zero, suc, List, [], ◌∷◌, Option, Some, refl, sym, ap, subst, ◌∙◌}
-use Rattle.chain_pool.specs.Chains.{under, IsUnder, IsEdit, list_under}
+use Rattle.segmented_pool.proofs.Common.{under, IsUnder, IsEdit, list_under, ◌≡◌, ℕ, zero, suc, List, [], ◌∷◌, Option, Some, refl, sym, ap, subst, ◌∙◌}
 
 first : (list : List ℕ) (name : ℕ) → IsUnder (Some list ∷ []) name → list_under (Some list ∷ []) name ≡ list
 first list zero live = refl

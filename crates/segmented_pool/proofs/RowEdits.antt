@@ -1,10 +1,6 @@
 -- What edits of a pool do to a row of its chains.
-use Rattle.std.proofs.Common.{◌≡◌, ◌≢◌, ℕ, zero, suc, ◌+◌, ◌<◌, ◌≤◌, List, [], ◌∷◌, ◌++◌, length, take, drop, set, get_or, Option, Some, None, refl, sym, ap, subst, ◌∙◌, arith}
-use Rattle.std.specs.List.{insert, remove}
-use Rattle.std.proofs.lemmas.List.{length-map, length-take-le, length-drop}
+use Rattle.segmented_pool.proofs.Common.{list_under-is, under, IsUnder, list_under, spliced, ◌≡◌, ◌≢◌, ℕ, zero, suc, ◌+◌, ◌<◌, ◌≤◌, List, [], ◌∷◌, ◌++◌, length, take, drop, set, get_or, Option, Some, None, refl, sym, ap, subst, ◌∙◌, arith, length-map, length-take-le, length-drop, insert, remove}
 use Rattle.std.proofs.Math.ListN.{length-append}
-use Rattle.chain_pool.specs.Chains.{under, IsUnder, list_under, spliced}
-use Rattle.chain_pool.proofs.Lists.{list_under-is}
 use Rattle.segmented_pool.specs.Segments.{lists_of, part, IsSegment, IsApart, AreSegments}
 use Rattle.segmented_pool.specs.declared.segments.Segment.{Segment}
 use Rattle.segmented_pool.proofs.Lists.{spliced_last}

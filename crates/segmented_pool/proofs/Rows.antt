@@ -1,7 +1,5 @@
 -- Rows of chains, where a chain changes, comes or goes.
-use Rattle.std.proofs.Common.{◌≡◌, ◌≢◌, ℕ, zero, suc, ◌<◌, List, [], ◌∷◌, length, set, get_or, Option, None, refl, sym, ap, subst, ◌∙◌, arith}
-use Rattle.std.specs.List.{insert, remove}
-use Rattle.chain_pool.specs.Chains.{under, list_under}
+use Rattle.segmented_pool.proofs.Common.{under, list_under, ◌≡◌, ◌≢◌, ℕ, zero, suc, ◌<◌, List, [], ◌∷◌, length, set, get_or, Option, None, refl, sym, ap, subst, ◌∙◌, arith, insert, remove}
 use Rattle.chain_pool.specs.declared.cells.CellName.{CellName}
 use Rattle.segmented_pool.specs.Segments.{lists_of, IsSegment, IsApart, AreSegments}
 use Rattle.segmented_pool.specs.declared.segments.Segment.{Segment}

@@ -141,6 +141,7 @@ impl Pool {
     }
 
     /// So many entries from a place on go, or those of them that are in one segment. How many went.
+    #[inline(never)]
     fn cut_some(&mut self, chain: CellName, from: u32, most: u32) -> u32
         requires live { IsLive self.old chain.0 }
         requires some { 0 < most }
@@ -164,6 +165,7 @@ impl Pool {
     /// The segment of the last place, which is this place in it, becomes two where it is long, and a cell and room for one
     /// more are to be had: in halves, or where the place is behind the middle, at the place. So entries that are laid one
     /// behind the other fill their segments.
+    #[inline(always)]
     fn split(&mut self, place: u32)
         ensures { self.new ≡ self.old }
     {

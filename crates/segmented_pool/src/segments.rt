@@ -116,12 +116,9 @@ impl Segments {
         ensures parts { self.new.parts ≡ slice_set self.old.parts index (inserted (part self.old.parts index) place value) }
         ensures spare { self.new.spare + 1 ≡ self.old.spare }
     {
-        let segment = self.row[index];
+        let segment = &mut self.row[index];
         self.pool.push_after(segment.chain, place, value);
-        self.row[index] = Segment {
-            len: segment.len + 1,
-            ..segment
-        };
+        segment.len += 1;
     }
 
     /// The entries of a segment from place `from` up to `to`, without `to`, go.
@@ -132,16 +129,14 @@ impl Segments {
         ensures parts { self.new.parts ≡ slice_set self.old.parts index (cut (part self.old.parts index) from to) }
         ensures spare { self.new.spare + from ≡ self.old.spare + to }
     {
-        let segment = self.row[index];
+        let segment = &mut self.row[index];
         self.pool.cut_between(segment.chain, from, to);
-        self.row[index] = Segment {
-            len: segment.len - (to - from),
-            ..segment
-        };
+        segment.len -= to - from;
     }
 
     /// The entries of a segment from a place on become the segment behind it, where there is room for one more. It costs
     /// these entries.
+    #[inline(never)]
     pub fn split(&mut self, index: usize, place: u32)
         requires index { index < length self.old.parts }
         requires place { place ≤ length (part self.old.parts index) }
@@ -195,11 +190,15 @@ impl Segments {
         ensures mark { IsMark self.now.parts result }
         ensures here { IsIn self.now.parts result place }
     {
-        if from.start <= place && place - from.start < self.len(from.index) {
-            from
-        } else {
-            self.look_for(from, len, place)
+        if from.start <= place {
+            if place - from.start < self.len(from.index) {
+                return from;
+            }
+            if place == len {
+                return self.last(len);
+            }
         }
+        self.look_for(from, len, place)
     }
 
     /// The segment that has a place.
@@ -232,13 +231,24 @@ impl Segments {
                 return Mark { index: 0, start: 0 };
             }
         } else if len - place.min(len) < place - from.start {
-            let last = self.count() - 1;
-            return Mark {
-                index: last,
-                start: len - self.len(last),
-            };
+            return self.last(len);
         }
         from
+    }
+
+    /// The mark of the last segment.
+    #[inline(always)]
+    fn last(&self, len: u32) -> Mark
+        requires some { 0 < length self.now.parts }
+        requires len { len ≡ length (concat self.now.parts) }
+        ensures mark { IsMark self.now.parts result }
+        ensures end { result.start + length (part self.now.parts result.index) ≡ len }
+    {
+        let index = self.count() - 1;
+        Mark {
+            index,
+            start: len - self.len(index),
+        }
     }
 
     /// The mark of the segment before.

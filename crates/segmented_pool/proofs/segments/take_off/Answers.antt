@@ -1,4 +1,4 @@
-use Rattle.std.proofs.Common.{arith}
+use Rattle.segmented_pool.proofs.Common.{arith}
 use Rattle.segmented_pool.proofs.Moved.{moved_none, taken_stays, moved_more}
 use Rattle.segmented_pool.proofs.segments.take_off.Goals as goal
 

@@ -1,7 +1,4 @@
-use Rattle.std.proofs.Common.{◌≡◌, ◌+◌, List, ℕ, length, reverse, take, drop, ap, sym, ◌∙◌, arith, length-append}
-use Rattle.std.specs.List.{concat}
-use Rattle.std.proofs.lemmas.List.{length-reverse}
-use Rattle.chain_pool.specs.Chains.{Chains}
+use Rattle.segmented_pool.proofs.Common.{Chains, ◌≡◌, ◌+◌, List, ℕ, length, reverse, take, drop, ap, sym, ◌∙◌, arith, length-append, length-reverse, concat}
 use Rattle.segmented_pool.specs.Segments.{part}
 use Rattle.segmented_pool.proofs.Marks.{end_within, part_at}
 use Rattle.segmented_pool.proofs.Only.{only_list}

@@ -1,4 +1,4 @@
-use Rattle.std.proofs.Common.{arith}
+use Rattle.segmented_pool.proofs.Common.{arith}
 use Rattle.segmented_pool.proofs.Cuts.{cut_nothing, cut_some, cut_done}
 use Rattle.segmented_pool.proofs.pool.Pool.cut_between.Goals as goal
 

@@ -1,6 +1,4 @@
-use Rattle.std.proofs.Common.{◌≡◌, ◌+◌, ◌-◌, List, ℕ, set, refl, ap, sym, ◌∙◌, arith}
-use Rattle.std.specs.List.{concat}
-use Rattle.chain_pool.specs.Chains.{Chains, cut}
+use Rattle.segmented_pool.proofs.Common.{Chains, cut, ◌≡◌, ◌+◌, ◌-◌, List, ℕ, set, refl, ap, sym, ◌∙◌, arith, concat}
 use Rattle.segmented_pool.specs.Segments.{part}
 use Rattle.segmented_pool.proofs.Kept.{kept_cut, list_cut}
 use Rattle.segmented_pool.proofs.Only.{only_list, only_edit}

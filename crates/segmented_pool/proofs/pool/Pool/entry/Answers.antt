@@ -1,6 +1,4 @@
-use Rattle.std.proofs.Common.{List, ℕ, length, get_or, ap, sym, ◌∙◌, arith}
-use Rattle.std.specs.List.{concat}
-use Rattle.chain_pool.specs.Chains.{Chains}
+use Rattle.segmented_pool.proofs.Common.{Chains, List, ℕ, length, get_or, ap, sym, ◌∙◌, arith, concat}
 use Rattle.segmented_pool.proofs.Marks.{entry_at}
 use Rattle.segmented_pool.proofs.Only.{only_list}
 use Rattle.segmented_pool.proofs.pool.Pool.entry.Goals as goal

@@ -1,6 +1,4 @@
-use Rattle.std.proofs.Common.{List, ℕ, ap, sym, ◌∙◌, arith}
-use Rattle.std.specs.List.{concat}
-use Rattle.chain_pool.specs.Chains.{Chains, inserted}
+use Rattle.segmented_pool.proofs.Common.{Chains, inserted, List, ℕ, ap, sym, ◌∙◌, arith, concat}
 use Rattle.segmented_pool.proofs.Kept.{kept_pushed, list_pushed}
 use Rattle.segmented_pool.proofs.Marks.{end_within}
 use Rattle.segmented_pool.proofs.Only.{only_list, only_edit}

@@ -1,4 +1,4 @@
-use Rattle.std.proofs.Common.{◌≡◌, ◌+◌, ◌-◌, arith, refl}
+use Rattle.segmented_pool.proofs.Common.{◌≡◌, ◌+◌, ◌-◌, arith, refl}
 use Rattle.segmented_pool.proofs.Kept.{kept_same}
 use Rattle.segmented_pool.proofs.Marks.{neighbours, before_start, mark_before}
 use Rattle.segmented_pool.proofs.pool.Pool.settle.Goals as goal

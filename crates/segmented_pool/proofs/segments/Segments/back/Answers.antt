@@ -1,4 +1,4 @@
-use Rattle.std.proofs.Common.{◌-◌, arith}
+use Rattle.segmented_pool.proofs.Common.{◌-◌, arith}
 use Rattle.segmented_pool.proofs.Marks.{some_before, before_start, mark_before}
 use Rattle.segmented_pool.proofs.segments.Segments.back.Goals as goal
 

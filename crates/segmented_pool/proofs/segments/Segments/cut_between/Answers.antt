@@ -1,5 +1,4 @@
-use Rattle.std.proofs.Common.{Some, List, ℕ, ◌-◌, set, ap, ◌∙◌, arith}
-use Rattle.chain_pool.specs.Chains.{cut}
+use Rattle.segmented_pool.proofs.Common.{cut, Some, List, ℕ, ◌-◌, set, ap, ◌∙◌, arith}
 use Rattle.segmented_pool.specs.Segments.{Parts, part, AreSegments}
 use Rattle.segmented_pool.specs.declared.segments.Segment.{Segment}
 use Rattle.segmented_pool.proofs.Rows.{parts_are}
@@ -10,22 +9,23 @@ use Rattle.segmented_pool.proofs.segments.Segments.cut_between.Goals as goal
 pub cut_between-requires-clause-live : goal.cut_between-requires-clause-live
 cut_between-requires-clause-live c =
     live c.self.inside.pool.lists c.self.inside.row.items c.args.self.now.parts c.self.invariant
-    (ap (λ (v : Parts). v.parts) c.self.view_is) c.args.index c.index-segment.result.now c.requires.index c.index-segment.ensures
+    (ap (λ (v : Parts). v.parts) c.self.view_is) c.args.index c.index_mut-segment.result.now c.requires.index
+    c.index_mut-segment.ensures.value
 
-pub overflow_sub-segment : goal.overflow_sub-segment
-overflow_sub-segment c =
+pub overflow_sub-segment-2 : goal.overflow_sub-segment-2
+overflow_sub-segment-2 c =
     omega (
       arith,
       (here c.self.inside.pool.lists c.self.inside.row.items c.args.self.now.parts c.self.invariant
-          (ap (λ (v : Parts). v.parts) c.self.view_is) c.args.index c.index-segment.result.now c.requires.index
-          c.index-segment.ensures).counted,
+          (ap (λ (v : Parts). v.parts) c.self.view_is) c.args.index c.index_mut-segment.result.now c.requires.index
+          c.index_mut-segment.ensures.value).counted,
     )
 
 -- the row and its lists after the edit
 abbrev row : goal.After-self-1 → List Segment
 row c = set c.self.inside.row.items c.args.index (record {
-  chain = c.index-segment.result.now.chain;
-  len = c.index-segment.result.now.len -
+  chain = c.index_mut-segment.result.now.chain;
+  len = c.index_mut-segment.result.now.len -
       (c.args.to - c.args.from);
 })
 
@@ -36,17 +36,19 @@ edited : (c : goal.After-self-1) → AreSegments c.cut_between.new.self.lists (r
 edited c =
     let list : List ℕ = part c.args.self.now.parts c.args.index in
     changed c.self.inside.pool.lists c.self.inside.row.items c.args.self.now.parts c.self.invariant
-    (ap (λ (v : Parts). v.parts) c.self.view_is) c.args.index c.index-segment.result.now c.requires.index c.index-segment.ensures
+    (ap (λ (v : Parts). v.parts) c.self.view_is) c.args.index c.index_mut-segment.result.now c.requires.index
+    c.index_mut-segment.ensures.value
     c.cut_between.new.self.lists _ (cut list c.args.from c.args.to)
     (c.cut_between.ensures.list.here
     ∙ ap (λ (l : List ℕ). Some (cut l c.args.from c.args.to))
     (listed c.self.inside.pool.lists c.self.inside.row.items c.args.self.now.parts c.self.invariant
-    (ap (λ (v : Parts). v.parts) c.self.view_is) c.args.index c.index-segment.result.now c.requires.index c.index-segment.ensures))
+    (ap (λ (v : Parts). v.parts) c.self.view_is) c.args.index c.index_mut-segment.result.now c.requires.index
+    c.index_mut-segment.ensures.value))
     (omega (
       arith,
       (here c.self.inside.pool.lists c.self.inside.row.items c.args.self.now.parts c.self.invariant
-          (ap (λ (v : Parts). v.parts) c.self.view_is) c.args.index c.index-segment.result.now c.requires.index
-          c.index-segment.ensures).counted,
+          (ap (λ (v : Parts). v.parts) c.self.view_is) c.args.index c.index_mut-segment.result.now c.requires.index
+          c.index_mut-segment.ensures.value).counted,
       length-cut list c.args.from c.args.to c.requires.order c.requires.place,
     ))
     c.cut_between.ensures.list.others

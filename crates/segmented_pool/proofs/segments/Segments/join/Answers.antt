@@ -1,7 +1,6 @@
-use Rattle.std.proofs.Common.{suc, ◌+◌, ◌≡◌, List, ℕ, length, take, set, refl, get_or, ap, sym, subst, ◌∙◌, arith, add-one}
+use Rattle.segmented_pool.proofs.Common.{suc, ◌+◌, ◌≡◌, List, ℕ, length, take, set, refl, get_or, ap, sym, subst, ◌∙◌, arith, add-one, concat, remove}
 use Rattle.segmented_pool.specs.Segments.{Parts, part, AreSegments}
 use Rattle.segmented_pool.proofs.Rows.{parts_are}
-use Rattle.std.specs.List.{concat, remove}
 use Rattle.segmented_pool.specs.declared.segments.Segment.{Segment}
 use Rattle.segmented_pool.proofs.RowEdits.{here, live, listed, differ, united, sound}
 use Rattle.segmented_pool.proofs.Joined.{joined_at, join_joined, join_before}

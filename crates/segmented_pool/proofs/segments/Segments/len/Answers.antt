@@ -1,4 +1,4 @@
-use Rattle.std.proofs.Common.{ap}
+use Rattle.segmented_pool.proofs.Common.{ap}
 use Rattle.segmented_pool.specs.Segments.{Parts}
 use Rattle.segmented_pool.proofs.RowEdits.{here}
 use Rattle.segmented_pool.proofs.segments.Segments.len.Goals as goal

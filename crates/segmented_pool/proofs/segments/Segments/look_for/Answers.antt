@@ -1,4 +1,4 @@
-use Rattle.std.proofs.Common.{arith}
+use Rattle.segmented_pool.proofs.Common.{arith}
 use Rattle.segmented_pool.proofs.Marks.{end_within, found_last}
 use Rattle.segmented_pool.proofs.segments.Segments.look_for.Goals as goal
 

@@ -1,4 +1,4 @@
-use Rattle.std.proofs.Common.{◌-◌, ◌≤◌, length}
+use Rattle.segmented_pool.proofs.Common.{◌-◌, ◌≤◌, length}
 use Rattle.segmented_pool.specs.Segments.{IsMark}
 use Rattle.segmented_pool.proofs.segments.Segments.look_for.Given as goal
 

@@ -1,4 +1,4 @@
-use Rattle.std.proofs.Common.{refl, arith}
+use Rattle.segmented_pool.proofs.Common.{refl, arith}
 use Rattle.segmented_pool.proofs.Marks.{mark_behind, end_within}
 use Rattle.segmented_pool.proofs.segments.Segments.onward.Goals as goal
 

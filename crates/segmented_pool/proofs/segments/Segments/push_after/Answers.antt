@@ -1,5 +1,4 @@
-use Rattle.std.proofs.Common.{Some, List, ℕ, ◌+◌, set, ap, ◌∙◌, arith}
-use Rattle.chain_pool.specs.Chains.{inserted}
+use Rattle.segmented_pool.proofs.Common.{inserted, Some, List, ℕ, ◌+◌, set, ap, ◌∙◌, arith}
 use Rattle.segmented_pool.specs.Segments.{Parts, part, AreSegments}
 use Rattle.segmented_pool.specs.declared.segments.Segment.{Segment}
 use Rattle.segmented_pool.proofs.Rows.{parts_are}
@@ -10,21 +9,22 @@ use Rattle.segmented_pool.proofs.segments.Segments.push_after.Goals as goal
 pub push_after-requires-clause-live : goal.push_after-requires-clause-live
 push_after-requires-clause-live c =
     live c.self.inside.pool.lists c.self.inside.row.items c.args.self.now.parts c.self.invariant
-    (ap (λ (v : Parts). v.parts) c.self.view_is) c.args.index c.index-segment.result.now c.requires.index c.index-segment.ensures
+    (ap (λ (v : Parts). v.parts) c.self.view_is) c.args.index c.index_mut-segment.result.now c.requires.index
+    c.index_mut-segment.ensures.value
 
 pub overflow_add-segment : goal.overflow_add-segment
 overflow_add-segment c =
     omega (
       arith,
       (here c.self.inside.pool.lists c.self.inside.row.items c.args.self.now.parts c.self.invariant
-          (ap (λ (v : Parts). v.parts) c.self.view_is) c.args.index c.index-segment.result.now c.requires.index
-          c.index-segment.ensures).counted,
+          (ap (λ (v : Parts). v.parts) c.self.view_is) c.args.index c.index_mut-segment.result.now c.requires.index
+          c.index_mut-segment.ensures.value).counted,
     )
 
 -- the row and its lists after the edit
 abbrev row : goal.After-self-1 → List Segment
 row c = set c.self.inside.row.items c.args.index
-    (record { chain = c.index-segment.result.now.chain; len = c.index-segment.result.now.len + 1 })
+    (record { chain = c.index_mut-segment.result.now.chain; len = c.index_mut-segment.result.now.len + 1 })
 
 abbrev parts : goal.After-self-1 → List (List ℕ)
 parts c = set c.args.self.now.parts c.args.index (inserted (part c.args.self.now.parts c.args.index) c.args.place c.args.value)
@@ -33,17 +33,19 @@ edited : (c : goal.After-self-1) → AreSegments c.push_after.new.self.lists (ro
 edited c =
     let list : List ℕ = part c.args.self.now.parts c.args.index in
     changed c.self.inside.pool.lists c.self.inside.row.items c.args.self.now.parts c.self.invariant
-    (ap (λ (v : Parts). v.parts) c.self.view_is) c.args.index c.index-segment.result.now c.requires.index c.index-segment.ensures
+    (ap (λ (v : Parts). v.parts) c.self.view_is) c.args.index c.index_mut-segment.result.now c.requires.index
+    c.index_mut-segment.ensures.value
     c.push_after.new.self.lists _ (inserted list c.args.place c.args.value)
     (c.push_after.ensures.list.here
     ∙ ap (λ (l : List ℕ). Some (inserted l c.args.place c.args.value))
     (listed c.self.inside.pool.lists c.self.inside.row.items c.args.self.now.parts c.self.invariant
-    (ap (λ (v : Parts). v.parts) c.self.view_is) c.args.index c.index-segment.result.now c.requires.index c.index-segment.ensures))
+    (ap (λ (v : Parts). v.parts) c.self.view_is) c.args.index c.index_mut-segment.result.now c.requires.index
+    c.index_mut-segment.ensures.value))
     (omega (
       arith,
       (here c.self.inside.pool.lists c.self.inside.row.items c.args.self.now.parts c.self.invariant
-          (ap (λ (v : Parts). v.parts) c.self.view_is) c.args.index c.index-segment.result.now c.requires.index
-          c.index-segment.ensures).counted,
+          (ap (λ (v : Parts). v.parts) c.self.view_is) c.args.index c.index_mut-segment.result.now c.requires.index
+          c.index_mut-segment.ensures.value).counted,
       length-inserted list c.args.place c.args.value,
     ))
     c.push_after.ensures.list.others

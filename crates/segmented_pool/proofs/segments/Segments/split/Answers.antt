@@ -1,5 +1,4 @@
-use Rattle.std.proofs.Common.{Some, ◌≡◌, suc, ◌-◌, List, ℕ, length, take, drop, set, ap, sym, subst, ◌∙◌, arith, add-one}
-use Rattle.std.specs.List.{concat, insert}
+use Rattle.segmented_pool.proofs.Common.{Some, ◌≡◌, suc, ◌-◌, List, ℕ, length, take, drop, set, ap, sym, subst, ◌∙◌, arith, add-one, concat, insert}
 use Rattle.segmented_pool.specs.declared.segments.Segment.{Segment}
 use Rattle.segmented_pool.specs.Segments.{Parts, lists_of, AreSegments}
 use Rattle.segmented_pool.proofs.Rows.{parts_are}
