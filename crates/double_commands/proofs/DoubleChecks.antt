@@ -1,10 +1,9 @@
 -- How the check of the double ends, and what answers it.
-use Rattle.std.proofs.Common.{◌≡◌, ◌⊎◌, inl, inr, ℕ, List, refl, ap, ◌∙◌, subst, arith}
-use Rattle.std.specs.Prelude.{Option, Result, Ok, Err}
-use Rattle.std.proofs.lemmas.Bool.{cases_lt}
+use Rattle.std.proofs.Common.{◌≡◌, ◌⊎◌, inl, inr, ℕ, List, refl, ap, ◌∙◌, subst}
+use Rattle.std.specs.Prelude.{Option, Result, Ok, Err, ◌↔◌}
 use Rattle.surf_io.specs.Files.{Files}
-use Rattle.surf_model.specs.FaceLists.{FaceList, HasFileSize, total_sides}
-use Rattle.surf_model.specs.declared.limits.TheConstants.{MOST_VERTICES, MOST_SIDES}
+use Rattle.surf_model.specs.FaceLists.{FaceList, HasFileSize, IsFaceList}
+use Rattle.surf_model.specs.Surfaces.{IsClosed, IsOrientable}
 use Rattle.off_reader.specs.OffTexts.{meaning_of}
 use Rattle.off_writer.specs.WrittenMeshes.{off_text}
 use Rattle.off_writer.proofs.ReadingBack.{reads_back}
@@ -12,10 +11,13 @@ use Rattle.free_forms.specs.OpenSurfaces.{IsOpenSurface}
 use Rattle.doubling.specs.DoubleFaults.{IsBeyond}
 use Rattle.doubling.specs.Doubles.{double_of}
 use Rattle.doubling.specs.declared.fault.DoubleFault.{DoubleFault}
-use Rattle.doubling.specs.declared.fault.DoubleFault.TheVariants.{TooManyVertices, TooManySides, OutOfMemory}
+use Rattle.doubling.specs.declared.fault.DoubleFault.TheVariants.{OutOfMemory}
+use Rattle.doubling.proofs.LimitLemmas.{fits_or_too_large, not_too_large, one_limit}
 use Rattle.doubling.proofs.ValidDoubles.{double_valid}
-use Rattle.commands.specs.Answers.{yes_with}
-use Rattle.commands.specs.Checks.{End, Refuse, Pass, Passes, Holds, IsTold}
+use Rattle.closed_doubles.proofs.DoubleSigns.{double_orientable, orientable_there}
+use Rattle.closed_doubles.proofs.ClosedDoubles.{double_closed}
+use Rattle.commands.specs.Answers.{Answer, yes_with}
+use Rattle.commands.specs.Checks.{Check, End, Refuse, Pass, Passes, Holds, IsTold}
 use Rattle.commands.specs.Inputs.{mesh_in, SpellsMesh}
 use Rattle.commands.specs.Outcomes.{Outcome, AnswersTo, IsAnswerOf}
 use Rattle.commands.specs.Refusals.{off_line}
@@ -36,42 +38,17 @@ use Rattle.double_commands.specs.MeshDouble.{double_line, doubled, surface_doubl
 
 -- ---- the double has one end
 
-within_or_beyond : (mesh : FaceList) → HasFileSize (double_of mesh) ⊎ ((fault : DoubleFault) × IsBeyond mesh fault)
-within_or_beyond mesh =
-    elim (cases_lt MOST_VERTICES (double_of mesh).count) [
-      | inl many ↦ inr (TooManyVertices, many)
-      | inr few ↦ elim (cases_lt MOST_SIDES (total_sides (double_of mesh))) [
-        | inl many ↦ inr (TooManySides, record { few_vertices = few; many_sides = many })
-        | inr fits ↦ inl (record { few_vertices = few; few_sides = fits })
-      ]
-    ]
-
--- a double that fits is beyond no limit
-not_beyond : (mesh : FaceList) (fault : DoubleFault) → HasFileSize (double_of mesh) → IsBeyond mesh fault → ⊥
-not_beyond mesh TooManyVertices small beyond = omega (arith, small.few_vertices, beyond)
-not_beyond mesh TooManySides small beyond = omega (arith, small.few_sides, beyond.many_sides)
-not_beyond mesh OutOfMemory small beyond = beyond
-
-one_limit : (mesh : FaceList) (a b : DoubleFault) → IsBeyond mesh a → IsBeyond mesh b → a ≡ b
-one_limit mesh TooManyVertices TooManyVertices p q = refl
-one_limit mesh TooManyVertices TooManySides p q = absurd (omega (arith, p, q.few_vertices))
-one_limit mesh TooManyVertices OutOfMemory p q = absurd q
-one_limit mesh TooManySides TooManyVertices p q = absurd (omega (arith, p.few_vertices, q))
-one_limit mesh TooManySides TooManySides p q = refl
-one_limit mesh TooManySides OutOfMemory p q = absurd q
-one_limit mesh OutOfMemory b p q = absurd p
-
 one_end : (mesh : FaceList) (a b : End FaceList) → (doubled mesh).Ends a → (doubled mesh).Ends b → a ≡ b
-one_end mesh (Refuse r) (Refuse s) p q = let same = one_limit mesh p.0 q.0 p.1 q.1 in cc (same, p.2, q.2)
-one_end mesh (Refuse r) (Pass y) p q = absurd (not_beyond mesh p.0 q.0 p.1)
-one_end mesh (Pass x) (Refuse s) p q = absurd (not_beyond mesh q.0 p.0 q.1)
+one_end mesh (Refuse r) (Refuse s) p q = let same = one_limit (double_of mesh) p.0 q.0 p.1 q.1 in cc (same, p.2, q.2)
+one_end mesh (Refuse r) (Pass y) p q = absurd (not_too_large (double_of mesh) p.0 q.0 p.1)
+one_end mesh (Pass x) (Refuse s) p q = absurd (not_too_large (double_of mesh) q.0 p.0 q.1)
 one_end mesh (Pass x) (Pass y) p q = cc (p.1, q.1)
 
 sound-doubled : (files : Option Files) (mesh : FaceList) → IsSound files (doubled mesh)
 sound-doubled files mesh =
     record {
       some = λ none.
-          elim (within_or_beyond mesh) [
+          elim (fits_or_too_large (double_of mesh)) [
             | inl small ↦ none (Pass (double_of mesh)) (small, refl)
             | inr beyond ↦ none (Refuse (double_line beyond.0)) (beyond.0, beyond.1, refl)
           ];
@@ -107,27 +84,29 @@ file_end files name mesh (Err stop) p h = stops_next (mesh_in files name) surfac
 
 -- ---- what answers the check
 
-answers : (files : Option Files) (name : List ℕ) (outcome : Outcome) (status : Status) (text : List ℕ)
-    → (mesh_double files name).Ends outcome → IsAnswerOf outcome status text → AnswersTo files (mesh_double files name) status text
-answers files name outcome status text is answer =
+pub answers : (files : Option Files) (check : Check Answer) (outcome : Outcome) (status : Status) (text : List ℕ) → IsSound files check
+    → check.Ends outcome → IsAnswerOf outcome status text → AnswersTo files check status text
+answers files check outcome status text sound is answer =
     record {
       outcome = outcome;
       is_outcome = is;
       is_answer = answer;
       exact = λ told other other_is.
-          subst (λ (o : Outcome). IsAnswerOf o status text) ((sound-mesh_double files name).one told outcome other is other_is) answer;
+          subst (λ (o : Outcome). IsAnswerOf o status text) (sound.one told outcome other is other_is) answer;
     }
 
 pub mesh_answers : (files : Option Files) (name : List ℕ) (double : FaceList) → Passes (double_in files name) double
     → AnswersTo files (mesh_double files name) Yes (off_text double)
 mesh_answers files name double p =
-    answers files name (Pass (yes_with (off_text double))) Yes (off_text double) (inr (double, p, refl))
+    answers files (mesh_double files name) (Pass (yes_with (off_text double))) Yes (off_text double) (sound-mesh_double files name)
+    (inr (double, p, refl))
     (record { status_is = refl; text_is = refl })
 
 pub refusal_answers : (files : Option Files) (name : List ℕ) (text : Text) → Stops (double_in files name) (stops.Refused text)
     → AnswersTo files (mesh_double files name) Refused (bytes_of text)
 refusal_answers files name text h =
-    answers files name (Refuse h.0) Refused (bytes_of text) (inl (h.0, h.1, refl)) (record { status_is = refl; text_is = h.2 })
+    answers files (mesh_double files name) (Refuse h.0) Refused (bytes_of text) (sound-mesh_double files name) (inl (h.0, h.1, refl))
+    (record { status_is = refl; text_is = h.2 })
 
 -- a status that tells of an answer is the one that was to be told
 pub told_status : (status wanted : Status) → IsAnswered status → (status ≡ wanted) ⊎ (status ≡ WriteFault) → status ≡ wanted
@@ -151,4 +130,16 @@ means_double files name status text mesh answer spelled is small =
     (Pass (yes_with (off_text (double_of mesh)))) end in (
       is_answer.status_is,
       ap meaning_of is_answer.text_is ∙ reads_back (double_of mesh) (double_valid mesh (mesh_valid files name mesh passes)) small,
+    )
+
+pub means_closed : (files : Option Files) (name : List ℕ) (status : Status) (text : List ℕ) (mesh : FaceList)
+    → AnswersTo files (mesh_double files name) status text → Holds files name (SpellsMesh mesh) → IsOpenSurface mesh
+    → HasFileSize (double_of mesh)
+    → (double : FaceList) × (meaning_of text ≡ Ok double) × IsClosed double × (IsOrientable double ↔ IsOrientable mesh)
+means_closed files name status text mesh answer spelled is small =
+    let valid : IsFaceList mesh = mesh_valid files name mesh (mesh_passes files name mesh spelled) in (
+      double_of mesh,
+      (means_double files name status text mesh answer spelled is small).1,
+      double_closed mesh valid is,
+      (orientable_there mesh, double_orientable mesh valid is.few_sides is.one_fan),
     )

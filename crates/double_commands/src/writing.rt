@@ -62,7 +62,7 @@ pub fn refuse_words<K: Sink>(out: &mut K) -> Status
 }
 
 /// Writes a mesh, and settles it.
-fn give_mesh<K: Sink>(out: &mut K, mesh: &Faces) -> Status
+pub fn give_mesh<K: Sink>(out: &mut K, mesh: &Faces) -> Status
     ensures either { (result ≡ Status.Yes) ⊎ (result ≡ Status.WriteFault) }
     ensures written { IsAnswered result → WroteAll K.written out.old out.new (off_text mesh.now) }
     ensures settled { IsAnswered result → IfSome (K.written out.new) (λ bytes. K.settled out.new ≡ length bytes) }

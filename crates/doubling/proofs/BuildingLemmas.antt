@@ -1,19 +1,9 @@
 -- The double as it is built: what is a face of it, how far a step comes, and when there is no room.
-use Rattle.std.proofs.Common.{◌≡◌, ◌≢◌, inl, inr, ℕ, zero, suc, ◌+◌, ◌-◌, ◌<◌, ◌≤◌, true, false, List, [], ◌∷◌, ◌++◌, length, map, get_or, take, drop, refl, ap, sym, ◌∙◌, subst, arith, append_assoc}
-use Rattle.std.specs.Prelude.{filter, sum_by}
-use Rattle.std.proofs.lemmas.List.{append-nil, map-append, length-map, get_or-map, get_or_default, take_more, take_all, take-append-drop}
-use Rattle.std.proofs.lemmas.List.Elements.{filter-append}
+use Rattle.doubling.proofs.Common.{◌≡◌, ◌≢◌, inl, inr, ℕ, zero, suc, ◌+◌, ◌-◌, ◌<◌, ◌≤◌, true, false, List, [], ◌∷◌, ◌++◌, length, map, get_or, take, drop, refl, ap, sym, ◌∙◌, subst, arith, append_assoc, append-nil, map-append, length-map, get_or-map, get_or_default, take_more, take_all, take-append-drop, filter-append, filter, sum_by, back_within, there_and_back, side_of_number-is, side_below, next_within, IsSide, first_side, FaceList, FaceSide, PendingFace, IsFace, face_at, all_sides, next_corner, total_sides, numbers, Side}
 use Rattle.std.proofs.lemmas.List.Sums.{sum_by-append, sum_by_push}
-use Rattle.surf_model.specs.Darts.{IsSide, first_side}
-use Rattle.surf_model.specs.FaceLists.{FaceList, FaceSide, PendingFace, IsFace, face_at, all_sides, next_corner, total_sides}
-use Rattle.surf_model.specs.Vertices.{numbers}
-use Rattle.surf_model.specs.declared.edges.Side.{Side}
-use Rattle.surf_model.specs.declared.names.VertexName.{VertexName}
-use Rattle.surf_model.proofs.EdgeLemmas.{back_within, there_and_back}
 use Rattle.surf_model.proofs.NumberLemmas.{face_side, length-all_sides}
-use Rattle.surf_model.proofs.SideNumberLemmas.{side_of_number-is, side_below}
-use Rattle.surf_model.proofs.TableLemmas.{next_within}
-use Rattle.doubling.specs.Building.{begun, with_faces, with_mirrors, with_quads, with_face, HasNoRoom, EndsEarly}
+use Rattle.surf_model.specs.declared.names.VertexName.{VertexName}
+use Rattle.doubling.specs.Building.{begun, with_mirrors, with_quads, with_face, HasNoRoom, EndsEarly}
 use Rattle.doubling.specs.Doubles.{mirror, mirror_face, is_rim, rim_quad, double_of}
 use Rattle.doubling.specs.declared.fault.DoubleFault.{DoubleFault}
 use Rattle.doubling.proofs.DoubleFaces.{length-mirror_face, mirror_corner, mirror_next}
@@ -87,16 +77,6 @@ mirrors mesh = map (mirror_face mesh.count) mesh.faces
 abbrev quads : FaceList → List FaceSide → List (List ℕ)
 quads mesh sides = map (rim_quad mesh.count) (filter (is_rim mesh) sides)
 
-pub faces_first : (mesh : FaceList) (n : ℕ) → ComeFirst mesh (with_faces mesh n).mesh.faces
-faces_first mesh n =
-    let some : List (List ℕ) = take n mesh.faces in
-    let others : List (List ℕ) = drop n mesh.faces in (
-      others ++ mirrors mesh ++ quads mesh (all_sides mesh),
-      sym (append_assoc some (others ++ mirrors mesh) (quads mesh (all_sides mesh)))
-          ∙ ap (λ (l : List (List ℕ)). l ++ quads mesh (all_sides mesh))
-          (sym (append_assoc some others (mirrors mesh)) ∙ ap (λ (l : List (List ℕ)). l ++ mirrors mesh) (take-append-drop n mesh.faces)),
-    )
-
 pub mirrors_first : (mesh : FaceList) (n : ℕ) → ComeFirst mesh (with_mirrors mesh n).mesh.faces
 mirrors_first mesh n =
     let some : List (List ℕ) = take n (mirrors mesh) in
@@ -121,11 +101,6 @@ quads_first mesh n =
           ∙ ap (λ (l : List (List ℕ)). mesh.faces ++ mirrors mesh ++ l)
           (sym (quads-append mesh some others) ∙ ap (quads mesh) (take-append-drop n (all_sides mesh))),
     )
-
--- one face more
-pub faces_more : (mesh : FaceList) (n : ℕ) → n < length mesh.faces
-    → with_face (with_faces mesh n) (face_at mesh n) ≡ with_faces mesh (n + 1)
-faces_more mesh n l = ap (begun mesh) (sym (take_more mesh.faces n [] l))
 
 pub mirrors_more : (mesh : FaceList) (n : ℕ) → n < length mesh.faces
     → with_face (with_mirrors mesh n) (mirror_face mesh.count (face_at mesh n)) ≡ with_mirrors mesh (n + 1)
@@ -178,17 +153,6 @@ quads_same mesh side is rim =
     ∙ ap (λ (l : List (List ℕ)). quads mesh some ++ l) (sym (no_quad_here mesh (whole_side mesh side) rim))
     ∙ sym (quads-append mesh some (whole_side mesh side ∷ [])) ∙ ap (quads mesh) (sym (side_more mesh side is)))
 
--- from one part to the next
-pub faces_all : (mesh : FaceList) (n : ℕ) → length mesh.faces ≤ n → with_faces mesh n ≡ with_mirrors mesh 0
-faces_all mesh n l = ap (begun mesh) (take_all n mesh.faces l ∙ sym (append-nil mesh.faces))
-
-pub mirrors_all : (mesh : FaceList) (n : ℕ) → length mesh.faces ≤ n → with_mirrors mesh n ≡ with_quads mesh 0
-mirrors_all mesh n l =
-    ap (begun mesh)
-    (ap (λ (l : List (List ℕ)). mesh.faces ++ l)
-    (take_all n (mirrors mesh) (omega (arith, l, length-map mesh.faces (mirror_face mesh.count))))
-    ∙ sym (append-nil (mesh.faces ++ mirrors mesh)))
-
 pub quads_all : (mesh : FaceList) (n : ℕ) → total_sides mesh ≤ n → (with_quads mesh n).mesh ≡ double_of mesh
 quads_all mesh n l =
     ap (λ (s : List FaceSide). (begun mesh (mesh.faces ++ mirrors mesh ++ quads mesh s)).mesh)
@@ -206,7 +170,7 @@ no_room mesh faces face first =
       ap (λ (fs : List (List ℕ)). sum_by length fs) first.1,
     )
 
-more_room : (few many : ℕ) (fault : DoubleFault) → few ≤ many → HasNoRoom few fault → HasNoRoom many fault
+pub more_room : (few many : ℕ) (fault : DoubleFault) → few ≤ many → HasNoRoom few fault → HasNoRoom many fault
 more_room few many fault l (inl none) = inl none
 more_room few many fault l (inr over) = inr (over.0, omega (arith, over.1))
 
@@ -250,12 +214,6 @@ pub mirror_closes : (old start : PendingFace) (count : ℕ) (ring : List ℕ)
 mirror_closes old start count ring from is h =
     subst (λ (p : PendingFace). IsFace p.mesh.count p.pending) (sym from)
     (subst (λ n. IsFace n (mirror_face count ring)) (sym is) (face_mirror count ring h))
-
--- the next face, and the next mirror
-pub face_next : (mesh : FaceList) (n : ℕ) (seen : PendingFace) (ring : List ℕ) → seen ≡ with_faces mesh n → ring ≡ face_at mesh n
-    → n < length mesh.faces → with_face seen ring ≡ with_faces mesh (n + 1)
-face_next mesh n seen ring from is l =
-    ap (λ (p : PendingFace). with_face p ring) from ∙ ap (with_face (with_faces mesh n)) is ∙ faces_more mesh n l
 
 pub mirror_next_face : (mesh : FaceList) (n count : ℕ) (seen : PendingFace) (ring : List ℕ) → seen ≡ with_mirrors mesh n
     → count ≡ mesh.count → ring ≡ face_at mesh n → n < length mesh.faces

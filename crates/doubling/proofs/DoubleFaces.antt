@@ -1,15 +1,5 @@
 -- The faces of a double, each of one of three kinds, and their corners.
-use Rattle.std.proofs.Common.{◌≡◌, ◌⊎◌, inl, inr, ℕ, ◌+◌, ◌-◌, ◌<◌, Bool, true, false, not, List, [], ◌∷◌, ◌++◌, length, map, get_or, refl, ap, sym, ◌∙◌, subst, arith, length-append}
-use Rattle.std.specs.Prelude.{filter}
-use Rattle.std.proofs.lemmas.Bool.{cases_lt}
-use Rattle.std.proofs.lemmas.Bool.Decides.{nat_tests}
-use Rattle.std.proofs.lemmas.List.{length-map, get_or-map, get_or_append_left, get_or-append_right, get_or-reverse, length-reverse}
-use Rattle.std.proofs.lemmas.List.Elements.{All-filter}
-use Rattle.surf_model.specs.FaceLists.{FaceList, FaceSide, face_at, all_sides, is_edge, next_corner}
-use Rattle.surf_model.specs.Darts.{tail_of}
-use Rattle.surf_model.specs.Edges.{side_name}
-use Rattle.surf_model.proofs.EdgeLemmas.{step_edge}
-use Rattle.surf_model.proofs.PartnerLemmas.{IsWholeSide, whole_side}
+use Rattle.doubling.proofs.Common.{◌≡◌, ◌⊎◌, inl, inr, ℕ, ◌+◌, ◌-◌, ◌<◌, Bool, true, false, not, List, [], ◌∷◌, ◌++◌, length, map, get_or, refl, ap, sym, ◌∙◌, subst, arith, length-append, cases_lt, nat_tests, length-map, get_or-map, get_or_append_left, get_or-append_right, get_or-reverse, length-reverse, All-filter, filter, step_edge, IsWholeSide, whole_side, tail_of, side_name, FaceList, FaceSide, face_at, all_sides, is_edge, next_corner}
 use Rattle.doubling.specs.Doubles.{mirror, mirror_face, is_rim, rim_quad, rim_quads, double_of}
 
 -- a face of the mesh
@@ -30,6 +20,13 @@ pub record IsRimQuad (mesh : FaceList) (ring : List ℕ) : Type 0 where
   pub edge : is_edge mesh tail head ≡ true
   pub ring_is : ring ≡ head ∷ tail ∷ mirror mesh.count tail ∷ mirror mesh.count head ∷ []
 
+-- the sides on the boundary
+abbrev pub rims : FaceList → List FaceSide
+rims mesh = filter (is_rim mesh) (all_sides mesh)
+
+pub no_side : FaceSide
+no_side = record { face = 0; at = 0; tail = 0; head = 0 }
+
 -- a face keeps its number
 pub kept_face : (mesh : FaceList) (f : ℕ) → f < length mesh.faces → face_at (double_of mesh) f ≡ face_at mesh f
 kept_face mesh f l =
@@ -42,57 +39,109 @@ kept_below mesh f l =
     let mirrors : List (List ℕ) = map (mirror_face mesh.count) mesh.faces in
     omega (arith, l, length-append mesh.faces mirrors, length-append (mesh.faces ++ mirrors) (rim_quads mesh))
 
+first_size : (mesh : FaceList)
+    → length (mesh.faces ++ map (mirror_face mesh.count) mesh.faces) ≡ length mesh.faces + length mesh.faces
+first_size mesh =
+    omega (arith, length-map mesh.faces (mirror_face mesh.count), length-append mesh.faces (map (mirror_face mesh.count) mesh.faces))
+
+-- behind them come the mirrors, and then the quads
+pub mirrored_face : (mesh : FaceList) (f : ℕ) → f < length mesh.faces
+    → face_at (double_of mesh) (length mesh.faces + f) ≡ mirror_face mesh.count (face_at mesh f)
+mirrored_face mesh f l =
+    let n : ℕ = length mesh.faces in
+    let mirrors : List (List ℕ) = map (mirror_face mesh.count) mesh.faces in
+    let there : n + f - n ≡ f = omega arith in
+    get_or_append_left (mesh.faces ++ mirrors) (rim_quads mesh) [] (n + f) (omega (arith, l, first_size mesh))
+    ∙ get_or-append_right mesh.faces mirrors n (n + f) [] refl (omega arith)
+    ∙ ap (λ k. get_or mirrors k []) there
+    ∙ get_or-map (mirror_face mesh.count) mesh.faces f [] [] l
+
+pub quad_face : (mesh : FaceList) (k : ℕ) → k < length (rims mesh)
+    → face_at (double_of mesh) (length mesh.faces + length mesh.faces + k) ≡ rim_quad mesh.count (get_or (rims mesh) k no_side)
+quad_face mesh k l =
+    let n : ℕ = length mesh.faces in
+    let there : n + n + k - (n + n) ≡ k = omega arith in
+    get_or-append_right (mesh.faces ++ map (mirror_face mesh.count) mesh.faces) (rim_quads mesh) (n + n) (n + n + k) [] (first_size mesh)
+    (omega arith)
+    ∙ ap (λ j. get_or (rim_quads mesh) j []) there
+    ∙ get_or-map (rim_quad mesh.count) (rims mesh) k no_side [] l
+
+pub double_size : (mesh : FaceList) → length (double_of mesh).faces ≡ length mesh.faces + length mesh.faces + length (rims mesh)
+double_size mesh =
+    omega (
+      arith,
+      first_size mesh,
+      length-map (rims mesh) (rim_quad mesh.count),
+      length-append (mesh.faces ++ map (mirror_face mesh.count) mesh.faces) (rim_quads mesh),
+    )
+
+-- a face of the double by its number
+pub record IsMirrorNumber (mesh : FaceList) (f : ℕ) : Type 0 where
+  pub face : ℕ
+  pub in_list : face < length mesh.faces
+  pub number : f ≡ length mesh.faces + face
+
+pub record IsQuadNumber (mesh : FaceList) (f : ℕ) : Type 0 where
+  pub place : ℕ
+  pub in_list : place < length (rims mesh)
+  pub number : f ≡ length mesh.faces + length mesh.faces + place
+
+pub number_kinds : (mesh : FaceList) (f : ℕ) → f < length (double_of mesh).faces
+    → (f < length mesh.faces) ⊎ (IsMirrorNumber mesh f ⊎ IsQuadNumber mesh f)
+number_kinds mesh f l =
+    let n : ℕ = length mesh.faces in
+    elim (cases_lt f n) [
+      | inl less ↦ inl less
+      | inr more ↦ elim (cases_lt f (n + n)) [
+        | inl less ↦ inr (inl (record { face = f - n; in_list = omega arith; number = omega arith }))
+        | inr last ↦ inr (inr (record { place = f - (n + n); in_list = omega (arith, l, last, double_size mesh); number = omega arith }))
+      ]
+    ]
+
 whole_edge : (mesh : FaceList) (k : ℕ) (side : FaceSide) → IsWholeSide mesh k side → is_edge mesh side.tail side.head ≡ true
 whole_edge mesh k side whole =
     subst (λ u. is_edge mesh u side.head ≡ true) (sym whole.tail)
     (subst (λ v. is_edge mesh (tail_of mesh (side_name side)) v ≡ true) (sym whole.head)
     (step_edge mesh side.face true side.at whole.side_of.face whole.side_of.place))
 
-no_side : FaceSide
-no_side = record { face = 0; at = 0; tail = 0; head = 0 }
-
-rim_kind : (mesh : FaceList) (k : ℕ) → k < length (rim_quads mesh) → IsRimQuad mesh (get_or (rim_quads mesh) k [])
-rim_kind mesh k l =
-    let rims : List FaceSide = filter (is_rim mesh) (all_sides mesh) in
-    let few : k < length rims = omega (arith, l, length-map rims (rim_quad mesh.count)) in
-    let side : FaceSide = get_or rims k no_side in
-    let whole : (j : ℕ) × IsWholeSide mesh j side =
+-- a side on the boundary is one of the mesh
+pub rim_whole : (mesh : FaceList) (k : ℕ) → k < length (rims mesh) → (j : ℕ) × IsWholeSide mesh j (get_or (rims mesh) k no_side)
+rim_whole mesh k l =
     All-filter (is_rim mesh) (λ (s : FaceSide). (j : ℕ) × IsWholeSide mesh j s) (all_sides mesh) (λ j e b. (j, whole_side mesh j e b)) k
-    no_side few in
+    no_side l
+
+quad_kind : (mesh : FaceList) (k : ℕ) → k < length (rims mesh) → IsRimQuad mesh (rim_quad mesh.count (get_or (rims mesh) k no_side))
+quad_kind mesh k l =
+    let whole = rim_whole mesh k l in
     record {
-      tail = side.tail;
-      head = side.head;
-      edge = whole_edge mesh whole.0 side whole.1;
-      ring_is = get_or-map (rim_quad mesh.count) rims k no_side [] few;
+      tail = (get_or (rims mesh) k no_side).tail;
+      head = (get_or (rims mesh) k no_side).head;
+      edge = whole_edge mesh whole.0 (get_or (rims mesh) k no_side) whole.1;
+      ring_is = refl;
     }
+
+pub rim_kind : (mesh : FaceList) (k : ℕ) → k < length (rim_quads mesh) → IsRimQuad mesh (get_or (rim_quads mesh) k [])
+rim_kind mesh k l =
+    let few : k < length (rims mesh) = omega (arith, l, length-map (rims mesh) (rim_quad mesh.count)) in
+    subst (IsRimQuad mesh) (sym (get_or-map (rim_quad mesh.count) (rims mesh) k no_side [] few)) (quad_kind mesh k few)
 
 pub kinds : (mesh : FaceList) (f : ℕ) → f < length (double_of mesh).faces
     → IsKept mesh f (face_at (double_of mesh) f)
     ⊎ (IsMirrored mesh (face_at (double_of mesh) f) ⊎ IsRimQuad mesh (face_at (double_of mesh) f))
 kinds mesh f l =
-    let n : ℕ = length mesh.faces in
-    let mirrors : List (List ℕ) = map (mirror_face mesh.count) mesh.faces in
-    let size : length mirrors ≡ n = length-map mesh.faces (mirror_face mesh.count) in
-    let first : length (mesh.faces ++ mirrors) ≡ n + n = omega (arith, size, length-append mesh.faces mirrors) in
-    elim (cases_lt f n) [
+    elim (number_kinds mesh f l) [
       | inl less ↦ inl (record { in_list = less; ring_is = kept_face mesh f less })
-      | inr more ↦ elim (cases_lt f (n + n)) [
-        | inl less ↦
-            (let face : f - n < n = omega arith in
+      | inr others ↦ elim others [
+        | inl is ↦
             inr (inl (record {
-              face = f - n;
-              in_list = face;
-              ring_is =
-                  get_or_append_left (mesh.faces ++ mirrors) (rim_quads mesh) [] f (omega arith)
-                  ∙ get_or-append_right mesh.faces mirrors n f [] refl more
-                  ∙ get_or-map (mirror_face mesh.count) mesh.faces (f - n) [] [] face;
-            })))
-        | inr last ↦
-            (let all : length (double_of mesh).faces ≡ n + n + length (rim_quads mesh) =
-            omega (arith, first, length-append (mesh.faces ++ mirrors) (rim_quads mesh)) in
+              face = is.face;
+              in_list = is.in_list;
+              ring_is = ap (face_at (double_of mesh)) is.number ∙ mirrored_face mesh is.face is.in_list;
+            }))
+        | inr is ↦
             inr (inr (subst (IsRimQuad mesh)
-            (sym (get_or-append_right (mesh.faces ++ mirrors) (rim_quads mesh) (n + n) f [] first last))
-            (rim_kind mesh (f - (n + n)) (omega arith)))))
+            (sym (ap (face_at (double_of mesh)) is.number ∙ quad_face mesh is.place is.in_list))
+            (quad_kind mesh is.place is.in_list)))
       ]
     ]
 

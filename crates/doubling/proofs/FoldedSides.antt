@@ -1,13 +1,9 @@
 -- The fold of each edge of the double is an edge of the mesh, or one vertex.
-use Rattle.std.proofs.Common.{◌≡◌, ◌⊎◌, inl, inr, ℕ, zero, suc, ◌-◌, ◌<◌, true, false, List, [], ◌∷◌, length, get_or, ap, sym, ◌∙◌, subst, arith}
-use Rattle.surf_model.specs.FaceLists.{FaceList, IsFaceList, face_at, next_corner, is_edge}
-use Rattle.surf_model.specs.Darts.{IsSide, tail_of, head_of}
-use Rattle.surf_model.specs.declared.edges.Side.{Side}
-use Rattle.surf_model.proofs.EdgeLemmas.{edge_swap, step_edge, step_within, tail_used, head_used, used_below}
-use Rattle.connectivity.proofs.EdgeLemmas.{HasSideBetween, side_between}
-use Rattle.doubling.specs.Doubles.{mirror, mirror_face, double_of}
+use Rattle.doubling.proofs.Common.{HasSideBetween, side_between, ◌≡◌, ◌⊎◌, inl, inr, ℕ, zero, suc, ◌-◌, ◌<◌, true, List, length, get_or, ap, sym, ◌∙◌, subst, arith, edge_swap, step_edge, tail_used, head_used, used_below, IsSide, tail_of, head_of, FaceList, IsFaceList, is_edge, Side}
+use Rattle.doubling.specs.Doubles.{mirror_face, double_of}
 use Rattle.doubling.specs.Folds.{fold}
-use Rattle.doubling.proofs.DoubleFaces.{IsKept, IsMirrored, IsRimQuad, kinds, length-mirror_face, mirror_corner, mirror_next}
+use Rattle.doubling.proofs.DoubleFaces.{rims, mirror_corner}
+use Rattle.doubling.proofs.DoubleSides.{kept_tail, kept_head, over_side_tail, over_head, rim_side, quad_side, rim_in_mesh, first_tail, second_tail, third_tail, fourth_tail, first_head, second_head, third_head, fourth_head, side_kinds}
 use Rattle.doubling.proofs.RepeatLemmas.{fold_kept, fold_mirror}
 
 -- two vertices have one fold, or their folds form an edge of the mesh
@@ -19,82 +15,72 @@ over_edge : (mesh : FaceList) (u v a b : ℕ) → fold mesh.count u ≡ a → fo
 over_edge mesh u v a b fu fv is =
     inr (subst (λ x. is_edge mesh x (fold mesh.count v) ≡ true) (sym fu) (subst (λ y. is_edge mesh a y ≡ true) (sym fv) is))
 
--- a corner of the mesh and the next one
-kept_corner : (mesh : FaceList) (f t : ℕ) → IsFaceList mesh → f < length mesh.faces → t < length (face_at mesh f)
-    → fold mesh.count (get_or (face_at mesh f) t 0) ≡ get_or (face_at mesh f) t 0
-kept_corner mesh f t valid l b = fold_kept mesh.count (get_or (face_at mesh f) t 0) ((valid.faces f [] l).in_range t 0 b)
-
-pub kept_folds : (mesh : FaceList) (f t : ℕ) (ring : List ℕ) → IsFaceList mesh → IsKept mesh f ring → t < length ring
-    → FoldsToEdge mesh (get_or ring t 0) (get_or ring (next_corner true (length ring) t) 0)
-kept_folds mesh f t ring valid is b =
-    let face : List ℕ = face_at mesh f in
-    let l : t < length face = subst (λ (r : List ℕ). t < length r) is.ring_is b in
-    let next : ℕ = next_corner true (length face) t in
-    subst (λ (r : List ℕ). FoldsToEdge mesh (get_or r t 0) (get_or r (next_corner true (length r) t) 0)) (sym is.ring_is)
-    (over_edge mesh (get_or face t 0) (get_or face next 0) (get_or face t 0) (get_or face next 0)
-    (kept_corner mesh f t valid is.in_list l)
-    (kept_corner mesh f next valid is.in_list (step_within true (length face) t l))
-    (step_edge mesh f true t is.in_list l))
-
 -- a corner of a mirror is folded to the corner under it
 pub mirror_folds : (count : ℕ) (face : List ℕ) (t : ℕ) → t < length face
     → fold count (get_or (mirror_face count face) t 0) ≡ get_or face (length face - 1 - t) 0
 mirror_folds count face t l =
     ap (fold count) (mirror_corner count face t l) ∙ fold_mirror count (get_or face (length face - 1 - t) 0)
 
-pub mirrored_folds : (mesh : FaceList) (t : ℕ) (ring : List ℕ) → IsMirrored mesh ring → t < length ring
-    → FoldsToEdge mesh (get_or ring t 0) (get_or ring (next_corner true (length ring) t) 0)
-mirrored_folds mesh t ring is b =
-    let face : List ℕ = face_at mesh is.face in
-    let m : ℕ = length face in
-    let whole : List ℕ = mirror_face mesh.count face in
-    let size : length whole ≡ m = length-mirror_face mesh.count face in
-    let l : t < m = subst (λ (n : ℕ). t < n) size (subst (λ (r : List ℕ). t < length r) is.ring_is b) in
-    let next : ℕ = next_corner true m t in
-    let under : ℕ = m - 1 - t in
-    let within : under < m = omega arith in
-    subst (λ (r : List ℕ). FoldsToEdge mesh (get_or r t 0) (get_or r (next_corner true (length r) t) 0)) (sym is.ring_is)
-    (subst (λ (n : ℕ). FoldsToEdge mesh (get_or whole t 0) (get_or whole (next_corner true n t) 0)) (sym size)
-    (over_edge mesh (get_or whole t 0) (get_or whole next 0) (get_or face under 0) (get_or face (next_corner false m under) 0)
-    (mirror_folds mesh.count face t l)
-    (mirror_folds mesh.count face next (step_within true m t l) ∙ ap (λ k. get_or face k 0) (mirror_next true m t l))
-    (step_edge mesh is.face false under is.in_list within)))
+-- the ends of a side of the mesh
+module _ (mesh : FaceList) (side : Side) (valid : IsFaceList mesh) (is : IsSide mesh side) where
+  side_edge : is_edge mesh (tail_of mesh side) (head_of mesh side) ≡ true
+  side_edge = step_edge mesh side.face.0 true side.at is.face is.place
 
-quad_folds : (mesh : FaceList) (t : ℕ) (ring : List ℕ) → IsFaceList mesh → IsRimQuad mesh ring → t < length ring
-    → FoldsToEdge mesh (get_or ring t 0) (get_or ring (next_corner true (length ring) t) 0)
-quad_folds mesh t ring valid is b =
-    let quad : List ℕ = is.head ∷ is.tail ∷ mirror mesh.count is.tail ∷ mirror mesh.count is.head ∷ [] in
-    subst (λ (r : List ℕ). FoldsToEdge mesh (get_or r t 0) (get_or r (next_corner true (length r) t) 0)) (sym is.ring_is)
-    (corners t (subst (λ (r : List ℕ). t < length r) is.ring_is b))
+  edge_back : is_edge mesh (head_of mesh side) (tail_of mesh side) ≡ true
+  edge_back = edge_swap mesh (head_of mesh side) (tail_of mesh side) ∙ side_edge
+
+  tail_kept : fold mesh.count (tail_of mesh side) ≡ tail_of mesh side
+  tail_kept = fold_kept mesh.count (tail_of mesh side) (used_below mesh (tail_of mesh side) valid (tail_used mesh _ _ side_edge))
+
+  head_kept : fold mesh.count (head_of mesh side) ≡ head_of mesh side
+  head_kept = fold_kept mesh.count (head_of mesh side) (used_below mesh (head_of mesh side) valid (head_used mesh _ _ side_edge))
+
+abbrev SideFolds : FaceList → Side → Type 0
+SideFolds mesh side = FoldsToEdge mesh (tail_of (double_of mesh) side) (head_of (double_of mesh) side)
+
+quad_folds : (mesh : FaceList) (k i : ℕ) → IsFaceList mesh → k < length (rims mesh) → i < 4 → SideFolds mesh (quad_side mesh k i)
+quad_folds mesh k i valid l b = folds i b
   where
-    low : fold mesh.count is.tail ≡ is.tail
-    low = fold_kept mesh.count is.tail (used_below mesh is.tail valid (tail_used mesh is.tail is.head is.edge))
+    F : ℕ → ℕ
+    F = fold mesh.count
 
-    high : fold mesh.count is.head ≡ is.head
-    high = fold_kept mesh.count is.head (used_below mesh is.head valid (head_used mesh is.tail is.head is.edge))
+    rim : Side
+    rim = rim_side mesh k
 
-    back : is_edge mesh is.head is.tail ≡ true
-    back = edge_swap mesh is.head is.tail ∙ is.edge
+    low : F (tail_of mesh rim) ≡ tail_of mesh rim
+    low = tail_kept mesh rim valid (rim_in_mesh mesh k l)
 
-    corners : (t : ℕ) → t < 4
-        → FoldsToEdge mesh (get_or (is.head ∷ is.tail ∷ mirror mesh.count is.tail ∷ mirror mesh.count is.head ∷ []) t 0)
-        (get_or (is.head ∷ is.tail ∷ mirror mesh.count is.tail ∷ mirror mesh.count is.head ∷ []) (next_corner true 4 t) 0)
-    corners zero l = over_edge mesh is.head is.tail is.head is.tail high low back
-    corners (suc zero) l = inl (low ∙ sym (fold_mirror mesh.count is.tail))
-    corners (suc (suc zero)) l =
-        over_edge mesh (mirror mesh.count is.tail) (mirror mesh.count is.head) is.tail is.head (fold_mirror mesh.count is.tail)
-        (fold_mirror mesh.count is.head) is.edge
-    corners (suc (suc (suc zero))) l = inl (fold_mirror mesh.count is.head ∙ sym high)
-    corners (suc (suc (suc (suc t)))) l = absurd (omega arith)
+    high : F (head_of mesh rim) ≡ head_of mesh rim
+    high = head_kept mesh rim valid (rim_in_mesh mesh k l)
 
-side_folds : (mesh : FaceList) (side : Side) → IsFaceList mesh → IsSide (double_of mesh) side
-    → FoldsToEdge mesh (tail_of (double_of mesh) side) (head_of (double_of mesh) side)
-side_folds mesh side valid is =
-    elim (kinds mesh side.face.0 is.face) [
-      | inl kept ↦ kept_folds mesh side.face.0 side.at (face_at (double_of mesh) side.face.0) valid kept is.place
+    folds : (i : ℕ) → i < 4 → SideFolds mesh (quad_side mesh k i)
+    folds zero b =
+        over_edge mesh _ _ (head_of mesh rim) (tail_of mesh rim) (ap F (first_tail mesh k l) ∙ high) (ap F (first_head mesh k l) ∙ low)
+        (edge_back mesh rim valid (rim_in_mesh mesh k l))
+    folds (suc zero) b =
+        inl (ap F (second_tail mesh k l) ∙ low ∙ sym (ap F (second_head mesh k l) ∙ fold_mirror mesh.count (tail_of mesh rim)))
+    folds (suc (suc zero)) b =
+        over_edge mesh _ _ (tail_of mesh rim) (head_of mesh rim) (ap F (third_tail mesh k l) ∙ fold_mirror mesh.count (tail_of mesh rim))
+        (ap F (third_head mesh k l) ∙ fold_mirror mesh.count (head_of mesh rim)) (side_edge mesh rim valid (rim_in_mesh mesh k l))
+    folds (suc (suc (suc zero))) b =
+        inl (ap F (fourth_tail mesh k l) ∙ fold_mirror mesh.count (head_of mesh rim) ∙ sym (ap F (fourth_head mesh k l) ∙ high))
+    folds (suc (suc (suc (suc j)))) b = absurd (omega arith)
+
+side_folds : (mesh : FaceList) (side : Side) → IsFaceList mesh → IsSide (double_of mesh) side → SideFolds mesh side
+side_folds mesh side valid h =
+    let F : ℕ → ℕ = fold mesh.count in
+    elim (side_kinds mesh side h) [
+      | inl is ↦
+          over_edge mesh _ _ (tail_of mesh side) (head_of mesh side) (ap F (kept_tail mesh side is) ∙ tail_kept mesh side valid is)
+          (ap F (kept_head mesh side is) ∙ head_kept mesh side valid is) (side_edge mesh side valid is)
       | inr others ↦ elim others [
-        | inl mirrored ↦ mirrored_folds mesh side.at (face_at (double_of mesh) side.face.0) mirrored is.place
-        | inr quad ↦ quad_folds mesh side.at (face_at (double_of mesh) side.face.0) valid quad is.place
+        | inl over ↦
+            subst (SideFolds mesh) (sym over.is)
+            (over_edge mesh _ _ (head_of mesh over.under) (tail_of mesh over.under)
+            (ap F (over_side_tail mesh over.under over.in_mesh) ∙ fold_mirror mesh.count (head_of mesh over.under))
+            (ap F (over_head mesh over.under over.in_mesh) ∙ fold_mirror mesh.count (tail_of mesh over.under))
+            (edge_back mesh over.under valid over.in_mesh))
+        | inr quad ↦ subst (SideFolds mesh) (sym quad.is) (quad_folds mesh quad.quad quad.at valid quad.in_list quad.in_quad)
       ]
     ]
 

@@ -1,19 +1,7 @@
 -- What a mesh has, its double has: edges, walks, and moves, which do there what they do here.
-use Rattle.std.proofs.Common.{◌≡◌, inl, inr, ℕ, ◌<◌, Bool, true, false, not, ◌||◌, List, [], ◌∷◌, ◌++◌, length, map, get_or, refl, ap, sym, ◌∙◌, subst, ◌+◌, ◌-◌, ◌≤◌}
-use Rattle.std.specs.Prelude.{Some, ◌==◌}
-use Rattle.std.specs.List.{list_any}
+use Rattle.doubling.proofs.Common.{HasSideBetween, side_between, ◌≡◌, inl, inr, ℕ, ◌<◌, Bool, true, false, not, ◌||◌, List, [], ◌∷◌, ◌++◌, length, map, get_or, refl, ap, sym, ◌∙◌, subst, ◌+◌, ◌-◌, ◌≤◌, Some, ◌==◌, first_answer, stays_walk, edge_swap, step_edge, by_replacing, tail_of, head_of, FaceList, face_at, corners_from, next_corner, is_edge, is_used, apply, apply_all, IsReplacement, Replaces, IsWalk, Move, Insert, Remove, Across}
 use Rattle.std.proofs.lemmas.List.Folds.{list_any-append}
-use Rattle.surf_model.specs.FaceLists.{FaceList, face_at, corners_from, next_corner, is_edge, is_used}
-use Rattle.surf_model.specs.Darts.{tail_of, head_of}
-use Rattle.surf_model.specs.Moves.{apply, apply_all}
-use Rattle.surf_model.specs.Replacements.{IsReplacement, Replaces}
-use Rattle.surf_model.specs.Walks.{IsWalk}
-use Rattle.surf_model.specs.declared.moves.Move.{Move}
-use Rattle.surf_model.specs.declared.moves.Move.TheVariants.{Insert, Remove, Across}
-use Rattle.surf_model.proofs.EdgeLemmas.{edge_swap, step_edge}
-use Rattle.surf_model.proofs.ReplacementLemmas.{by_replacing}
-use Rattle.surf_model.proofs.ContextLemmas.{first_answer, stays_walk}
-use Rattle.connectivity.proofs.EdgeLemmas.{HasSideBetween, side_between}
+use Rattle.std.specs.List.{list_any}
 use Rattle.doubling.specs.Doubles.{mirror_face, rim_quads, double_of}
 use Rattle.doubling.proofs.DoubleFaces.{kept_face, kept_below}
 
@@ -72,7 +60,7 @@ kept_replaces mesh (Across at face corner forward taken) part other h =
       h.4 ∙ ap (λ (r : List ℕ). corners_from r (not forward) corner (length r - taken)) same,
     )
 
-kept_move : (mesh : FaceList) (walk next : List ℕ) (move : Move) → 0 < length walk → apply mesh walk move ≡ Some next
+pub kept_move : (mesh : FaceList) (walk next : List ℕ) (move : Move) → 0 < length walk → apply mesh walk move ≡ Some next
     → apply (double_of mesh) walk move ≡ Some next
 kept_move mesh walk next move start e =
     let r : IsReplacement mesh move walk next = (by_replacing mesh walk next move start).0 e in

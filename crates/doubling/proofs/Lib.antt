@@ -1,8 +1,14 @@
+pub mod Common
 pub mod DoubleFaces
+pub mod DoubleSides
 pub mod BuildingLemmas
+pub mod LimitLemmas
 pub mod ValidDoubles
 pub mod RimLemmas
 pub mod RepeatLemmas
 pub mod FoldedSides
 pub mod FoldedMoves
 pub mod KeptMoves
+pub mod FoldedFreeSteps
+pub mod FoldedChains
+pub mod KeptClasses

@@ -1,13 +1,7 @@
 -- Sides on the boundary, by the table of the mesh.
-use Rattle.std.proofs.Common.{◌≡◌, inl, inr, ℕ, ◌<◌, List, length, ap, sym, ◌∙◌, subst}
-use Rattle.std.specs.Prelude.{◌==◌, Contains}
-use Rattle.surf_model.specs.Darts.{tail_of, head_of}
-use Rattle.surf_model.specs.Edges.{Edge, IsTableOf, IsEdgeOf, edge_in}
-use Rattle.surf_model.specs.FaceLists.{FaceList}
-use Rattle.surf_model.specs.Surfaces.{sides_between}
-use Rattle.surf_model.specs.declared.edges.Side.{Side}
-use Rattle.surf_model.proofs.PartnerLemmas.{HasSideEnds, IsSideOfEdge, side_of_edge, table_edge}
+use Rattle.doubling.proofs.Common.{◌≡◌, inl, inr, ℕ, ◌<◌, List, length, ap, sym, ◌∙◌, subst, ◌==◌, Contains, HasSideEnds, IsSideOfEdge, side_of_edge, table_edge, tail_of, head_of, Edge, IsTableOf, IsEdgeOf, edge_in, FaceList, Side}
 use Rattle.surf_model.proofs.TableEdgeLemmas.{sides_of_edge, sides_between_swap}
+use Rattle.surf_model.specs.Surfaces.{sides_between}
 
 -- the sides between the ends of a side of an edge are those of the edge
 ends_count : (mesh : FaceList) (edge : Edge) (side : Side) → IsEdgeOf mesh edge → HasSideEnds mesh edge.low edge.high side

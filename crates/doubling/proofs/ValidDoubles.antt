@@ -1,9 +1,5 @@
 -- The double of a polygon mesh is one.
-use Rattle.std.proofs.Common.{◌≡◌, inl, inr, ℕ, ◌+◌, ◌<◌, List, [], length, sym, subst}
-use Rattle.std.proofs.lemmas.List.{get_or_default}
-use Rattle.surf_model.specs.FaceLists.{FaceList, IsFace, IsFaceList, face_at}
-use Rattle.surf_model.proofs.EdgeLemmas.{tail_used, head_used, used_below}
-use Rattle.connectivity.proofs.EdgeLemmas.{edge_differs}
+use Rattle.doubling.proofs.Common.{edge_differs, inl, inr, ℕ, ◌+◌, ◌<◌, [], length, sym, subst, get_or_default, tail_used, head_used, used_below, FaceList, IsFace, IsFaceList, face_at}
 use Rattle.doubling.specs.Doubles.{double_of}
 use Rattle.doubling.proofs.BuildingLemmas.{face_more, face_mirror, face_quad}
 use Rattle.doubling.proofs.DoubleFaces.{kinds}

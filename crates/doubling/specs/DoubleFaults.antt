@@ -6,13 +6,17 @@ use Rattle.doubling.specs.Doubles.{double_of}
 use Rattle.doubling.specs.declared.fault.DoubleFault.{DoubleFault}
 use Rattle.doubling.specs.declared.fault.DoubleFault.TheVariants.{TooManyVertices, TooManySides, OutOfMemory}
 
--- the double has few enough vertices, and too many sides
-pub record HasTooManySides (mesh : FaceList) : Type 0 where
-  pub few_vertices : (double_of mesh).count ≤ MOST_VERTICES
-  pub many_sides : MOST_SIDES < total_sides (double_of mesh)
+-- few enough vertices, and too many sides
+pub record HasTooManySides (made : FaceList) : Type 0 where
+  pub few_vertices : made.count ≤ MOST_VERTICES
+  pub many_sides : MOST_SIDES < total_sides made
 
--- the limit that the double is beyond, vertices first; want of memory is no fault of the mesh
+-- the limit that what was to be made is beyond, vertices first; want of memory is no fault of a mesh
+abbrev pub IsTooLarge : FaceList → DoubleFault → Type 0
+IsTooLarge made TooManyVertices = MOST_VERTICES < made.count
+IsTooLarge made TooManySides = HasTooManySides made
+IsTooLarge made OutOfMemory = ⊥
+
+-- the limit that the double is beyond
 abbrev pub IsBeyond : FaceList → DoubleFault → Type 0
-IsBeyond mesh TooManyVertices = MOST_VERTICES < (double_of mesh).count
-IsBeyond mesh TooManySides = HasTooManySides mesh
-IsBeyond mesh OutOfMemory = ⊥
+IsBeyond mesh fault = IsTooLarge (double_of mesh) fault

@@ -71,7 +71,7 @@ fn put_mirror(double: &mut FacesBuilder, ring: &[VertexName], count: u32) -> Res
     for place in 0..ring.len() {
         double.push(mirror(ring[ring.len() - 1 - place], count))?;
     }
-    close(double)
+    close_face(double)
 }
 
 /// Puts the quads of the sides on the boundary.
@@ -160,11 +160,11 @@ fn put_face(double: &mut FacesBuilder, ring: &[VertexName]) -> Result<(), Double
     for corner in ring {
         double.push(*corner)?;
     }
-    close(double)
+    close_face(double)
 }
 
 /// Closes the face whose corners were put, unless there are then more sides than a mesh may have.
-fn close(double: &mut FacesBuilder) -> Result<(), DoubleFault>
+pub fn close_face(double: &mut FacesBuilder) -> Result<(), DoubleFault>
     requires { IsFace double.old.mesh.count double.old.pending }
     ensures put { OnOk result (double.new ≡ with_face double.old double.old.pending) }
     ensures fault { IfErr result (HasNoRoom (total_sides double.old.mesh + length double.old.pending)) }

@@ -1,16 +1,16 @@
-//! Why a mesh has no double here.
+//! Why a mesh has no double here, or no double cover.
 ghost use Rattle.std.specs.Prelude.{◌≡◌};
 
 use std::alloc::AllocError;
 
-/// The first limit of a mesh that the double is beyond.
+/// The first limit of a mesh that its double, or a double cover of it, is beyond.
 #[derive(Clone, Copy, Debug, PartialEq, Eq)]
 pub enum DoubleFault {
-    /// The double has more vertices than a mesh may have.
+    /// It has more vertices than a mesh may have.
     TooManyVertices,
-    /// The double has more sides than a mesh may have.
+    /// It has more sides than a mesh may have.
     TooManySides,
-    /// There is no memory for the double.
+    /// There is no memory for it.
     OutOfMemory,
 }
 

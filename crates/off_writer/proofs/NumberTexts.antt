@@ -1,34 +1,21 @@
 -- Numbers in digits, and lines of them, as they are read.
-use Rattle.std.proofs.Common.{◌≡◌, ℕ, ◌^◌, ◌<◌, true, List, [], ◌∷◌, map, ap, ◌∙◌, refl}
-use Rattle.std.specs.Prelude.{Some, None, All, decimal, if◌then◌else◌}
-use Rattle.std.specs.List.{list_all}
-use Rattle.std.proofs.lemmas.Bool.{and_from}
-use Rattle.std.proofs.lemmas.List.Elements.{All-nil, All-cons, All-head, All-tail}
-use Rattle.text_scan.specs.Lines.{is_filled}
-use Rattle.text_scan.specs.Numbers.{is_digit, is_natural, value_of, natural_of}
-use Rattle.text_scan.proofs.WrittenLemmas.{IsWritable, decimal_is, decimal-writable}
+use Rattle.off_writer.proofs.Common.{◌≡◌, ℕ, ◌^◌, ◌<◌, true, List, [], ◌∷◌, map, ap, ◌∙◌, refl, arith, and_from, All-head, All-tail, list_all, Some, None, All, decimal, if◌then◌else◌, decimal_is, is_filled, is_digit, is_natural, value_of, natural_of}
 
 abbrev pub Fits : ℕ → Type 0
-Fits n = n < 2 ^ 64
+Fits n = n < 2 ^ 32
 
-pub natural-decimal : (n : ℕ) → n < 2 ^ 64 → is_natural (decimal n) ≡ true
+pub natural-decimal : (n : ℕ) → Fits n → is_natural (decimal n) ≡ true
 unfolding is_natural
 natural-decimal n fits =
-    let d = decimal_is n fits in
+    let d = decimal_is n (omega (arith, fits)) in
     and_from (is_filled (decimal n)) (list_all is_digit (decimal n)) d.filled d.all
 
-pub value-decimal : (n : ℕ) → n < 2 ^ 64 → value_of (decimal n) ≡ n
-value-decimal n fits = (decimal_is n fits).value
+pub value-decimal : (n : ℕ) → Fits n → value_of (decimal n) ≡ n
+value-decimal n fits = (decimal_is n (omega (arith, fits))).value
 
-pub natural_of-decimal : (n : ℕ) → n < 2 ^ 64 → natural_of (decimal n) ≡ Some n
+pub natural_of-decimal : (n : ℕ) → Fits n → natural_of (decimal n) ≡ Some n
 natural_of-decimal n fits =
     ap (λ b. if b then Some (value_of (decimal n)) else None) (natural-decimal n fits) ∙ ap Some (value-decimal n fits)
-
-pub writable_all : (ns : List ℕ) → All Fits ns → All IsWritable (map decimal ns)
-writable_all [] small = All-nil IsWritable
-writable_all (n ∷ ns) small =
-    All-cons IsWritable (decimal n) (map decimal ns) (decimal-writable n (All-head Fits n ns small))
-    (writable_all ns (All-tail Fits n ns small))
 
 pub naturals-decimal : (ns : List ℕ) → All Fits ns → list_all is_natural (map decimal ns) ≡ true
 naturals-decimal [] small = refl

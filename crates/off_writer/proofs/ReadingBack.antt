@@ -1,24 +1,13 @@
--- The text of a mesh is read as the mesh.
-use Rattle.std.proofs.Common.{◌≡◌, inl, inr, ℕ, zero, suc, ◌+◌, ◌*◌, ◌^◌, ◌<◌, ◌≤◌, Bool, true, false, List, [], ◌∷◌, ◌++◌, length, map, take, get_or, arith, sym, ap, ◌∙◌, subst, refl, append_assoc}
-use Rattle.std.specs.Prelude.{Option, Some, None, option_and_then, Ok, codes, All, decimal, flat_map, sum_by, replicate, nat_le, nat_lt, ◌==◌}
-use Rattle.std.specs.List.{list_all, list_any, cons_option, range_with_len}
-use Rattle.std.proofs.lemmas.Bool.{cases_Bool, and_from, eqb-true, lt-ltb, le-ltb, le-leb}
-use Rattle.std.proofs.lemmas.List.Folds.{Any-from_list_any}
-use Rattle.std.proofs.lemmas.List.FromFn.{length-range_with_len, get_or-range_with_len}
-use Rattle.std.proofs.lemmas.List.{append-nil, length-map, take_all}
-use Rattle.std.proofs.lemmas.List.Sums.{sum_by_push, sum_by-cons}
-use Rattle.std.proofs.lemmas.List.Elements.{All-nil, All-cons, All-head, All-tail, All-append, All-map, All-weaker, filter_map-append}
-use Rattle.text_scan.specs.Lines.{Line, unmarked, lines_from, full_lines, end_line}
-use Rattle.text_scan.specs.Numbers.{is_natural, value_of, is_number_text}
-use Rattle.text_scan.specs.Plain.{line_of}
-use Rattle.text_scan.proofs.WrittenLemmas.{IsWritable, IsLine, numbered, lines_from-written, decimal-writable}
+-- The text of a mesh is read as the mesh, whatever number texts stand for its vertices.
+use Rattle.off_writer.proofs.Common.{◌≡◌, inl, inr, ℕ, suc, ◌+◌, ◌*◌, ◌<◌, ◌≤◌, Bool, true, false, List, [], ◌∷◌, ◌++◌, length, map, take, get_or, arith, sym, ap, ◌∙◌, subst, refl, append_assoc, cases_Bool, and_from, eqb-true, lt-ltb, le-ltb, le-leb, append-nil, length-map, take_all, length-replicate, All-nil, All-cons, All-head, All-tail, All-append, All-map, All-replicate, All-weaker, filter_map-append, Any-from_list_any, list_all, list_any, cons_option, range_with_len, Option, Some, None, option_and_then, Ok, codes, All, decimal, flat_map, sum_by, replicate, nat_le, nat_lt, ◌==◌, FaceList, IsFace, IsFaceList, HasFileSize, next_corner, IsWritable, IsLine, numbered, lines_from-written, number-writable, decimals-writable, Line, unmarked, lines_from, full_lines, end_line, is_natural, value_of, is_number_text, line_of}
 use Rattle.off_reader.specs.OffTexts.{header_of, keyword_of, are_pieces, counts_at, taken, point_fault, face_fault, corners_of, corners_among, rings_of, has_equal_neighbours, ring_fault, mesh_of, meaning_of}
-use Rattle.off_reader.specs.declared.off_fault.OffFault.{OffFault}
 use Rattle.off_reader.specs.declared.header.TheConstants.{MOST_FACES}
-use Rattle.surf_model.specs.FaceLists.{FaceList, IsFace, IsFaceList, HasFileSize, next_corner}
+use Rattle.off_reader.specs.declared.off_fault.OffFault.{OffFault}
+use Rattle.std.proofs.lemmas.List.FromFn.{length-range_with_len, get_or-range_with_len}
+use Rattle.std.proofs.lemmas.List.Sums.{sum_by_push, sum_by-cons}
 use Rattle.surf_model.specs.declared.limits.TheConstants.{MOST_VERTICES, MOST_SIDES}
-use Rattle.off_writer.specs.WrittenMeshes.{point_words, ring_words, mesh_lines, off_text}
-use Rattle.off_writer.proofs.NumberTexts.{Fits, natural-decimal, value-decimal, natural_of-decimal, writable_all, naturals-decimal, values-decimal}
+use Rattle.off_writer.specs.WrittenMeshes.{point_words, ring_words, off_text}
+use Rattle.off_writer.proofs.NumberTexts.{Fits, natural-decimal, value-decimal, natural_of-decimal, naturals-decimal, values-decimal}
 
 -- ---- the lines are lines
 
@@ -54,24 +43,10 @@ rings_are_lines : (count : ℕ) (faces : List (List ℕ)) → count ≤ MOST_VER
 rings_are_lines count faces few all =
     All-map IsLine ring_words faces
     (All-weaker (IsSmall count) (λ face. IsLine (ring_words face))
-    (λ face h. record { filled = refl; writable = writable_all (length face ∷ face) (ring_fits count face few h) }) faces all)
+    (λ face h. record { filled = refl; writable = decimals-writable (length face ∷ face) (ring_fits count face few h) }) faces all)
 
 zero_writable : IsWritable (codes "0")
 zero_writable = record { filled = refl; inside = refl }
-
-point_is_line : IsLine point_words
-point_is_line =
-    record {
-      filled = refl;
-      writable =
-          All-cons IsWritable (codes "0") (codes "0" ∷ codes "0" ∷ []) zero_writable
-          (All-cons IsWritable (codes "0") (codes "0" ∷ []) zero_writable
-          (All-cons IsWritable (codes "0") [] zero_writable (All-nil IsWritable)));
-    }
-
-points_are_lines : (count : ℕ) → All IsLine (replicate count point_words)
-points_are_lines zero = All-nil IsLine
-points_are_lines (suc count) = All-cons IsLine point_words (replicate count point_words) point_is_line (points_are_lines count)
 
 keyword_is_line : IsLine (codes "OFF" ∷ [])
 keyword_is_line =
@@ -82,19 +57,34 @@ counts_are_line v f fv ff =
     record {
       filled = refl;
       writable =
-          All-cons IsWritable (decimal v) (decimal f ∷ codes "0" ∷ []) (decimal-writable v fv)
-          (All-cons IsWritable (decimal f) (codes "0" ∷ []) (decimal-writable f ff)
+          All-cons IsWritable (decimal v) (decimal f ∷ codes "0" ∷ []) (number-writable v fv)
+          (All-cons IsWritable (decimal f) (codes "0" ∷ []) (number-writable f ff)
           (All-cons IsWritable (codes "0") [] zero_writable (All-nil IsWritable)));
     }
 
 -- ---- the lines of vertices
 
+-- the words of a line that is taken for a vertex
+pub record IsPointLine (words : List (List ℕ)) : Type 0 where
+  pub is_line : IsLine words
+  pub no_fault : (before : List Line) (number : ℕ) → point_fault 3 before (record { number = number; words = words }) ≡ None
+
 zero_text : is_number_text (codes "0") ≡ true
 unfolding is_number_text is_natural
 zero_text = refl
 
-fits_point : (before : List Line) (number : ℕ) → point_fault 3 before (record { number = number; words = point_words }) ≡ None
-fits_point before number = rw zero_text refl
+zeros_are_point : IsPointLine point_words
+zeros_are_point =
+    record {
+      is_line = record {
+        filled = refl;
+        writable =
+            All-cons IsWritable (codes "0") (codes "0" ∷ codes "0" ∷ []) zero_writable
+            (All-cons IsWritable (codes "0") (codes "0" ∷ []) zero_writable
+            (All-cons IsWritable (codes "0") [] zero_writable (All-nil IsWritable)));
+      };
+      no_fault = λ before number. rw zero_text refl;
+    }
 
 -- reading goes on where a line has no fault
 taken_more : (fault : List Line → Line → Option OffFault) (end : ℕ) (before : List Line) (n : ℕ) (line : Line) (lines : List Line)
@@ -108,21 +98,21 @@ record TakesLines (fault : List Line → Line → Option OffFault) (end : ℕ) (
   after : List Line
   taken_so : taken fault end before n lines ≡ Ok (after, left)
 
-takes_points : (end n count : ℕ) (before : List Line) (rest : List (List (List ℕ)))
-    → TakesLines (point_fault 3) end before count (numbered n (replicate count point_words ++ rest)) (numbered (n + count) rest)
+takes_points : (end n : ℕ) (before : List Line) (points rest : List (List (List ℕ))) → All IsPointLine points
+    → TakesLines (point_fault 3) end before (length points) (numbered n (points ++ rest)) (numbered (n + length points) rest)
 unfolding taken
-takes_points end n zero before rest =
+takes_points end n before [] rest all =
     let same : n ≡ n + 0 = omega arith in
     record { after = before; taken_so = ap (λ k. Ok (before, numbered k rest)) same }
-takes_points end n (suc count) before rest =
-    let line : Line = record { number = n; words = point_words } in
-    let others = takes_points end (n + 1) count (before ++ line ∷ []) rest in
-    let same : n + 1 + count ≡ n + suc count = omega arith in
+takes_points end n before (words ∷ points) rest all =
+    let line : Line = record { number = n; words = words } in
+    let others = takes_points end (n + 1) (before ++ line ∷ []) points rest (All-tail IsPointLine words points all) in
+    let same : n + 1 + length points ≡ n + suc (length points) = omega arith in
     record {
       after = others.after;
       taken_so =
-          taken_more (point_fault 3) end before count line (numbered (n + 1) (replicate count point_words ++ rest))
-          (fits_point before n)
+          taken_more (point_fault 3) end before (length points) line (numbered (n + 1) (points ++ rest))
+          ((All-head IsPointLine words points all).no_fault before n)
           ∙ others.taken_so
           ∙ ap (λ k. Ok (others.after, numbered k rest)) same;
     }
@@ -214,8 +204,8 @@ header-read : (v f : ℕ) (rest : List Line) → v ≤ MOST_VERTICES → f ≤ M
     ≡ Ok (record { coordinates = 3; vertices = v; faces = f; lines = rest })
 unfolding header_of keyword_of are_pieces counts_at
 header-read v f rest few_v few_f =
-    let fv : v < 2 ^ 64 = omega arith in
-    let ff : f < 2 ^ 64 = omega arith in
+    let fv : Fits v = omega arith in
+    let ff : Fits f = omega arith in
     let nv : is_natural (decimal v) ≡ true = natural-decimal v fv in
     let nf : is_natural (decimal f) ≡ true = natural-decimal f ff in
     let vv : value_of (decimal v) ≡ v = value-decimal v fv in
@@ -235,26 +225,43 @@ unmarked-text : (rest : List ℕ) → unmarked (line_of (codes "OFF" ∷ []) ++ 
 unfolding unmarked
 unmarked-text rest = refl
 
-pub reads_back : (mesh : FaceList) → IsFaceList mesh → HasFileSize mesh → meaning_of (off_text mesh) ≡ Ok mesh
-reads_back mesh valid small =
+-- the lines of a mesh, with these for its vertices
+abbrev pub lines_with : List (List (List ℕ)) → FaceList → List (List (List ℕ))
+lines_with points mesh =
+    (codes "OFF" ∷ []) ∷ (decimal mesh.count ∷ decimal (length mesh.faces) ∷ codes "0" ∷ []) ∷ (points ++ map ring_words mesh.faces)
+
+pub reads_back_with : (points : List (List (List ℕ))) (mesh : FaceList) → All IsPointLine points → length points ≡ mesh.count
+    → IsFaceList mesh → HasFileSize mesh → meaning_of (flat_map line_of (lines_with points mesh)) ≡ Ok mesh
+reads_back_with points mesh are each valid small =
     let count : ℕ = mesh.count in
     let many : ℕ = length mesh.faces in
-    let points : List (List (List ℕ)) = replicate count point_words in
+    let text : List ℕ = flat_map line_of (lines_with points mesh) in
     let rings : List (List (List ℕ)) = map ring_words mesh.faces in
     let all : All (IsSmall count) mesh.faces = all_small count mesh.faces valid.faces small.few_sides in
     let few_faces : many ≤ MOST_FACES = omega (arith, three_each count mesh.faces valid.faces, small.few_sides) in
-    let lines : All IsLine (mesh_lines mesh) =
+    let lines : All IsLine (lines_with points mesh) =
     All-cons IsLine (codes "OFF" ∷ []) ((decimal count ∷ decimal many ∷ codes "0" ∷ []) ∷ (points ++ rings)) keyword_is_line
     (All-cons IsLine (decimal count ∷ decimal many ∷ codes "0" ∷ []) (points ++ rings)
     (counts_are_line count many (omega (arith, small.few_vertices)) (omega (arith, few_faces)))
-    (All-append IsLine points rings (points_are_lines count) (rings_are_lines count mesh.faces small.few_vertices all))) in
-    let cut : full_lines (off_text mesh) ≡ numbered 1 (mesh_lines mesh) =
+    (All-append IsLine points rings (All-weaker IsPointLine IsLine (λ words h. h.is_line) points are)
+    (rings_are_lines count mesh.faces small.few_vertices all))) in
+    let cut : full_lines text ≡ numbered 1 (lines_with points mesh) =
     ap (lines_from 1) (unmarked-text (flat_map line_of ((decimal count ∷ decimal many ∷ codes "0" ∷ []) ∷ (points ++ rings))))
-    ∙ lines_from-written 1 (mesh_lines mesh) lines in
-    let end : ℕ = end_line (off_text mesh) in
-    let first = takes_points end 3 count [] rings in
+    ∙ lines_from-written 1 (lines_with points mesh) lines in
+    let end : ℕ = end_line text in
+    let first = takes_points end 3 [] points rings are in
+    let taken_points : taken (point_fault 3) end [] count (numbered 3 (points ++ rings)) ≡ Ok (first.after, numbered (3 + count) rings) =
+    subst (λ n. taken (point_fault 3) end [] n (numbered 3 (points ++ rings)) ≡ Ok (first.after, numbered (3 + n) rings)) each
+    first.taken_so in
     let second = takes_faces count end (3 + count) 0 [] mesh.faces small.few_vertices all refl (omega (arith, small.few_sides)) in
     ap (mesh_of end) cut
-    ∙ mesh-read end count many (numbered 1 (mesh_lines mesh)) (numbered 3 (points ++ rings)) (numbered (3 + count) rings) first.after
-    second.after (header-read count many (numbered 3 (points ++ rings)) small.few_vertices few_faces) first.taken_so second.taken_so
+    ∙ mesh-read end count many (numbered 1 (lines_with points mesh)) (numbered 3 (points ++ rings)) (numbered (3 + count) rings)
+    first.after second.after (header-read count many (numbered 3 (points ++ rings)) small.few_vertices few_faces) taken_points
+    second.taken_so
     ∙ ap (λ r. Ok (record { count = count; faces = r })) second.rings_are
+
+pub reads_back : (mesh : FaceList) → IsFaceList mesh → HasFileSize mesh → meaning_of (off_text mesh) ≡ Ok mesh
+reads_back mesh =
+    reads_back_with (replicate mesh.count point_words) mesh
+    (All-replicate IsPointLine mesh.count point_words zeros_are_point)
+    (length-replicate mesh.count point_words)

@@ -1,15 +1,6 @@
 -- The lines of faces, and the corners in them, put one after another.
-use Rattle.std.proofs.Common.{◌≡◌, ℕ, ◌<◌, List, [], ◌∷◌, ◌++◌, length, map, ap, sym, ◌∙◌, append_assoc, arith}
-use Rattle.std.specs.Prelude.{Some, flat_map, slice_get, replicate, codes, decimal}
-use Rattle.std.proofs.lemmas.List.{length-map, length-replicate, get_or-replicate}
+use Rattle.off_writer.proofs.Common.{◌≡◌, ℕ, ◌<◌, List, [], ◌∷◌, ◌++◌, length, map, ap, sym, ◌∙◌, append_assoc, arith, length-map, length-replicate, get_or-replicate, flat_map-map, slice_get-get_or, Some, flat_map, slice_get, replicate, codes, decimal, line_of-numbers, spaced, FaceList, numbers, line_of}
 use Rattle.std.proofs.lemmas.List.Concat.{flat_map-append}
-use Rattle.std.proofs.lemmas.Option.{slice_get-get_or}
-use Rattle.std.proofs.lemmas.List.Folds.{flat_map-map}
-use Rattle.text_scan.specs.Plain.{line_of}
-use Rattle.surf_io.specs.Gathered.{spaced}
-use Rattle.surf_io.proofs.Gathering.{line_of-numbers}
-use Rattle.surf_model.specs.FaceLists.{FaceList}
-use Rattle.surf_model.specs.Vertices.{numbers}
 use Rattle.surf_model.specs.declared.names.VertexName.{VertexName}
 use Rattle.off_writer.specs.Parts.{head_text}
 use Rattle.off_writer.specs.WrittenMeshes.{point_words, ring_words, off_text}

@@ -1,3 +1,4 @@
+pub mod Common
 pub mod ShortTexts
 pub mod OpenInputs
 pub mod OpenOutcomes

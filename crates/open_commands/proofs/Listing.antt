@@ -1,29 +1,13 @@
 -- The answers of the two commands: one, and the right one.
-use Rattle.std.proofs.Common.{◌≡◌, ◌⊎◌, inl, inr, ℕ, List, refl, sym, ap, ◌∙◌, subst}
-use Rattle.std.specs.Prelude.{◌↔◌, Bool, true, false, IsTrue, IfNone, IfSome, MatchOption, Option, Some, None, if◌then◌else◌}
+use Rattle.open_commands.proofs.Common.{differs, yes_or_no, no_yes, IsSound, sound-decided_by, Answer, Convinces, decision_line, End, Refuse, Pass, Passes, decision_answer, walk_at, Outcome, IsAnswerOf, Moves, Status, Yes, No, IsWithin, LeadsAtPeak, MOST_OPEN_STEPS, ◌≡◌, ◌⊎◌, inl, inr, ℕ, List, refl, sym, ap, ◌∙◌, subst, ◌↔◌, IsTrue, IfNone, IfSome, MatchOption, Option, Some, None, if◌then◌else◌, Files, FaceList, PeakedMoves}
+use Rattle.commands.specs.Replies.{IsReplyTo, reply_status}
+use Rattle.commands.specs.declared.reply.Reply.{Reply}
 use Rattle.std.proofs.lemmas.Bool.{both_ways}
-use Rattle.surf_io.specs.Files.{Files}
-use Rattle.surf_model.specs.FaceLists.{FaceList}
-use Rattle.surf_model.specs.Moves.{PeakedMoves, Homotopic}
-use Rattle.free_forms.specs.PeakedLists.{IsWithin, LeadsAtPeak}
-use Rattle.free_forms.specs.declared.limits.TheConstants.{MOST_OPEN_STEPS}
+use Rattle.std.specs.Prelude.{Bool, true, false}
+use Rattle.surf_model.specs.Moves.{Homotopic}
 use Rattle.surf_model.specs.declared.decisions.Answer as deciding
 use Rattle.surf_model.specs.declared.decisions.Answer.TheVariants as answers
-use Rattle.commands.proofs.Deciding.{differs, yes_or_no}
-use Rattle.commands.proofs.RightAnswers.{no_yes}
-use Rattle.commands.proofs.Sound.{IsSound, sound-decided_by}
-use Rattle.commands.specs.Answers.{Answer}
-use Rattle.commands.specs.Certificates.{Convinces, decision_line}
-use Rattle.commands.specs.declared.certificate.Certificate.TheVariants.{Moves}
-use Rattle.commands.specs.Checks.{End, Refuse, Pass, Passes}
-use Rattle.commands.specs.Decisions.{decision_answer}
-use Rattle.commands.specs.Inputs.{walk_at}
-use Rattle.commands.specs.Replies.{IsReplyTo, reply_status}
 use Rattle.commands.specs.declared.reply.Reply.TheVariants as replies
-use Rattle.commands.specs.declared.reply.Reply.{Reply}
-use Rattle.commands.specs.Outcomes.{Outcome, IsAnswerOf}
-use Rattle.commands.specs.declared.status.Status.{Status}
-use Rattle.commands.specs.declared.status.Status.TheVariants.{Yes, No}
 use Rattle.open_commands.specs.CertifyOpen.{IsListPrinted, IsShortReply, list_answer, listed, certify_open}
 use Rattle.open_commands.specs.DecideOpen.{decide_open}
 use Rattle.open_commands.specs.OpenPairs.{asked, open_pair_in}

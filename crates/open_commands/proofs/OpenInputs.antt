@@ -1,32 +1,18 @@
 -- How the checks of an open surface and of walks of it end.
-use Rattle.std.proofs.Common.{◌≡◌, ◌⊎◌, inl, inr, ℕ, ◌+◌, ◌≤◌, List, length, refl, sym, ap, subst, arith}
-use Rattle.std.specs.Prelude.{Option, Some, None, Result, Ok, Err, IfOk, MatchResult, slice_get}
-use Rattle.surf_io.specs.Files.{Files}
-use Rattle.surf_model.specs.Edges.{Edge}
-use Rattle.surf_model.specs.FaceLists.{FaceList, IsFaceList, total_sides}
-use Rattle.surf_model.specs.Surfaces.{IsOrientable}
-use Rattle.surf_model.specs.Walks.{darts, AreWalkPair}
+use Rattle.open_commands.proofs.Common.{stops_next, stops_second, told_stops, memory_stops, walks_of_pair, sound-mesh, sound-pair, mesh_passes, pair_told, IsSound, sound-then, sound-pass_unless, meant_told, unless_told, Exactly, Check, End, Refuse, Pass, Passes, Holds, IsTold, pass_unless, ◌>>=◌, mesh_in, pair_in, walk_at, SpellsMesh, orientable, Stops, Tells, MOST_OPEN_SIDES, MOST_OPEN_DARTS, ◌≡◌, ◌⊎◌, inl, inr, ℕ, ◌+◌, ◌≤◌, List, length, refl, sym, ap, subst, arith, get_or_from_slice_get, Option, Some, None, Result, Ok, Err, IfOk, MatchResult, slice_get, Files, FaceList, IsFaceList, total_sides, darts, AreWalkPair}
+use Rattle.commands.proofs.MeshTexts.{mesh_valid, sound-orientable}
+use Rattle.commands.specs.Refusals.{told, off_line}
+use Rattle.commands.specs.declared.stop.Stop.{Stop}
+use Rattle.free_forms.proofs.FaultLemmas.{one_fault, no_fault}
+use Rattle.free_forms.proofs.OutcomeLemmas.{open_or_fault}
 use Rattle.free_forms.specs.OpenFaults.{IsFirstFault}
 use Rattle.free_forms.specs.OpenSurfaces.{IsOpenSurface}
 use Rattle.free_forms.specs.declared.fault.OpenFault.{OpenFault}
 use Rattle.free_forms.specs.declared.fault.OpenFault.TheVariants.{OutOfMemory}
-use Rattle.free_forms.specs.declared.limits.TheConstants.{MOST_OPEN_SIDES, MOST_OPEN_DARTS}
-use Rattle.free_forms.proofs.FaultLemmas.{one_fault, no_fault}
-use Rattle.free_forms.proofs.OutcomeLemmas.{open_or_fault}
-use Rattle.std.proofs.lemmas.Option.{get_or_from_slice_get}
-use Rattle.commands.proofs.Deciding.{walks_of_pair}
-use Rattle.open_commands.specs.declared.open_pair.OpenPair.{OpenPair}
-use Rattle.commands.proofs.Checking.{stops_next, stops_second, told_stops, memory_stops}
-use Rattle.commands.proofs.MeshTexts.{mesh_valid, sound-orientable}
-use Rattle.commands.proofs.Rows.{sound-mesh, sound-pair, mesh_passes, pair_told}
-use Rattle.commands.proofs.Sound.{IsSound, sound-then, sound-pass_unless, meant_told, unless_told}
 use Rattle.off_reader.specs.OffTexts.{meaning_of}
-use Rattle.commands.specs.Answers.{Exactly}
-use Rattle.commands.specs.Checks.{Check, End, Refuse, Pass, Passes, Holds, IsTold, pass_unless, ◌>>=◌}
-use Rattle.commands.specs.Inputs.{mesh_in, pair_in, walk_at, SpellsMesh, orientable}
-use Rattle.commands.specs.Refusals.{told, off_line}
-use Rattle.commands.specs.Stops.{Stops, Tells}
-use Rattle.commands.specs.declared.stop.Stop.{Stop}
+use Rattle.surf_model.specs.Edges.{Edge}
+use Rattle.surf_model.specs.Surfaces.{IsOrientable}
+use Rattle.open_commands.specs.declared.open_pair.OpenPair.{OpenPair}
 use Rattle.open_commands.specs.OpenInput.{open_line, open_surface, as_open_surface, open_surface_in}
 use Rattle.open_commands.specs.OpenPairs.{IsOpenPair, Question, question, limit_fault, open_pair_in}
 

@@ -1,22 +1,7 @@
 -- `decide-open` and `certify-open` in the words of the mesh.
-use Rattle.std.proofs.Common.{◌≡◌, inr, ℕ, List, [], ◌∷◌, codes, refl}
-use Rattle.std.specs.Prelude.{Option, Some}
-use Rattle.surf_io.specs.Files.{Files}
-use Rattle.surf_model.specs.FaceLists.{FaceList}
-use Rattle.commands.proofs.Deciding.{IsRightAnswer, right_answer, behind, refused_behind, sound-decided}
-use Rattle.commands.proofs.RightAnswers.{refused_so}
-use Rattle.commands.proofs.Rows.{IsOutcomeOf, spelled_pair}
-use Rattle.commands.proofs.Sound.{IsSound, held, sound-then}
-use Rattle.commands.specs.Answers.{Answer, Exactly}
-use Rattle.commands.specs.Checks.{Check, Passes, IsTold, ◌>>=◌}
-use Rattle.commands.specs.Decisions.{decided}
-use Rattle.commands.specs.Inputs.{pair_in, SpellsMesh, SpellsPair}
-use Rattle.commands.specs.Outcomes.{Outcome, AnswersTo, IsAnswerOf}
-use Rattle.commands.specs.declared.status.Status.{Status}
-use Rattle.commands.specs.declared.status.Status.TheVariants.{Refused}
+use Rattle.open_commands.proofs.Common.{IsRightAnswer, right_answer, behind, refused_behind, sound-decided, none_over, refused_beyond, refused_so, IsOutcomeOf, spelled_pair, IsSound, held, sound-then, Answer, Exactly, Check, Passes, IsTold, ◌>>=◌, decided, pair_in, SpellsMesh, SpellsPair, Outcome, AnswersTo, IsAnswerOf, Status, Refused, ◌≡◌, inr, ℕ, List, [], ◌∷◌, codes, refl, Option, Some, Files, FaceList}
 use Rattle.open_commands.specs.CertifyOpen.{IsCertifiedOpen, listed, certify_open}
 use Rattle.open_commands.specs.DecideOpen.{IsDecidedOpen, decide_open}
-use Rattle.commands.proofs.LimitLemmas.{none_over, refused_beyond}
 use Rattle.open_commands.specs.OpenPairs.{IsOpenInput, IsRefusedLarge, IsWithinLimits, Question, limit_fault, limit_word, open_limits, open_pair_in}
 use Rattle.open_commands.proofs.Listing.{IsRightList, right_list, sound-listed}
 use Rattle.open_commands.proofs.OpenInputs.{spelled_open, pair_files_told, pair_passes, sound-open_pair_in}

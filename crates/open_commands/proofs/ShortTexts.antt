@@ -1,34 +1,26 @@
 -- A list of moves within the limits has a short text: its numbers are small, and so its lines are short.
-use Rattle.std.proofs.Common.{◌≡◌, ℕ, zero, suc, ◌+◌, ◌*◌, ◌^◌, ◌<◌, ◌≤◌, Bool, true, false, List, [], ◌∷◌, ◌++◌, length, get_or, length-append, refl, ap, ◌∙◌, subst, arith}
-use Rattle.std.specs.Prelude.{codes, decimal, flat_map, map, sum_by, Some, All}
-use Rattle.std.specs.List.{join_with_byte}
+use Rattle.open_commands.proofs.Common.{certificate_text, decision_line, Moves, LeadsAtPeak, IsWithin, MOST_OPEN_SIDES, MOST_OPEN_STEPS, ◌≡◌, ℕ, zero, suc, ◌+◌, ◌*◌, ◌^◌, ◌<◌, ◌≤◌, Bool, true, false, List, [], ◌∷◌, ◌++◌, length, get_or, length-append, refl, ap, ◌∙◌, subst, arith, decimal, flat_map, map, sum_by, Some, All, FaceList, IsFace, IsFaceList, HasFileSize, is_used, face_at, corners_from, total_sides, PeakedMoves, Leads, apply, apply_all, greatest_darts, IsWalk, darts, Homotopic}
+use Rattle.commands.specs.declared.certificate.TheConstants.{MOST_SPHERE_MOVES}
+use Rattle.commands.specs.declared.inputs.TheConstants.{MOST_BYTES}
+use Rattle.common_ends.proofs.PeakLemmas.{greatest_darts-more}
+use Rattle.connectivity.proofs.EdgeLemmas.{used_below}
 use Rattle.std.proofs.lemmas.Fmt.{length-decimal-le}
 use Rattle.std.proofs.lemmas.List.{get_or_append_left, get_or-append-add}
 use Rattle.std.proofs.lemmas.List.Elements.{All-nil, All-cons, All-head, All-tail}
 use Rattle.std.proofs.lemmas.List.Sums.{sum_by-cons, get_or-le-sum_by}
-use Rattle.text_scan.specs.Plain.{line_of}
-use Rattle.surf_model.specs.FaceLists.{FaceList, IsFace, IsFaceList, HasFileSize, is_used, face_at, corners_from, total_sides}
-use Rattle.surf_model.specs.Moves.{PeakedMoves, Leads, apply, apply_all, greatest_darts}
-use Rattle.surf_model.specs.Walks.{IsWalk, darts}
-use Rattle.surf_model.specs.declared.moves.Move.{Move}
-use Rattle.surf_model.specs.declared.moves.Move.TheVariants.{Insert, Remove, Across}
+use Rattle.std.specs.List.{join_with_byte}
+use Rattle.std.specs.Prelude.{codes}
 use Rattle.surf_model.proofs.ContextLemmas.{first_answer}
+use Rattle.surf_model.proofs.EdgeLemmas.{head_used}
 use Rattle.surf_model.proofs.ReplacementLemmas.{by_replacing}
 use Rattle.surf_model.proofs.WayBackLemmas.{keeps_walk}
-use Rattle.connectivity.proofs.EdgeLemmas.{used_below}
-use Rattle.free_forms.specs.PeakedLists.{LeadsAtPeak, IsWithin}
-use Rattle.common_ends.proofs.PeakLemmas.{greatest_darts-more}
-use Rattle.free_forms.specs.declared.limits.TheConstants.{MOST_OPEN_SIDES, MOST_OPEN_STEPS}
-use Rattle.walk_files.specs.declared.limits.TheConstants.{MOST_PEAK}
-use Rattle.walk_files.specs.MoveTexts.{direction_word, move_words, head_words, list_text}
-use Rattle.surf_model.specs.declared.decisions.Answer.TheVariants.{Homotopic}
-use Rattle.commands.specs.Certificates.{certificate_text, decision_line}
-use Rattle.commands.specs.declared.certificate.Certificate.TheVariants.{Moves}
-use Rattle.commands.specs.declared.certificate.TheConstants.{MOST_SPHERE_MOVES}
-use Rattle.commands.specs.declared.inputs.TheConstants.{MOST_BYTES}
-use Rattle.open_commands.specs.declared.certify_open.TheConstants.{MOST_OPEN_BYTES}
 use Rattle.surf_model.specs.declared.limits.TheConstants.{MOST_VERTICES}
-use Rattle.surf_model.proofs.EdgeLemmas.{head_used}
+use Rattle.surf_model.specs.declared.moves.Move.{Move}
+use Rattle.surf_model.specs.declared.moves.Move.TheVariants.{Insert, Remove, Across}
+use Rattle.text_scan.specs.Plain.{line_of}
+use Rattle.walk_files.specs.MoveTexts.{direction_word, move_words, head_words, list_text}
+use Rattle.walk_files.specs.declared.limits.TheConstants.{MOST_PEAK}
+use Rattle.open_commands.specs.declared.certify_open.TheConstants.{MOST_OPEN_BYTES}
 
 -- ---- the moves of such a list have small numbers
 

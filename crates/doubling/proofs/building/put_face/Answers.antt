@@ -1,6 +1,4 @@
-use Rattle.std.proofs.Common.{arith}
-use Rattle.std.proofs.lemmas.List.{get_or-map}
-use Rattle.surf_model.specs.Vertices.{numbers}
+use Rattle.doubling.proofs.Common.{arith, get_or-map, numbers}
 use Rattle.doubling.proofs.BuildingLemmas.{corner_more, length-numbers}
 use Rattle.doubling.proofs.building.put_face.Goals as goal
 

@@ -1,5 +1,4 @@
-use Rattle.std.proofs.Common.{◌≡◌, take}
-use Rattle.surf_model.specs.Vertices.{numbers}
+use Rattle.doubling.proofs.Common.{◌≡◌, take, numbers}
 use Rattle.doubling.proofs.building.put_face.Given as goal
 
 abbrev pub invariant-loop-corner : goal.invariant-loop-corner

@@ -1,4 +1,4 @@
-use Rattle.std.proofs.Common.{◌≡◌}
+use Rattle.doubling.proofs.Common.{◌≡◌}
 use Rattle.doubling.specs.Building.{with_faces}
 use Rattle.doubling.proofs.building.put_faces.Given as goal
 

@@ -1,6 +1,4 @@
-use Rattle.std.proofs.Common.{length, get_or, ◌-◌, ap, ◌∙◌, sym, arith}
-use Rattle.std.proofs.lemmas.List.{get_or-map}
-use Rattle.surf_model.specs.Vertices.{numbers}
+use Rattle.doubling.proofs.Common.{length, get_or, ◌-◌, ap, ◌∙◌, sym, arith, get_or-map, numbers}
 use Rattle.doubling.specs.Doubles.{mirror, mirror_face}
 use Rattle.doubling.proofs.BuildingLemmas.{corner_more, length-numbers, mirror_stands, mirror_closes}
 use Rattle.doubling.proofs.DoubleFaces.{mirror_corner, length-mirror_face}
@@ -16,8 +14,8 @@ loop-place-preserved c =
     ∙ ap (mirror c.args.count) (get_or-map _ c.args.ring.now (length c.args.ring.now - 1 - c.loop-place.place) _ 0 (omega arith))
     ∙ sym c.mirror.ensures)
 
-pub close-requires : goal.close-requires
-close-requires c =
+pub close_face-requires : goal.close_face-requires
+close_face-requires c =
     mirror_closes c.loop-place.double c.args.double.now c.args.count (numbers c.args.ring.now)
     (mirror_stands c.loop-place.double c.args.double.now c.args.count c.loop-place.place (numbers c.args.ring.now)
     c.loop-place.invariant (omega (arith, length-numbers c.args.ring.now)))

@@ -1,5 +1,4 @@
-use Rattle.std.proofs.Common.{◌≡◌, take}
-use Rattle.surf_model.specs.Vertices.{numbers}
+use Rattle.doubling.proofs.Common.{◌≡◌, take, numbers}
 use Rattle.doubling.specs.Doubles.{mirror_face}
 use Rattle.doubling.proofs.building.put_mirror.Given as goal
 

@@ -1,5 +1,4 @@
-use Rattle.std.proofs.Common.{◌+◌, length, ◌∙◌, sym, arith, rules}
-use Rattle.surf_model.specs.Vertices.{numbers}
+use Rattle.doubling.proofs.Common.{◌+◌, length, ◌∙◌, sym, arith, rules, numbers}
 use Rattle.doubling.specs.Doubles.{mirror_face}
 use Rattle.doubling.specs.Building.{with_mirrors, EndsEarly}
 use Rattle.doubling.proofs.BuildingLemmas.{mirror_next_face, ends_early, mirrors_first, length-numbers}

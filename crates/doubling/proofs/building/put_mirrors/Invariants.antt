@@ -1,4 +1,4 @@
-use Rattle.std.proofs.Common.{◌≡◌}
+use Rattle.doubling.proofs.Common.{◌≡◌}
 use Rattle.doubling.specs.Building.{with_mirrors}
 use Rattle.doubling.proofs.building.put_mirrors.Given as goal
 

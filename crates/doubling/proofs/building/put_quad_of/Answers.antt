@@ -1,8 +1,5 @@
-use Rattle.std.proofs.Common.{◌≡◌, ◌+◌, true, false, [], ◌∷◌, ◌∙◌, refl, sym, rules}
+use Rattle.doubling.proofs.Common.{◌≡◌, ◌+◌, true, false, [], ◌∷◌, ◌∙◌, refl, sym, rules, has_side, first_side, total_sides}
 use Rattle.std.proofs.lemmas.Result.{on_ok_weaker, IfErr-weaker}
-use Rattle.surf_model.specs.Darts.{first_side}
-use Rattle.surf_model.specs.FaceLists.{total_sides}
-use Rattle.surf_model.proofs.TableLemmas.{has_side}
 use Rattle.doubling.specs.Building.{with_quads, HasNoRoom, EndsEarly}
 use Rattle.doubling.specs.Doubles.{is_rim, rim_quad}
 use Rattle.doubling.proofs.BuildingLemmas.{whole_side, quads_same, quad_is, quad_next, quads_first, ends_early}

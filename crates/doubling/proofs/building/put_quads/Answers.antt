@@ -1,7 +1,4 @@
-use Rattle.std.proofs.Common.{ap, ◌∙◌, arith}
-use Rattle.surf_model.specs.Darts.{first_side}
-use Rattle.surf_model.specs.FaceLists.{PendingFace}
-use Rattle.surf_model.proofs.SideNumberLemmas.{first_side-all}
+use Rattle.doubling.proofs.Common.{ap, ◌∙◌, arith, first_side-all, first_side, PendingFace}
 use Rattle.doubling.proofs.BuildingLemmas.{quads_all}
 use Rattle.doubling.proofs.building.put_quads.Goals as goal
 

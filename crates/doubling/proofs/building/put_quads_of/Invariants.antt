@@ -1,5 +1,4 @@
-use Rattle.std.proofs.Common.{◌≡◌, ◌+◌}
-use Rattle.surf_model.specs.Darts.{first_side}
+use Rattle.doubling.proofs.Common.{◌≡◌, ◌+◌, first_side}
 use Rattle.doubling.specs.Building.{with_quads}
 use Rattle.doubling.proofs.building.put_quads_of.Given as goal
 

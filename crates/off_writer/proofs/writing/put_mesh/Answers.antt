@@ -1,8 +1,5 @@
-use Rattle.std.proofs.Common.{◌≡◌, ◌++◌, ◌∙◌, sym, ap, List, ℕ}
-use Rattle.std.specs.Prelude.{flat_map, map}
-use Rattle.std.proofs.lemmas.Result.{err_from_is_err_and}
-use Rattle.text_scan.specs.Plain.{line_of}
-use Rattle.surf_io.proofs.Gathering.{gathers-none, gathers-put, only-none, puts-then, puts-fails, puts-same}
+use Rattle.off_writer.proofs.Common.{◌≡◌, ◌++◌, ◌∙◌, sym, ap, List, ℕ, err_from_is_err_and, flat_map, gathers-none, gathers-put, only-none, puts-then, puts-fails, puts-same, line_of}
+use Rattle.std.specs.Prelude.{map}
 use Rattle.off_writer.specs.Parts.{head_text}
 use Rattle.off_writer.specs.WrittenMeshes.{ring_words}
 use Rattle.off_writer.proofs.RowLemmas.{behind_head, points_of}

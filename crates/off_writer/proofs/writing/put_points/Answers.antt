@@ -1,9 +1,4 @@
-use Rattle.std.proofs.Common.{arith}
-use Rattle.std.specs.Prelude.{replicate}
-use Rattle.std.proofs.lemmas.List.{length-replicate}
-use Rattle.std.proofs.lemmas.Result.{err_from_is_err_and}
-use Rattle.text_scan.specs.Plain.{line_of}
-use Rattle.surf_io.proofs.Gathering.{gathers-put, each-none, each-more, each-stops, each-all}
+use Rattle.off_writer.proofs.Common.{arith, length-replicate, err_from_is_err_and, replicate, gathers-put, each-none, each-more, each-stops, each-all, line_of}
 use Rattle.off_writer.specs.WrittenMeshes.{point_words}
 use Rattle.off_writer.proofs.RowLemmas.{point_there}
 use Rattle.off_writer.proofs.writing.put_points.Goals as goal

@@ -1,6 +1,4 @@
-use Rattle.std.specs.Prelude.{replicate}
-use Rattle.text_scan.specs.Plain.{line_of}
-use Rattle.surf_io.proofs.Gathering.{EachPut}
+use Rattle.off_writer.proofs.Common.{replicate, EachPut, line_of}
 use Rattle.off_writer.specs.WrittenMeshes.{point_words}
 use Rattle.off_writer.proofs.writing.put_points.Given as goal
 

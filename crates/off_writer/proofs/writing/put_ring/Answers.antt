@@ -1,9 +1,4 @@
-use Rattle.std.proofs.Common.{length}
-use Rattle.std.specs.Prelude.{flat_map, decimal}
-use Rattle.std.proofs.lemmas.Result.{err_from_is_err_and}
-use Rattle.surf_io.specs.Gathered.{spaced}
-use Rattle.surf_io.proofs.Gathering.{gathers-put, puts-then, puts-fails, puts-same}
-use Rattle.surf_model.specs.Vertices.{numbers}
+use Rattle.off_writer.proofs.Common.{length, err_from_is_err_and, flat_map, decimal, gathers-put, puts-then, puts-fails, puts-same, spaced, numbers}
 use Rattle.off_writer.proofs.RowLemmas.{ring_line}
 use Rattle.off_writer.proofs.writing.put_ring.Goals as goal
 

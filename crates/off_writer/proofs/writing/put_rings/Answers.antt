@@ -1,7 +1,4 @@
-use Rattle.std.proofs.Common.{ap, arith, []}
-use Rattle.std.proofs.lemmas.Option.{slice_get-get_or}
-use Rattle.std.proofs.lemmas.Result.{err_from_is_err_and}
-use Rattle.surf_io.proofs.Gathering.{each-none, each-more, each-fails, each-all, puts-same}
+use Rattle.off_writer.proofs.Common.{ap, arith, [], slice_get-get_or, err_from_is_err_and, each-none, each-more, each-fails, each-all, puts-same}
 use Rattle.off_writer.proofs.RowLemmas.{ring_put, rings_put}
 use Rattle.off_writer.proofs.writing.put_rings.Goals as goal
 

@@ -1,4 +1,4 @@
-use Rattle.surf_io.proofs.Gathering.{EachPut}
+use Rattle.off_writer.proofs.Common.{EachPut}
 use Rattle.off_writer.proofs.RowLemmas.{ring_put}
 use Rattle.off_writer.proofs.writing.put_rings.Given as goal
 

@@ -1,4 +1,4 @@
-use Rattle.surf_io.proofs.Gathering.{on_ok, all-written, part-written}
+use Rattle.off_writer.proofs.Common.{on_ok, all-written, part-written}
 use Rattle.surf_io.proofs.Appending.{on_err}
 use Rattle.off_writer.proofs.writing.write_off.Goals as goal
 

@@ -1,12 +1,5 @@
-use Rattle.std.proofs.Common.{subst, arith}
-use Rattle.std.proofs.lemmas.Result.{err_from_is_err_and}
-use Rattle.surf_model.specs.FaceLists.{HasFileSize}
+use Rattle.open_commands.proofs.Common.{stops_first, memory_no_fault, only_self, runs_faulty, runs_replied, runs_stopped, OutOfMemory, LeadsAtPeak, IsWithin, MOST_OPEN_STEPS, subst, arith, err_from_is_err_and, HasFileSize}
 use Rattle.surf_model.specs.Moves as moves
-use Rattle.free_forms.specs.PeakedLists.{LeadsAtPeak, IsWithin}
-use Rattle.free_forms.specs.declared.limits.TheConstants.{MOST_OPEN_STEPS}
-use Rattle.commands.specs.declared.stop.Stop.TheVariants.{OutOfMemory}
-use Rattle.commands.proofs.Checking.{stops_first}
-use Rattle.commands.proofs.Running.{memory_no_fault, only_self, runs_faulty, runs_replied, runs_stopped}
 use Rattle.open_commands.specs.CertifyOpen as of_certify_open
 use Rattle.open_commands.specs.CertifyOpen.{list_answer}
 use Rattle.open_commands.specs.OpenPairs.{open_pair_in}

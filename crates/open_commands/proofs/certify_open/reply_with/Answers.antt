@@ -1,5 +1,4 @@
-use Rattle.std.proofs.Common.{refl}
-use Rattle.surf_model.specs.Moves.{PeakedMoves}
+use Rattle.open_commands.proofs.Common.{refl, PeakedMoves}
 use Rattle.open_commands.proofs.Listing.{list_convinces, no_list_short}
 use Rattle.open_commands.proofs.ShortTexts.{text_short}
 use Rattle.open_commands.proofs.certify_open.reply_with.Goals as goal

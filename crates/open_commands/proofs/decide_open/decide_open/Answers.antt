@@ -1,12 +1,5 @@
-use Rattle.std.proofs.Common.{arith}
-use Rattle.std.specs.Prelude.{if◌then◌else◌}
-use Rattle.std.proofs.lemmas.Result.{err_from_is_err_and}
+use Rattle.open_commands.proofs.Common.{stops_first, memory_no_fault, only_self, runs_faulty, runs_replied, runs_stopped, decision_answer, OutOfMemory, arith, err_from_is_err_and, if◌then◌else◌, Homotopic, Different}
 use Rattle.surf_model.specs.declared.decisions.Answer as deciding
-use Rattle.surf_model.specs.declared.decisions.Answer.TheVariants.{Homotopic, Different}
-use Rattle.commands.specs.Decisions.{decision_answer}
-use Rattle.commands.specs.declared.stop.Stop.TheVariants.{OutOfMemory}
-use Rattle.commands.proofs.Checking.{stops_first}
-use Rattle.commands.proofs.Running.{memory_no_fault, only_self, runs_faulty, runs_replied, runs_stopped}
 use Rattle.open_commands.specs.DecideOpen as of_decide_open
 use Rattle.open_commands.specs.OpenPairs.{open_pair_in}
 use Rattle.open_commands.proofs.Listing.{decision_passes}

@@ -1,5 +1,5 @@
 use Rattle.open_commands.specs.OpenInput.{open_line}
-use Rattle.commands.proofs.Running.{tells_no_fault}
+use Rattle.open_commands.proofs.Common.{tells_no_fault}
 use Rattle.open_commands.proofs.OpenInputs.{fault_stops}
 use Rattle.open_commands.proofs.open_input.check_surface.Goals as goal
 

@@ -1,5 +1,4 @@
-use Rattle.std.proofs.Common.{inr}
-use Rattle.std.proofs.lemmas.Result.{err_from_is_err_and}
+use Rattle.open_commands.proofs.Common.{inr, err_from_is_err_and}
 use Rattle.open_commands.proofs.OpenInputs.{turned_stop}
 use Rattle.open_commands.proofs.open_input.open_surface_of.Goals as goal
 

@@ -1,4 +1,4 @@
-use Rattle.commands.proofs.Running.{reads_ended}
+use Rattle.open_commands.proofs.Common.{reads_ended}
 use Rattle.open_commands.proofs.OpenInputs.{surface_end}
 use Rattle.open_commands.proofs.open_input.read_open_surface.Goals as goal
 

@@ -1,20 +1,7 @@
-use Rattle.std.proofs.Common.{◌≡◌, ◌∙◌, ℕ, List, ap, sym, subst, arith}
-use Rattle.std.specs.Prelude.{Option}
-use Rattle.std.proofs.lemmas.Option.{get_or_from_slice_get}
-use Rattle.std.proofs.lemmas.Result.{err_from_is_err_and}
-use Rattle.surf_io.specs.Files.{Files}
-use Rattle.surf_model.specs.FaceLists.{FaceList}
+use Rattle.open_commands.proofs.Common.{fitting, two_walks, memory_no_fault, only_then, reads_faulty, reads_made, reads_then, tells_no_fault, Exactly, Passes, pair_in, walk_at, Stops, OutOfMemory, ◌≡◌, ◌∙◌, ℕ, List, ap, sym, subst, arith, get_or_from_slice_get, err_from_is_err_and, Option, Files, FaceList}
 use Rattle.walk_files.specs.Pairs.{IsPair}
-use Rattle.commands.specs.Answers.{Exactly}
-use Rattle.commands.specs.Checks.{Passes}
-use Rattle.commands.specs.Inputs.{pair_in, walk_at}
-use Rattle.commands.specs.Stops.{Stops}
-use Rattle.commands.specs.declared.stop.Stop.TheVariants.{OutOfMemory}
-use Rattle.commands.proofs.Rows.{two_walks}
-use Rattle.commands.proofs.Running.{memory_no_fault, only_then, reads_faulty, reads_made, reads_then, tells_no_fault}
 use Rattle.open_commands.specs.OpenPairs.{IsWithinLimits, limit_fault, limit_word, open_limits, open_pair_in}
 use Rattle.open_commands.proofs.OpenInputs.{walks_stop, limits_stop, pair_passes, built_passes}
-use Rattle.commands.proofs.LimitLemmas.{fitting}
 use Rattle.open_commands.proofs.open_pair.read_open_pair.Goals as goal
 use Rattle.open_commands.proofs.open_pair.read_open_pair.Goals.{After-at-2}
 

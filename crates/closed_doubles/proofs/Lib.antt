@@ -1,0 +1,13 @@
+pub mod Common
+pub mod SideSums
+pub mod DoubleEdges
+pub mod RimParity
+pub mod SidePlaces
+pub mod Fans
+pub mod TwoSides
+pub mod JoinedDoubles
+pub mod DoubleRings
+pub mod DoubleSigns
+pub mod ClosedDoubles
+pub mod EdgeSums
+pub mod DoubleNumbers
