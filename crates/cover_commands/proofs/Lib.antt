@@ -1,0 +1,4 @@
+pub mod Common
+pub mod CoverChecks
+pub mod WalkTexts
+pub mod CoverAnswers

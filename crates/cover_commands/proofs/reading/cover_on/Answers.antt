@@ -1,0 +1,18 @@
+use Rattle.cover_commands.proofs.Common.{tells_no_fault, subst, HasFileSize}
+use Rattle.cover_commands.specs.MeshCover.{cover_line, seen}
+use Rattle.cover_commands.proofs.CoverChecks.{cover_stops}
+use Rattle.cover_commands.proofs.reading.cover_on.Goals as goal
+
+pub returns-in-Ok : goal.returns-in-Ok
+returns-in-Ok c =
+    record {
+      end = (subst HasFileSize c.in-Ok.ensures.cover c.len.ensures.small, c.in-Ok.ensures.cover);
+      no_fault = λ e. cc;
+    }
+
+pub returns-in-Err : goal.returns-in-Err
+returns-in-Err c =
+    record {
+      end = cover_stops (seen c.args.on.now) c.in-Err.fault c.refused_as.result c.in-Err.ensures.fault c.refused_as.ensures;
+      no_fault = λ e. tells_no_fault (cover_line c.in-Err.fault) c.refused_as.result c.refused_as.ensures cc;
+    }

@@ -1,0 +1,4 @@
+pub mod Ways
+pub mod Turns
+pub mod Claims
+pub mod Building
