@@ -1,27 +1,15 @@
 -- `certify` in the words of the mesh.
-use Rattle.std.proofs.Common.{◌≡◌, ℕ, List, [], ◌∷◌, codes, refl, sym, ap, ◌∙◌, subst}
-use Rattle.std.specs.Prelude.{◌↔◌, Option, Some}
-use Rattle.surf_io.specs.Files.{Files}
-use Rattle.surf_model.specs.FaceLists.{FaceList}
-use Rattle.surf_model.specs.Moves.{Homotopic}
-use Rattle.surf_model.specs.declared.decisions.Answer as deciding
-use Rattle.surf_model.specs.declared.decisions.Answer.TheVariants as answers
-use Rattle.certify_commands.proofs.Certifying.{after_pair, after_limits, limited, sound-certified}
-use Rattle.commands.proofs.Deciding.{behind, refused_behind, yes_or_no}
-use Rattle.commands.proofs.LimitLemmas.{none_over, refused_beyond}
+use Rattle.certify_commands.proofs.Common.{behind, refused_behind, yes_or_no, none_over, refused_beyond, IsOutcomeOf, sound-pair, sound-pass_unless, unless_told, IsSound, sound-then, held, Answer, Exactly, decision_status, Refuse, Pass, walk_at, ◌≡◌, ℕ, List, [], ◌∷◌, codes, refl, sym, ap, ◌∙◌, subst, ◌↔◌, Option, Some, Files, FaceList, Homotopic}
 use Rattle.commands.proofs.RightAnswers.{refused_so, yes_exactly}
-use Rattle.commands.proofs.Rows.{IsOutcomeOf, sound-pair}
-use Rattle.surface_commands.proofs.SurfaceRows.{outcome_of_pair, sound-surface_in}
-use Rattle.commands.proofs.Sound.{sound-pass_unless, unless_told, IsSound, sound-then, held}
-use Rattle.commands.specs.Answers.{Answer, Exactly}
-use Rattle.commands.specs.Certificates.{decision_status}
-use Rattle.certify_commands.specs.Certify.{certify, IsCertifyInput, IsWithinLimits, IsCertificatePrinted, IsCertified, certify_limits, limit_fault, limit_word, certified, certificate_answer}
-use Rattle.commands.specs.Checks.{Refuse, Pass}
 use Rattle.commands.specs.Outcomes.{Outcome, AnswersTo, IsAnswerOf}
 use Rattle.commands.specs.declared.status.Status.{Status}
 use Rattle.commands.specs.declared.status.Status.TheVariants.{Yes, Refused}
-use Rattle.commands.specs.Inputs.{walk_at}
+use Rattle.surface_commands.proofs.SurfaceRows.{outcome_of_pair, sound-surface_in}
 use Rattle.surface_commands.specs.Surface.{surface}
+use Rattle.surf_model.specs.declared.decisions.Answer as deciding
+use Rattle.surf_model.specs.declared.decisions.Answer.TheVariants as answers
+use Rattle.certify_commands.proofs.Certifying.{after_pair, after_limits, limited, sound-certified}
+use Rattle.certify_commands.specs.Certify.{certify, IsCertifyInput, IsWithinLimits, IsCertificatePrinted, IsCertified, certify_limits, limit_fault, limit_word, certified, certificate_answer}
 
 pub sound-certify : (held : Option Files) (mesh walks : List ℕ) → IsSound held (certify held mesh walks)
 sound-certify held mesh walks =

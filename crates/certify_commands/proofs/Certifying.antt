@@ -1,40 +1,20 @@
 -- What `certify` finds: a list of moves that leads, or a denial that holds.
-use Rattle.std.proofs.Common.{◌≡◌, inl, inr, ℕ, ◌<◌, false, List, length, refl, sym, ap, ◌∙◌, subst, arith}
-use Rattle.std.specs.Prelude.{◌↔◌, Option, Some, None, slice_get}
-use Rattle.std.specs.List.{enumerate_from}
-use Rattle.std.proofs.lemmas.Bool.{cases_lt}
-use Rattle.std.proofs.lemmas.List.{ext_get_or, length-map}
-use Rattle.std.proofs.lemmas.List.FromFn.{length-enumerate_from}
-use Rattle.surf_io.specs.Files.{Files}
-use Rattle.surf_model.specs.FaceLists.{FaceList, IsFaceList}
-use Rattle.surf_model.specs.Moves.{Homotopic}
-use Rattle.surf_model.specs.Walks.{IsWalk, HaveCommonEnds}
-use Rattle.turn_words.specs.declared.word.Word.{Word}
-use Rattle.halfedge_map.specs.OrientedMeshes.{OrientedMesh, IsOrientedSurface}
-use Rattle.tree_cotree.specs.Splits.{SplitView, IsSplit}
-use Rattle.polygon_cut.specs.Polygons.{PolygonView, IsCutFrom}
-use Rattle.polygon_cut.proofs.SphereLemmas.{all_homotopic}
-use Rattle.labellings.specs.Denials.{DenialHolds}
-use Rattle.labellings.specs.GoodLabellings.{IsGood}
-use Rattle.labellings.specs.Labellings.{FaceLabels, LabellingView, signs_of}
-use Rattle.quad_system.specs.PolygonLabellings.{face_labels, labelling_from}
-use Rattle.quad_system.proofs.PolygonLabelLemmas.{flips_are}
-use Rattle.labellings.specs.WalkWords.{IsWordOf}
-use Rattle.labellings.proofs.WalkWordLemmas.{denial_excludes}
-use Rattle.surf_model.specs.declared.decisions.Answer.TheVariants as answers
-use Rattle.walk_translate.proofs.DecidingLemmas.{words_decide}
+use Rattle.certify_commands.proofs.Common.{at_places, differs, yes_or_no, IsSound, sound-decided_by, Answer, Exactly, Convinces, decision_of, Check, Pass, Passes, pass_unless, ◌>>=◌, walk_at, OrientedMesh, IsOrientedSurface, DenialHolds, IsGood, FaceLabels, LabellingView, signs_of, IsWordOf, PolygonView, IsCutFrom, ◌≡◌, inl, inr, ℕ, ◌<◌, false, List, length, refl, sym, ap, ◌∙◌, subst, arith, ext_get_or, length-map, ◌↔◌, Option, Some, None, slice_get, Files, FaceList, IsFaceList, Homotopic, IsWalk, HaveCommonEnds, SplitView, IsSplit, Word}
 use Rattle.commands.proofs.Checking.{stops_first, told_stops}
-use Rattle.commands.proofs.Deciding.{at_places, differs, yes_or_no}
-use Rattle.commands.proofs.Sound.{IsSound, sound-decided_by}
-use Rattle.commands.specs.Answers.{Answer, Exactly}
-use Rattle.commands.specs.Certificates.{Convinces, decision_of}
-use Rattle.certify_commands.specs.Certify.{limit_fault, certified, certificate_answer}
-use Rattle.commands.specs.Checks.{Check, Pass, Passes, pass_unless, ◌>>=◌}
-use Rattle.commands.specs.Inputs.{walk_at}
 use Rattle.commands.specs.Stops.{Stops, Tells}
 use Rattle.commands.specs.declared.certificate.Certificate.{Certificate}
 use Rattle.commands.specs.declared.certificate.Certificate.TheVariants.{Moves, Denial}
 use Rattle.commands.specs.declared.stop.Stop.{Stop}
+use Rattle.labellings.proofs.WalkWordLemmas.{denial_excludes}
+use Rattle.polygon_cut.proofs.SphereLemmas.{all_homotopic}
+use Rattle.quad_system.proofs.PolygonLabelLemmas.{flips_are}
+use Rattle.quad_system.specs.PolygonLabellings.{face_labels, labelling_from}
+use Rattle.std.proofs.lemmas.Bool.{cases_lt}
+use Rattle.std.proofs.lemmas.List.FromFn.{length-enumerate_from}
+use Rattle.std.specs.List.{enumerate_from}
+use Rattle.walk_translate.proofs.DecidingLemmas.{words_decide}
+use Rattle.surf_model.specs.declared.decisions.Answer.TheVariants as answers
+use Rattle.certify_commands.specs.Certify.{limit_fault, certified, certificate_answer}
 
 -- ---- denials
 

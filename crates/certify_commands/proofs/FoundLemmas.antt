@@ -1,37 +1,22 @@
 -- What is found of two walks on the component in which they lie, and what it tells of the whole mesh.
-use Rattle.std.proofs.Common.{◌≡◌, ℕ, ◌+◌, ◌<◌, List, ◌∷◌, ◌++◌, length, get_or, take, sym, ap, ◌∙◌, subst, arith, []}
-use Rattle.std.specs.Prelude.{All, Some, max}
-use Rattle.std.proofs.lemmas.Bool.Decides.{nat_tests}
-use Rattle.std.proofs.lemmas.List.{map-append, take_more}
-use Rattle.std.proofs.lemmas.List.Elements.{All-nil, All-cons}
-use Rattle.surf_model.specs.FaceLists.{FaceList, total_sides}
-use Rattle.surf_model.specs.Moves.{apply, apply_all, Leads, PeakedMoves}
-use Rattle.surf_model.specs.Walks.{IsWalk}
-use Rattle.surf_model.specs.declared.moves.Move.{Move}
-use Rattle.surf_model.specs.declared.moves.Move.TheVariants.{Insert, Remove, Across}
-use Rattle.surf_model.proofs.ContextLemmas.{first_answer, stays_walk}
-use Rattle.surf_model.proofs.ReplacementLemmas.{by_replacing}
-use Rattle.surf_model.specs.ComponentParts.{component_at, component_mesh}
-use Rattle.surf_model.specs.Submeshes.{submesh, renamed_move, renamed_moves, signs_among}
+use Rattle.certify_commands.proofs.Common.{IsPart, IsComponentOf, surface_of, Component, Whole, Alone, DenialHolds, IsGood, LabellingView, signs_of, ◌≡◌, ℕ, ◌+◌, ◌<◌, List, ◌∷◌, ◌++◌, length, get_or, take, sym, ap, ◌∙◌, subst, arith, [], map-append, take_more, All, Some, max, component_at, component_mesh, FaceList, total_sides, apply, apply_all, Leads, PeakedMoves, LeadsAtPeak, submesh, renamed_move, renamed_moves, signs_among, IsWalk, Word}
+use Rattle.closed_surfaces.specs.declared.component.Part.{Part}
 use Rattle.manifold_check.proofs.PartPieces.{IsOfComponent, piece_of_parts}
 use Rattle.manifold_check.proofs.PieceLemmas.{length-submesh}
 use Rattle.manifold_check.proofs.PieceMoves.{moves_up, greatest_alike}
 use Rattle.manifold_check.proofs.PieceSides.{total_alone}
-use Rattle.labellings.specs.Denials.{DenialHolds}
-use Rattle.labellings.specs.GoodLabellings.{IsGood}
-use Rattle.labellings.specs.Labellings.{LabellingView, signs_of}
-use Rattle.turn_words.specs.declared.word.Word.{Word}
-use Rattle.widening.specs.Widened.{IsWidened}
+use Rattle.std.proofs.lemmas.Bool.Decides.{nat_tests}
+use Rattle.std.proofs.lemmas.List.Elements.{All-nil, All-cons}
+use Rattle.surf_model.proofs.ContextLemmas.{first_answer, stays_walk}
+use Rattle.surf_model.proofs.ReplacementLemmas.{by_replacing}
+use Rattle.surf_model.specs.declared.moves.Move.{Move}
+use Rattle.surf_model.specs.declared.moves.Move.TheVariants.{Insert, Remove, Across}
 use Rattle.widening.proofs.WidenedLemmas.{Widening, good_widened}
 use Rattle.widening.proofs.WidenedPaths.{word_alike}
-use Rattle.surf_model.specs.PeakedLists.{LeadsAtPeak}
+use Rattle.widening.specs.Widened.{IsWidened}
 use Rattle.certify_commands.specs.Certify.{IsWithinLimits}
-use Rattle.closed_surfaces.specs.SignedSurfaces.{IsPart, IsComponentOf, surface_of}
 use Rattle.certify_commands.specs.Findings.{IsOfFaces, TellsOfSome}
 use Rattle.certify_commands.specs.declared.finding.Finding.TheVariants.{Words}
-use Rattle.closed_surfaces.specs.declared.component.Component.{Component}
-use Rattle.closed_surfaces.specs.declared.component.Component.TheVariants.{Whole, Alone}
-use Rattle.closed_surfaces.specs.declared.component.Part.{Part}
 
 -- ---- the walks
 

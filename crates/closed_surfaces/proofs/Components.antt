@@ -1,10 +1,6 @@
 -- The component in which a walk lies.
-use Rattle.std.proofs.Common.{◌≡◌, ℕ, List, get_or, sym, ap, ◌∙◌, subst, []}
-use Rattle.std.specs.Prelude.{Result, Ok, Err, IfOk}
-use Rattle.surf_model.specs.FaceLists.{FaceList}
+use Rattle.closed_surfaces.proofs.Common.{walk_alone, ◌≡◌, ℕ, List, get_or, sym, ap, ◌∙◌, subst, Result, Ok, Err, IfOk, FaceList, IsOrientableSurface}
 use Rattle.surf_model.specs.Walks.{IsWalk}
-use Rattle.manifold_check.proofs.PartPieces.{walk_alone}
-use Rattle.surf_model.specs.OrientableSurfaces.{IsOrientableSurface}
 use Rattle.closed_surfaces.specs.SignedSurfaces.{IsSigned, IsPart, IsComponentOf, surface_of}
 use Rattle.closed_surfaces.specs.declared.component.Component.{Component}
 use Rattle.closed_surfaces.specs.declared.component.Component.TheVariants.{Whole, Alone}

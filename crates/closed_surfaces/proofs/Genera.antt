@@ -1,33 +1,14 @@
 -- The numbers of a mesh, and the genera of the components of a surface: that they are there, and that there are no others.
-use Rattle.std.proofs.Common.{◌≡◌, inl, inr, ℕ, zero, suc, ◌+◌, ◌*◌, ◌<◌, ◌≤◌, Bool, true, false, cond, eqb, List, ◌∷◌, ◌++◌, length, get_or, refl, sym, ap, ◌∙◌, subst, arith, add-one, length-append, []}
-use Rattle.std.specs.Prelude.{ℤ, pos, ◌+ℤ◌, ◌-ℤ◌, filter, map, All}
-use Rattle.std.specs.List.{range_with_len}
-use Rattle.std.proofs.lemmas.Bool.{cases_lt, eq-eqb}
-use Rattle.std.proofs.lemmas.Int.{ints}
-use Rattle.std.proofs.lemmas.List.{ext_get_or, get_or_append_left, get_or_push, length_push}
-use Rattle.std.proofs.lemmas.List.Elements.{All-head, All-tail}
-use Rattle.std.proofs.lemmas.List.FromFn.{filter_of_map_range_with_len_more, length-range_with_len, get_or-range_with_len}
-use Rattle.surf_model.specs.FaceLists.{FaceList, IsFaceList, IsFace, face_at, is_used}
-use Rattle.surf_model.specs.Components.{EachTwoAreJoined, place_of_face}
-use Rattle.surf_model.specs.Edges.{Edge, IsTableOf}
-use Rattle.surf_model.specs.Surfaces.{IsSurface}
-use Rattle.surf_model.proofs.OneTableLemmas.{one_table}
-use Rattle.surf_model.specs.ComponentParts.{PartsView, AreParts, component_at, component_mesh}
-use Rattle.manifold_check.proofs.PartPieces.{IsOfComponent, piece_of_parts, closed_alone}
+use Rattle.closed_surfaces.proofs.Common.{corner_used, IsOfComponent, piece_of_parts, closed_alone, coherent_alone, ◌≡◌, inl, inr, ℕ, zero, suc, ◌+◌, ◌*◌, ◌<◌, ◌≤◌, Bool, true, eqb, List, ◌∷◌, ◌++◌, length, get_or, refl, sym, ap, ◌∙◌, subst, arith, add-one, [], cases_lt, eq-eqb, ext_get_or, get_or_append_left, get_or_push, length_push, All-head, All-tail, length-range_with_len, get_or-range_with_len, range_with_len, ℤ, pos, ◌+ℤ◌, ◌-ℤ◌, filter, All, some_table, PartsView, AreParts, component_at, component_mesh, EachTwoAreJoined, place_of_face, Edge, IsTableOf, FaceList, IsFaceList, IsFace, face_at, is_used, LiesOnSphere, AreNumbersOf, HasGenus, IsOrientableSurface, signs_among, submesh, IsSurface, SurfaceNumbers}
 use Rattle.manifold_check.proofs.PieceSides.{valid_alone, faces_by_name}
-use Rattle.manifold_check.proofs.PieceSurfaces.{coherent_alone}
-use Rattle.surf_model.specs.Submeshes.{signs_among, submesh}
-use Rattle.connectivity.proofs.CornerLemmas.{corner_used}
+use Rattle.std.proofs.lemmas.Int.{ints}
+use Rattle.surf_model.proofs.OneTableLemmas.{one_table}
 use Rattle.surf_model.specs.Numbers.{count_below}
-use Rattle.surf_model.proofs.EdgeTables.{some_table}
 use Rattle.tree_cotree.proofs.GenusLemmas.{table_and_genus}
 use Rattle.closed_surfaces.proofs.SomeParts.{some_parts, same_count, same_places, same_meshes}
-use Rattle.surf_model.specs.OrientableSurfaces.{IsOrientableSurface}
 use Rattle.closed_surfaces.specs.SignedSurfaces.{IsPart}
-use Rattle.surf_model.specs.Genera.{LiesOnSphere, AreNumbersOf, HasGenus}
-use Rattle.closed_surfaces.specs.ComponentGenera.{IsGenusOf, AreGeneraOf}
+use Rattle.closed_surfaces.specs.ComponentGenera.{AreGeneraOf}
 use Rattle.closed_surfaces.specs.declared.component.Part.{Part}
-use Rattle.surf_model.specs.declared.numbers.SurfaceNumbers.{SurfaceNumbers}
 
 -- ---- numbers
 
@@ -76,22 +57,17 @@ pub one_genus : (mesh : FaceList) (g h : ℕ) → HasGenus mesh g → HasGenus m
 one_genus mesh g h p q =
     one_half g h (p.2 ∙ ap (λ (n : SurfaceNumbers). n.euler) (one_numbers mesh p.0 q.0 p.1 q.1) ∙ sym q.2)
 
--- counts of a mesh that give a genus
-pub counts_give : (mesh : FaceList) (numbers : SurfaceNumbers) (g : ℕ) → AreNumbersOf mesh numbers → IsGenusOf numbers g
-    → HasGenus mesh g
-counts_give mesh numbers g are is =
-    (numbers, are, genus_from numbers.vertices numbers.edges numbers.faces g is ∙ sym are.euler)
+-- a genus in natural numbers
+pub by_counts : (mesh : FaceList) (numbers : SurfaceNumbers) (g : ℕ) → AreNumbersOf mesh numbers → HasGenus mesh g
+    → numbers.vertices + numbers.faces + 2 * g ≡ numbers.edges + 2
+by_counts mesh numbers g are has =
+    counts_from numbers.vertices numbers.edges numbers.faces g
+    (has.2 ∙ ap (λ (n : SurfaceNumbers). n.euler) (one_numbers mesh has.0 numbers has.1 are) ∙ are.euler)
+  where
+    counts_from : (v e f g : ℕ) → pos 2 -ℤ pos (2 * g) ≡ (pos v -ℤ pos e) +ℤ pos f → v + f + 2 * g ≡ e + 2
+    counts_from v e f g is = omega (arith, ints)
 
--- the counts of a connected surface do
-pub genus_by_counts : (mesh : FaceList) (numbers : SurfaceNumbers) → IsFaceList mesh → IsSurface mesh → AreNumbersOf mesh numbers
-    → (g : ℕ) × IsGenusOf numbers g
-genus_by_counts mesh numbers valid is are =
-    let found = table_and_genus mesh valid is in
-    let edges : numbers.edges ≡ length found.0 =
-    are.edges ∙ ap (λ (t : List Edge). length t) (one_table mesh are.table found.0 are.is_table found.1) in
-    (found.2, omega (arith, found.3, are.vertices, edges, are.faces))
-
-some_genus : (mesh : FaceList) → IsFaceList mesh → IsSurface mesh → (g : ℕ) × HasGenus mesh g
+pub some_genus : (mesh : FaceList) → IsFaceList mesh → IsSurface mesh → (g : ℕ) × HasGenus mesh g
 some_genus mesh valid is =
     let found = table_and_genus mesh valid is in (
       found.2,

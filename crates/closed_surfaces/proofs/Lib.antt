@@ -1,3 +1,4 @@
+pub mod Common
 pub mod Components
 pub mod SomeParts
 pub mod Genera

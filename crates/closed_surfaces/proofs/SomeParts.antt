@@ -1,24 +1,11 @@
 -- Each mesh has components, and there is one way alone to name them in order.
-use Rattle.std.proofs.Common.{◌≡◌, ◌⊎◌, inl, inr, ℕ, zero, suc, ◌+◌, ◌<◌, ◌≤◌, Bool, true, eqb, List, [], ◌∷◌, length, get_or, refl, ap, sym, ◌∙◌, subst, arith, add-one}
-use Rattle.std.specs.Prelude.{All, filter, map, max, min}
-use Rattle.std.specs.List.{range_with_len}
-use Rattle.std.proofs.lemmas.Bool.{cases_Bool, cases_eq, cases_order}
-use Rattle.std.proofs.lemmas.Bool.Decides.{nat_tests}
-use Rattle.std.proofs.lemmas.List.{length-map, get_or-map}
-use Rattle.std.proofs.lemmas.List.Elements.{All-head, All-tail}
-use Rattle.std.proofs.lemmas.List.FromFn.{length-range_with_len, get_or-range_with_len, length-map-range_with_len, get_or-map-range_with_len}
-use Rattle.surf_model.specs.FaceLists.{FaceList, IsFaceList, IsFace, face_at, is_used}
-use Rattle.surf_model.specs.Edges.{Edge, IsTableOf, edge_in}
-use Rattle.surf_model.specs.Components.{ArePlacesOfComponents, IsLeastOfComponent, HasLeastVertex, place_of_face, faces_of_component}
-use Rattle.connectivity.specs.Classes.{AreLeastMembers, joined_at, renamed}
-use Rattle.surf_model.specs.ComponentParts.{PartsView, AreParts, component_mesh}
-use Rattle.surf_model.specs.Submeshes.{submesh}
+use Rattle.closed_surfaces.proofs.Common.{corner_used, ◌≡◌, ◌⊎◌, inl, inr, ℕ, zero, suc, ◌+◌, ◌<◌, ◌≤◌, Bool, true, eqb, List, [], ◌∷◌, length, get_or, refl, ap, sym, ◌∙◌, subst, arith, add-one, cases_Bool, cases_eq, cases_order, length-map, get_or-map, All-head, All-tail, length-range_with_len, get_or-range_with_len, length-map-range_with_len, get_or-map-range_with_len, range_with_len, All, filter, map, max, min, some_table, PartsView, AreParts, component_mesh, ArePlacesOfComponents, IsLeastOfComponent, HasLeastVertex, place_of_face, faces_of_component, Edge, IsTableOf, edge_in, FaceList, IsFaceList, IsFace, face_at, is_used, submesh}
 use Rattle.connectivity.proofs.ComponentLemmas.{JoinsEdgesUpTo, edges_none, edges_more, edges_all}
-use Rattle.connectivity.proofs.CornerLemmas.{corner_used}
 use Rattle.connectivity.proofs.EdgeLemmas.{ends_below}
 use Rattle.connectivity.proofs.Joining.{least_range}
+use Rattle.connectivity.specs.Classes.{AreLeastMembers, joined_at, renamed}
 use Rattle.manifold_check.proofs.NumberLemmas.{AreLeasts, AreNumbered, numbered_none, numbered_first, numbered_later, numbered_unused, places_of_components}
-use Rattle.surf_model.proofs.EdgeTables.{some_table}
+use Rattle.std.proofs.lemmas.Bool.Decides.{nat_tests}
 
 -- ---- there are components
 

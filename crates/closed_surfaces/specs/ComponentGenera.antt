@@ -1,13 +1,8 @@
 -- The genera of the components of a mesh.
 use Rattle.surf_model.specs.Genera.{HasGenus}
-use Rattle.std.specs.Prelude.{◌≡◌, ℕ, ◌+◌, ◌*◌, ◌<◌, List, length, slice_index}
+use Rattle.std.specs.Prelude.{◌≡◌, ℕ, ◌<◌, List, length, slice_index}
 use Rattle.surf_model.specs.FaceLists.{FaceList}
 use Rattle.surf_model.specs.ComponentParts.{PartsView, AreParts, component_mesh}
-use Rattle.surf_model.specs.declared.numbers.SurfaceNumbers.{SurfaceNumbers}
-
--- the counts are those of a connected surface of this genus: V + F + 2 g is E + 2
-abbrev pub IsGenusOf : SurfaceNumbers → ℕ → Type 0
-IsGenusOf numbers genus = numbers.vertices + numbers.faces + 2 * genus ≡ numbers.edges + 2
 
 -- the genus of each component, in the order of the components
 pub record AreGeneraOf (mesh : FaceList) (genera : List ℕ) : Type 0 where

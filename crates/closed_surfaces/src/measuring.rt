@@ -1,9 +1,10 @@
 //! How many vertices, edges and faces a mesh has, and the genus of each component of a surface.
 ghost use Rattle.std.specs.Prelude.{ℕ, IfOk};
+ghost use Rattle.surf_model.specs.FaceLists.{FaceList};
 ghost use Rattle.surf_model.specs.ComponentParts.{AreParts};
 ghost use Rattle.surf_model.specs.Edges.{IsTableOf};
-ghost use Rattle.surf_model.specs.Genera.{AreNumbersOf};
-ghost use Rattle.closed_surfaces.specs.ComponentGenera.{AreGeneraOf, IsGenusOf};
+ghost use Rattle.surf_model.specs.Genera.{AreNumbersOf, HasGenus};
+ghost use Rattle.closed_surfaces.specs.ComponentGenera.{AreGeneraOf};
 ghost use Rattle.closed_surfaces.specs.SignedSurfaces.{IsSigned};
 
 use crate::signed_mesh::SignedMesh;
@@ -35,10 +36,10 @@ pub fn genera_of(alloc: Global, surface: &SignedMesh, parts: &Parts) -> Result<V
     Ok(genera)
 }
 
-/// The genus of a component: half of 2 less its Euler characteristic.
+/// The genus of a mesh that has one: half of 2 less its Euler characteristic.
 fn genus_of(numbers: SurfaceNumbers) -> u32
-    requires { (genus : ℕ) × IsGenusOf numbers genus }
-    ensures { IsGenusOf numbers result }
+    requires { (mesh : FaceList) × (genus : ℕ) × AreNumbersOf mesh numbers × HasGenus mesh genus }
+    ensures { (mesh : FaceList) → AreNumbersOf mesh numbers → HasGenus mesh result }
 {
     let nodes = u64::from(numbers.vertices) + u64::from(numbers.faces);
     ((u64::from(numbers.edges) + 2 - nodes) / 2) as u32

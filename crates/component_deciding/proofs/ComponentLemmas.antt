@@ -1,27 +1,12 @@
 -- The vertices of components by their own numbers, the faces of a component, and the walks there.
-use Rattle.std.proofs.Common.{◌≡◌, inl, inr, ℕ, ◌+◌, ◌<◌, ◌≤◌, true, eqb, List, [], ◌∷◌, ◌++◌, length, get_or, take, ap, sym, ◌∙◌, subst, arith}
-use Rattle.std.specs.Prelude.{map}
-use Rattle.std.specs.List.{range_with_len}
-use Rattle.std.proofs.lemmas.Bool.{cases_lt}
-use Rattle.std.proofs.lemmas.List.{map-append, map_more, get_or_default, get_or-map, get_or_append_left, get_or_push, length-map, take_more}
-use Rattle.std.proofs.lemmas.List.Elements.{filter_agree}
-use Rattle.std.proofs.lemmas.List.Sums.{sum_by_more_le}
-use Rattle.surf_model.specs.Building.{IsCounted}
-use Rattle.surf_model.specs.FaceLists.{FaceList, IsFace, IsFaceList, HasFileSize, face_at, is_used, total_sides}
-use Rattle.surf_model.specs.Vertices.{numbers}
-use Rattle.surf_model.specs.declared.limits.TheConstants.{MOST_SIDES}
-use Rattle.surf_model.specs.declared.names.VertexName.{VertexName}
-use Rattle.surf_model.proofs.FilterLemmas.{map_agree}
-use Rattle.surf_model.proofs.EdgeLemmas.{corner_used}
-use Rattle.surf_model.specs.ComponentParts.{PartsView, AreParts, component_at, component_mesh}
-use Rattle.manifold_check.proofs.MeasureLemmas.{place_of_used, used_alike}
-use Rattle.manifold_check.proofs.PartPieces.{IsOfComponent, piece_of_parts}
-use Rattle.manifold_check.proofs.PieceLemmas.{IsPiece, face-submesh, length-submesh}
+use Rattle.component_deciding.proofs.Common.{count_of_passing, place_of_used, used_alike, IsOfComponent, piece_of_parts, IsPiece, face-submesh, length-submesh, total_renamed, valid_renamed, ◌≡◌, inl, inr, ℕ, ◌+◌, ◌<◌, ◌≤◌, true, eqb, List, [], ◌∷◌, ◌++◌, length, get_or, take, ap, sym, ◌∙◌, subst, arith, cases_lt, map-append, map_more, get_or_default, get_or-map, get_or_append_left, get_or_push, length-map, take_more, filter_agree, range_with_len, corner_used, map_agree, IsCounted, PartsView, AreParts, component_at, component_mesh, FaceList, IsFace, IsFaceList, HasFileSize, face_at, is_used, total_sides, numbers, VertexName}
 use Rattle.manifold_check.proofs.PieceSides.{valid_alone, small_alone}
-use Rattle.component_deciding.specs.OwnVertices.{AreOwnNumbers, own_mesh, own_number, own_walk, used_number}
+use Rattle.std.proofs.lemmas.List.Sums.{sum_by_more_le}
+use Rattle.std.specs.Prelude.{map}
+use Rattle.surf_model.specs.declared.limits.TheConstants.{MOST_SIDES}
+use Rattle.component_deciding.specs.OwnVertices.{AreOwnNumbers, own_mesh, own_number, own_walk}
 use Rattle.component_deciding.specs.declared.own_numbers.OwnNumbers.{OwnNumbers}
 use Rattle.component_deciding.proofs.OwnLemmas.{own_renamed}
-use Rattle.renaming.proofs.RenamedSides.{total_renamed, valid_renamed}
 
 -- ---- the numbers of vertices
 
@@ -34,6 +19,7 @@ count_is_number mesh parts counts k v h l b counted =
     counted k b
     ∙ ap (λ (xs : List ℕ). length xs) (filter_agree (λ u. eqb (place_of_used mesh parts u) k) (is_used (component_mesh mesh parts k))
     (λ u. used_alike mesh parts k u h l) (range_with_len 0 v))
+    ∙ sym (count_of_passing (is_used (component_mesh mesh parts k)) v)
 
 -- the first vertices have their own numbers
 abbrev pub AreNumberedUpTo : FaceList → PartsView → ℕ → List ℕ → Type 0
@@ -112,7 +98,7 @@ own_face mesh parts own k f h l =
 -- which is a face over its own vertices, and has room behind those before it
 pub own_face_valid : (mesh : FaceList) (parts : PartsView) (own : OwnNumbers) (k f : ℕ) → IsNumbered mesh parts own k
     → f < length (component_at parts k)
-    → IsFace (used_number (component_mesh mesh parts k)) (face_at (own_mesh (component_mesh mesh parts k)) f)
+    → IsFace (own_mesh (component_mesh mesh parts k)).count (face_at (own_mesh (component_mesh mesh parts k)) f)
 own_face_valid mesh parts own k f h l =
     let alone : FaceList = component_mesh mesh parts k in
     let whole : IsFaceList (own_mesh alone) =
@@ -123,7 +109,7 @@ own_face_valid mesh parts own k f h l =
 pub own_room : (mesh : FaceList) (parts : PartsView) (own : OwnNumbers) (k f : ℕ) → IsNumbered mesh parts own k
     → f < length (component_at parts k)
     → total_sides (record {
-      count = used_number (component_mesh mesh parts k);
+      count = (own_mesh (component_mesh mesh parts k)).count;
       faces = take f (own_mesh (component_mesh mesh parts k)).faces;
     })
     + length (face_at (own_mesh (component_mesh mesh parts k)) f) ≤ MOST_SIDES

@@ -1,11 +1,6 @@
 -- What is asked of pairs in an order: one more, and all of them.
-use Rattle.std.proofs.Common.{◌≡◌, ◌≢◌, inl, inr, ℕ, ◌+◌, ◌<◌, ◌≤◌, eqb, List, length, get_or, set, map, sym, ap, ◌∙◌, subst, arith, get_or-set_same, get_or-set_other}
-use Rattle.std.specs.Prelude.{All, Contains}
-use Rattle.std.specs.List.{range_with_len}
-use Rattle.std.proofs.lemmas.Bool.{cases_Bool, cases_lt, eqb-true, eq-eqb, both_ways}
-use Rattle.std.proofs.lemmas.List.{get_or_default, get_or-map, length-map}
+use Rattle.component_deciding.proofs.Common.{◌≡◌, ◌≢◌, inl, inr, ℕ, ◌+◌, ◌<◌, ◌≤◌, eqb, List, length, get_or, set, map, sym, ap, ◌∙◌, subst, arith, get_or-set_same, get_or-set_other, cases_Bool, cases_lt, eqb-true, eq-eqb, both_ways, get_or_default, get_or-map, length-map, All-permutation, Contains-permutation, length_permutation, range_with_len, All, Contains}
 use Rattle.std.proofs.lemmas.List.FromFn.{length-range_with_len, get_or-range_with_len}
-use Rattle.std.proofs.lemmas.List.Sorted.{All-permutation, Contains-permutation, length_permutation}
 use Rattle.component_deciding.specs.Orders.{AreAllPairs}
 use Rattle.component_deciding.specs.declared.order.Placed.{Placed}
 
@@ -13,7 +8,7 @@ use Rattle.component_deciding.specs.declared.order.Placed.{Placed}
 abbrev pub pairs_of : List Placed → List ℕ
 pairs_of order = map (λ (entry : Placed). entry.pair) order
 
-pub entry_within : (count : ℕ) (order : List Placed) (j : ℕ) (d : Placed) → AreAllPairs count order → j < length order
+entry_within : (count : ℕ) (order : List Placed) (j : ℕ) (d : Placed) → AreAllPairs count order → j < length order
     → (get_or order j d).pair < count
 entry_within count order j d are l =
     let below : All (λ (k : ℕ). k < count) (range_with_len 0 count) = λ t e b.
@@ -31,6 +26,12 @@ entry_within count order j d are l =
       get_or-map (λ (entry : Placed). entry.pair) order j d 0 l,
     )
 
+-- so what is read there is a pair
+pub pair_within : (count at : ℕ) (order : List Placed) (entry : Placed) → AreAllPairs count order → at < length order
+    → entry ≡ get_or order at entry → entry.pair < count
+pair_within count at order entry are few is =
+    subst (λ (p : Placed). p.pair < count) (sym is) (entry_within count order at entry are few)
+
 pub as_many : (count : ℕ) (order : List Placed) → AreAllPairs count order → length order ≡ count
 as_many count order are =
     sym (length-map order (λ (entry : Placed). entry.pair)) ∙ length_permutation (range_with_len 0 count) (pairs_of order) are
@@ -42,7 +43,7 @@ HoldsUpTo {X} Holds order n xs =
     (j : ℕ) (d : Placed) (e : X) → j < n → Holds (get_or order j d).pair (get_or xs (get_or order j d).pair e)
 
 -- and of one more
-pub holds_more : {X : Type 0} (Holds : ℕ → X → Type 0) (order : List Placed) (n : ℕ) (xs : List X) (d : Placed) (x : X)
+holds_more : {X : Type 0} (Holds : ℕ → X → Type 0) (order : List Placed) (n : ℕ) (xs : List X) (d : Placed) (x : X)
     → (get_or order n d).pair < length xs → n < length order → Holds (get_or order n d).pair x
     → HoldsUpTo Holds order n xs → HoldsUpTo Holds order (n + 1) (set xs (get_or order n d).pair x)
 holds_more {X} Holds order n xs d x inside few holds before j d2 e less =
@@ -64,6 +65,14 @@ holds_more {X} Holds order n xs d x inside few holds before j d2 e less =
           ] in
           subst (Holds k) (sym (get_or-set_other xs p k x e other)) (before j d2 e earlier))
     ]
+
+-- which is what was read there
+pub holds_next : {X : Type 0} (Holds : ℕ → X → Type 0) (order : List Placed) (n : ℕ) (xs : List X) (entry : Placed) (x : X)
+    → entry ≡ get_or order n entry → entry.pair < length xs → n < length order → Holds entry.pair x → HoldsUpTo Holds order n xs
+    → HoldsUpTo Holds order (n + 1) (set xs entry.pair x)
+holds_next {X} Holds order n xs entry x is inside few holds before =
+    subst (λ (p : Placed). p.pair < length xs → Holds p.pair x → HoldsUpTo Holds order (n + 1) (set xs p.pair x)) (sym is)
+    (λ b h. holds_more Holds order n xs entry x b few h before) inside holds
 
 -- and of all
 pub all_hold : {X : Type 0} (Holds : ℕ → X → Type 0) (order : List Placed) (xs : List X) (n count : ℕ) → length order ≤ n

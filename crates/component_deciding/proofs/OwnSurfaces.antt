@@ -1,31 +1,15 @@
 -- A component over its own vertices is a connected orientable closed surface, and its walks are homotopic there as on the whole mesh.
-use Rattle.std.proofs.Common.{◌≡◌, ◌↔◌, ℕ, ◌<◌, Bool, true, List, length, get_or, map, sym, ap, ◌∙◌, subst}
-use Rattle.std.specs.Prelude.{All, Option, None, Some}
-use Rattle.std.proofs.lemmas.List.Elements.{All-weaker}
-use Rattle.surf_model.specs.FaceLists.{FaceList, IsFaceList, is_used}
-use Rattle.surf_model.specs.Components.{EachTwoAreJoined}
-use Rattle.surf_model.specs.Moves.{Homotopic}
-use Rattle.surf_model.specs.Surfaces.{IsClosedManifold, IsClosed, IsCoherent}
-use Rattle.surf_model.specs.Walks.{IsWalk, HaveCommonEnds, AreWalkPair}
+use Rattle.component_deciding.proofs.Common.{IsOfComponent, closed_alone, piece_of_parts, walk_alone, walk_whole, used_down, homotopic_alike, coherent_alone, led_back, list_restored, IsRenamed, ◌≡◌, ◌↔◌, ℕ, ◌<◌, Bool, true, List, length, get_or, map, sym, ap, ◌∙◌, subst, All-weaker, All, Option, None, Some, map_agree, PartsView, component_at, component_mesh, EachTwoAreJoined, FaceList, IsFaceList, is_used, Homotopic, signs_among, IsClosedManifold, IsClosed, IsCoherent, IsWalk, HaveCommonEnds, AreWalkPair}
+use Rattle.renaming.proofs.RenamedMoves.{homotopic_renamed}
+use Rattle.renaming.proofs.RenamedSurfaces.{closed_renamed, coherent_renamed}
+use Rattle.renaming.proofs.RenamedWalks.{ends_renamed, joined_renamed, walk_renamed}
 use Rattle.surf_model.specs.declared.decisions.Answer.{Answer}
-use Rattle.surf_model.proofs.FilterLemmas.{map_agree}
-use Rattle.surf_model.specs.ComponentParts.{PartsView, component_at, component_mesh}
-use Rattle.surf_model.specs.Submeshes.{signs_among}
-use Rattle.manifold_check.proofs.PartPieces.{IsOfComponent, closed_alone, piece_of_parts, walk_alone, walk_whole}
-use Rattle.manifold_check.proofs.PieceLemmas.{used_down}
-use Rattle.manifold_check.proofs.PieceMoves.{homotopic_alike}
-use Rattle.manifold_check.proofs.PieceSurfaces.{coherent_alone}
 use Rattle.component_deciding.specs.OwnVertices.{AreOwnNumbers, IsApart, IsOwnWalk, own_mesh, own_number, own_walk}
 use Rattle.component_deciding.specs.PairDeciders.{IsFoundOn}
 use Rattle.component_deciding.specs.declared.apart.Apart.{Apart}
 use Rattle.component_deciding.specs.declared.own_numbers.OwnNumbers.{OwnNumbers}
 use Rattle.component_deciding.proofs.ComponentLemmas.{IsNumbered, component_valid}
 use Rattle.component_deciding.proofs.OwnLemmas.{own_renamed, used_vertex}
-use Rattle.renaming.specs.Renamings.{IsRenamed}
-use Rattle.renaming.proofs.RenamedSides.{led_back, list_restored}
-use Rattle.renaming.proofs.RenamedMoves.{homotopic_renamed}
-use Rattle.renaming.proofs.RenamedSurfaces.{closed_renamed, coherent_renamed}
-use Rattle.renaming.proofs.RenamedWalks.{ends_renamed, joined_renamed, walk_renamed}
 
 pub own_closed : (mesh : FaceList) (parts : PartsView) (own : OwnNumbers) (k : ℕ) → IsNumbered mesh parts own k → IsClosedManifold mesh
     → IsClosedManifold (own_mesh (component_mesh mesh parts k))
@@ -79,7 +63,7 @@ own_homotopic mesh parts own k first second h walks at =
     ((λ x. renamed.0 (alike.0 x)), (λ x. alike.1 (renamed.1 x)))
 
 -- by its own numbers a pair of walks of the component is one over its own vertices
-own_walks : (mesh : FaceList) (parts : PartsView) (own : OwnNumbers) (k : ℕ) (first second : List ℕ) → IsNumbered mesh parts own k
+pub own_walks : (mesh : FaceList) (parts : PartsView) (own : OwnNumbers) (k : ℕ) (first second : List ℕ) → IsNumbered mesh parts own k
     → AreWalkPair mesh first second → get_or parts.places (get_or first 0 0) 0 ≡ k
     → AreWalkPair (own_mesh (component_mesh mesh parts k)) (own_walk (component_mesh mesh parts k) first)
     (own_walk (component_mesh mesh parts k) second)
@@ -120,7 +104,7 @@ came_back mesh parts own k walk h there =
     (piece_of_parts mesh parts k h.parts_are h.within) is.1 is.0)) walk there)
 
 -- so where it is a walk there, it is one of the mesh
-walk_back : (mesh : FaceList) (parts : PartsView) (own : OwnNumbers) (k : ℕ) (walk : List ℕ) → IsNumbered mesh parts own k
+pub walk_back : (mesh : FaceList) (parts : PartsView) (own : OwnNumbers) (k : ℕ) (walk : List ℕ) → IsNumbered mesh parts own k
     → All (IsThere mesh parts k) walk → IsWalk (own_mesh (component_mesh mesh parts k)) (own_walk (component_mesh mesh parts k) walk)
     → IsWalk mesh walk
 walk_back mesh parts own k walk h there w =

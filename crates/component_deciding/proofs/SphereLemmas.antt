@@ -1,19 +1,9 @@
 -- Components of genus 0, on which any two walks with common ends are homotopic.
-use Rattle.std.proofs.Common.{◌≡◌, ◌↔◌, ℕ, ◌<◌, List, length, get_or, subst, arith}
-use Rattle.surf_model.specs.ComponentParts.{PartsView, AreParts, component_at, component_mesh}
-use Rattle.surf_model.specs.FaceLists.{FaceList, IsFaceList}
-use Rattle.surf_model.specs.Genera.{HasGenus}
-use Rattle.surf_model.specs.Moves.{Homotopic}
-use Rattle.surf_model.specs.Submeshes.{signs_among}
-use Rattle.surf_model.specs.Surfaces.{IsSurface}
-use Rattle.surf_model.specs.Walks.{AreWalkPair}
-use Rattle.manifold_check.proofs.PartPieces.{IsOfComponent, closed_alone, piece_of_parts}
-use Rattle.manifold_check.proofs.PieceMoves.{homotopic_alike}
-use Rattle.manifold_check.proofs.PieceSurfaces.{coherent_alone}
-use Rattle.polygon_cut.proofs.GenusLemmas.{homotopic_at_genus_0}
-use Rattle.closed_surfaces.specs.ComponentGenera.{AreGeneraOf}
+use Rattle.component_deciding.proofs.Common.{IsOfComponent, closed_alone, piece_of_parts, homotopic_alike, coherent_alone, ◌≡◌, ◌↔◌, ℕ, ◌<◌, List, length, get_or, subst, arith, PartsView, AreParts, component_at, component_mesh, FaceList, IsFaceList, HasGenus, Homotopic, signs_among, IsSurface, AreWalkPair}
 use Rattle.closed_surfaces.proofs.Genera.{one_genus}
 use Rattle.closed_surfaces.proofs.SomeParts.{same_count, same_meshes}
+use Rattle.closed_surfaces.specs.ComponentGenera.{AreGeneraOf}
+use Rattle.polygon_cut.proofs.GenusLemmas.{homotopic_at_genus_0}
 use Rattle.component_deciding.specs.OwnVertices.{IsApart}
 use Rattle.component_deciding.specs.declared.apart.Apart.{Apart}
 use Rattle.component_deciding.proofs.ComponentLemmas.{IsNumbered, component_valid}

@@ -1,3 +1,5 @@
 pub mod OwnVertices
 pub mod PairDeciders
 pub mod Orders
+pub mod ComponentWords
+pub mod WordFinders

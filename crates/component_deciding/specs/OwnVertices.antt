@@ -1,7 +1,8 @@
 -- A mesh over the vertices that it uses, and the numbers of vertices in their components.
-use Rattle.std.specs.Prelude.{◌≡◌, ℕ, ◌<◌, List, length, map, filter, slice_index, All, IsTrue}
-use Rattle.std.specs.List.{range_with_len}
+use Rattle.std.specs.Prelude.{◌≡◌, ℕ, ◌<◌, List, length, map, slice_index, slice_index_or, All, IsTrue, Option, IfSome}
+use Rattle.std.specs.Global.{Box}
 use Rattle.surf_model.specs.FaceLists.{FaceList, IsFaceList, HasFileSize, is_used}
+use Rattle.surf_model.specs.Numbers.{count_below}
 use Rattle.surf_model.specs.ComponentParts.{PartsView, AreParts, component_mesh}
 use Rattle.closed_surfaces.specs.ComponentGenera.{AreGeneraOf}
 use Rattle.closed_surfaces.specs.SignedSurfaces.{IsSigned}
@@ -10,11 +11,7 @@ use Rattle.component_deciding.specs.declared.own_numbers.OwnNumbers.{OwnNumbers}
 
 -- the number of a vertex among those that a mesh uses: how many of them come before it
 unfoldable pub own_number : FaceList → ℕ → ℕ
-own_number mesh v = length (filter (is_used mesh) (range_with_len 0 v))
-
--- how many vertices a mesh uses
-abbrev pub used_number : FaceList → ℕ
-used_number mesh = length (filter (is_used mesh) (range_with_len 0 mesh.count))
+own_number mesh v = count_below (is_used mesh) v
 
 -- a walk by these numbers
 abbrev pub own_walk : FaceList → List ℕ → List ℕ
@@ -22,7 +19,7 @@ own_walk mesh walk = map (own_number mesh) walk
 
 -- the mesh over the vertices that it uses, by these numbers
 abbrev pub own_mesh : FaceList → FaceList
-own_mesh mesh = record { count = used_number mesh; faces = map (own_walk mesh) mesh.faces }
+own_mesh mesh = record { count = count_below (is_used mesh) mesh.count; faces = map (own_walk mesh) mesh.faces }
 
 -- for each used vertex its number in its component, and for each component how many vertices it has
 pub record AreOwnNumbers (mesh : FaceList) (parts : PartsView) (own : OwnNumbers) : Type 0 where
@@ -32,7 +29,7 @@ pub record AreOwnNumbers (mesh : FaceList) (parts : PartsView) (own : OwnNumbers
   pub each_component : length own.counts.items ≡ length parts.components
   pub numbered : (v : ℕ) → IsTrue (is_used mesh v)
       → slice_index own.numbers.items v ≡ own_number (component_mesh mesh parts (slice_index parts.places v)) v
-  pub counted : (k : ℕ) → k < length parts.components → slice_index own.counts.items k ≡ used_number (component_mesh mesh parts k)
+  pub counted : (k : ℕ) → k < length parts.components → slice_index own.counts.items k ≡ (own_mesh (component_mesh mesh parts k)).count
 
 -- an orientable closed surface with its components, the numbers of their vertices, and their genera
 pub record IsApart (apart : Apart) : Type 0 where
@@ -44,6 +41,11 @@ pub record IsApart (apart : Apart) : Type 0 where
 -- the component at a place, as a mesh over its own vertices
 abbrev pub IsLabelled : Apart → ℕ × FaceList → Type 0
 IsLabelled apart labelled = labelled.1 ≡ own_mesh (component_mesh apart.mesh.faces apart.parts labelled.0)
+
+-- what waits in a slot is the component with that place, as a mesh over its own vertices
+abbrev pub AreWaiting : Apart → List (Option (Box FaceList)) → Type 0
+AreWaiting apart waiting = (k : ℕ) (d : Option (Box FaceList)) → k < length waiting
+    → IfSome (slice_index_or waiting k d) (λ labelled. IsLabelled apart (k, labelled.value))
 
 -- all entries of the walk are vertices of the component at that place, and by their own numbers they are the other walk
 pub record IsOwnWalk (apart : Apart) (place : ℕ) (walk own : List ℕ) : Type 0 where

@@ -26,6 +26,27 @@ impl PairDecider {
         requires { IsSigned mesh }
         ensures { IfOk result (λ decider. mesh_of decider ≡ mesh.faces) }
     {
+        PairDecider::keeping(alloc, mesh, darts, false)
+    }
+
+    /// The same, for pairs that are asked as they come: no component is labelled twice, whatever their order.
+    pub fn lasting(alloc: Global, mesh: SignedMesh) -> Result<PairDecider, AllocError>
+        requires { IsSigned mesh }
+        ensures { IfOk result (λ decider. mesh_of decider ≡ mesh.faces) }
+    {
+        PairDecider::keeping(alloc, mesh, u64::MAX, true)
+    }
+
+    /// The surface that a mesh is. The labels of all components are kept, or those of the last one alone.
+    fn keeping(
+        alloc: Global,
+        mesh: SignedMesh,
+        darts: u64,
+        all: bool,
+    ) -> Result<PairDecider, AllocError>
+        requires { IsSigned mesh }
+        ensures { IfOk result (λ decider. mesh_of decider ≡ mesh.faces) }
+    {
         let parts = Parts::build(alloc, &mesh.faces, &mesh.sides)?;
         if parts.len() == 1 {
             // Its memory is for the surface.
@@ -33,7 +54,8 @@ impl PairDecider {
             let surface = connected(alloc, mesh)?;
             return Ok(PairDecider::Whole(Decider::for_darts(alloc, surface, darts)?));
         }
-        Ok(PairDecider::Several(Several::of(alloc, mesh, parts)?))
+        let slots = if all { parts.len() as usize } else { 0 };
+        Ok(PairDecider::Several(Several::of(alloc, mesh, parts, darts, slots)?))
     }
 
     /// The edge table of the surface.

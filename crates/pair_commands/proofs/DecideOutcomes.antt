@@ -1,17 +1,9 @@
 -- How the checks of `decide` end, and `decide` in the words of the mesh.
-use Rattle.std.proofs.Common.{◌≡◌, ℕ, List, [], ◌∷◌, codes, sym, ◌∙◌, subst}
-use Rattle.std.specs.Prelude.{◌↔◌, Option, All}
-use Rattle.surf_io.specs.Files.{Files}
-use Rattle.surf_model.specs.FaceLists.{FaceList}
-use Rattle.walk_files.specs.PairLists.{WalkPair, in_pairs}
-use Rattle.walk_files.specs.WalkLists.{WalkText}
-use Rattle.surface_commands.proofs.SurfaceRows.{outcome_behind, sound-surface_in}
-use Rattle.commands.proofs.Sound.{IsSound, sound-then}
-use Rattle.commands.specs.Answers.{Answer}
-use Rattle.commands.specs.Checks.{Check, Refuse, Pass}
+use Rattle.pair_commands.proofs.Common.{IsSound, sound-then, Answer, Check, Refuse, Pass, Yes, ◌≡◌, ℕ, List, [], ◌∷◌, codes, sym, ◌∙◌, subst, Option, All, Files, FaceList, WalkPair, in_pairs, WalkText}
 use Rattle.commands.specs.Outcomes.{Outcome, AnswersTo, IsAnswerOf}
 use Rattle.commands.specs.declared.status.Status.{Status}
-use Rattle.commands.specs.declared.status.Status.TheVariants.{Yes}
+use Rattle.std.specs.Prelude.{◌↔◌}
+use Rattle.surface_commands.proofs.SurfaceRows.{outcome_behind, sound-surface_in}
 use Rattle.pair_commands.specs.Decide.{decide, all_decided, decisions_answer, AreDecided, IsDecided, IsDecideInput, IsHomotopic}
 use Rattle.pair_commands.specs.PairInput.{SpellsPairs, pairs_in}
 use Rattle.pair_commands.proofs.PairChecks.{sound-pairs_in, pairs_in_told, spelled_pairs}

@@ -1,3 +1,4 @@
+pub mod Common
 pub mod PairChecks
 pub mod PairDecisions
 pub mod DecideOutcomes

@@ -1,23 +1,16 @@
 -- How the check of pairs of walks ends.
-use Rattle.std.proofs.Common.{◌≡◌, inl, inr, ℕ, List, refl}
-use Rattle.std.specs.Prelude.{Option, None, Result}
-use Rattle.surf_io.specs.Files.{Files}
-use Rattle.surf_model.specs.FaceLists.{FaceList}
-use Rattle.walk_files.specs.PairLists.{WalkPair, ArePairs, in_pairs, pairs_fault}
-use Rattle.walk_files.specs.WalkLists.{WalkText}
-use Rattle.walk_files.specs.WalkTexts.{walk_text_of}
-use Rattle.walk_files.specs.declared.fault.WalkFault.{WalkFault}
-use Rattle.walk_files.proofs.PairListLemmas.{none_of_pairs}
+use Rattle.pair_commands.proofs.Common.{IsSound, sound-file, sound-then, sound-meant, sound-pass_unless, held, meant_told, unless_told, Check, Refuse, Passes, Holds, IsTold, file, meant, ◌>>=◌, ◌≡◌, inl, inr, ℕ, List, refl, Option, None, Result, Files, FaceList, WalkPair, ArePairs, in_pairs, pairs_fault, WalkText}
 use Rattle.commands.proofs.Checking.{stops_next}
-use Rattle.commands.proofs.Sound.{IsSound, sound-file, sound-then, sound-meant, sound-pass_unless, held, meant_told, unless_told}
 use Rattle.commands.proofs.WalkInputs.{was_read}
-use Rattle.commands.specs.Checks.{Check, Refuse, Passes, Holds, IsTold, file, meant, ◌>>=◌}
 use Rattle.commands.specs.Inputs.{text_in}
 use Rattle.commands.specs.Refusals.{numbers_line}
 use Rattle.commands.specs.Stops.{Stops}
-use Rattle.commands.specs.declared.refusal.Input.TheVariants as inputs
 use Rattle.commands.specs.declared.stop.Stop.{Stop}
 use Rattle.commands.specs.declared.stop.Stop.TheVariants.{Refused, ReadFault, OutOfMemory}
+use Rattle.walk_files.proofs.PairListLemmas.{none_of_pairs}
+use Rattle.walk_files.specs.WalkTexts.{walk_text_of}
+use Rattle.walk_files.specs.declared.fault.WalkFault.{WalkFault}
+use Rattle.commands.specs.declared.refusal.Input.TheVariants as inputs
 use Rattle.pair_commands.specs.PairInput.{SpellsPairs, come_in_pairs, pairs_line, pairs_in}
 
 -- what is looked at of a text, and behind the bytes of a walk file

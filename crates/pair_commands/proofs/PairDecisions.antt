@@ -1,23 +1,12 @@
 -- Decisions on pairs: one more, all of them, and what they are worth.
-use Rattle.std.proofs.Common.{◌≡◌, ◌↔◌, ℕ, zero, suc, ◌+◌, ◌*◌, ◌/◌, ◌<◌, true, List, [], ◌∷◌, length, get_or, refl, sym, ap, ◌∙◌, subst, arith}
-use Rattle.std.specs.Prelude.{All, Option, Some, slice_get}
+use Rattle.pair_commands.proofs.Common.{IsSound, Answer, End, Refuse, Pass, Yes, No, IsFoundOn, ◌≡◌, ◌↔◌, ℕ, zero, suc, ◌+◌, ◌*◌, ◌/◌, ◌<◌, true, List, [], ◌∷◌, length, get_or, refl, sym, ap, ◌∙◌, subst, arith, All, Option, Some, slice_get, Files, FaceList, IsWalk, HaveCommonEnds, AreWalkPair, WalkPair, ArePairs, are_paired, in_pairs, WalkText}
+use Rattle.commands.proofs.Deciding.{differs, one_decision}
+use Rattle.commands.specs.Certificates.{decisions_status}
 use Rattle.std.proofs.lemmas.Bool.Decides.{nat_tests}
 use Rattle.std.proofs.lemmas.List.Elements.{All-nil, All-cons, All-head, All-tail}
-use Rattle.component_deciding.specs.PairDeciders.{IsFoundOn}
-use Rattle.surf_io.specs.Files.{Files}
-use Rattle.surf_model.specs.FaceLists.{FaceList}
-use Rattle.surf_model.specs.Moves as moves
-use Rattle.surf_model.specs.Walks.{IsWalk, HaveCommonEnds, AreWalkPair}
-use Rattle.walk_files.specs.PairLists.{WalkPair, ArePairs, are_paired, in_pairs}
-use Rattle.walk_files.specs.WalkLists.{WalkText}
-use Rattle.surf_model.specs.declared.decisions.Answer as deciding
 use Rattle.surf_model.specs.declared.decisions.Answer.TheVariants.{Homotopic, Different}
-use Rattle.commands.proofs.Deciding.{differs, one_decision}
-use Rattle.commands.proofs.Sound.{IsSound}
-use Rattle.commands.specs.Answers.{Answer}
-use Rattle.commands.specs.Certificates.{decisions_status}
-use Rattle.commands.specs.Checks.{End, Refuse, Pass}
-use Rattle.commands.specs.declared.status.Status.TheVariants.{Yes, No}
+use Rattle.surf_model.specs.Moves as moves
+use Rattle.surf_model.specs.declared.decisions.Answer as deciding
 use Rattle.pair_commands.specs.Decide.{IsHomotopic, IsDecision, AreDecisions, ArePairsDecided, all_decided, decisions_answer}
 
 -- ---- the pairs of a list of walks

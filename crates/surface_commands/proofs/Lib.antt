@@ -1,3 +1,4 @@
+pub mod Common
 pub mod Surfaces
 pub mod Measuring
 pub mod SurfaceRows

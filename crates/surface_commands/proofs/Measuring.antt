@@ -1,27 +1,11 @@
 -- What `surface` tells: that the numbers and the genera are there, that they are one, and how its checks end.
-use Rattle.std.proofs.Common.{◌≡◌, inl, inr, ℕ, ◌<◌, List, refl, sym, ap, ◌∙◌, subst}
-use Rattle.std.specs.Prelude.{Option}
-use Rattle.surf_io.specs.Files.{Files}
-use Rattle.surf_model.specs.FaceLists.{FaceList, IsFaceList}
-use Rattle.surf_model.specs.Surfaces.{IsClosedManifold, IsOrientable}
+use Rattle.surface_commands.proofs.Common.{some_numbers, one_numbers, some_genera, one_genera, AreGeneraOf, stops_first, stops_next, mesh_valid, IsSound, Answer, OfOddChain, yes_with, Check, End, Refuse, Pass, Passes, pass, ◌>>=◌, mesh_in, Stops, Stop, ◌≡◌, inl, inr, ℕ, ◌<◌, List, refl, sym, ap, ◌∙◌, subst, Option, Files, FaceList, IsFaceList, AreNumbersOf, IsOrientableSurface, HasComponents, SurfaceNumbers}
 use Rattle.manifold_check.specs.Faults.{IsFirstFault}
 use Rattle.manifold_check.specs.declared.fault.SurfaceFault.{SurfaceFault}
-use Rattle.commands.proofs.Checking.{stops_first, stops_next}
-use Rattle.closed_surfaces.proofs.Genera.{some_numbers, one_numbers, some_genera, one_genera}
-use Rattle.commands.proofs.MeshTexts.{mesh_valid}
-use Rattle.commands.proofs.Sound.{IsSound}
-use Rattle.commands.specs.Answers.{Answer, OfOddChain, yes_with}
-use Rattle.commands.specs.Checks.{Check, End, Refuse, Pass, Passes, pass, ◌>>=◌}
-use Rattle.surf_model.specs.OrientableSurfaces.{IsOrientableSurface, HasComponents}
-use Rattle.commands.specs.Inputs.{mesh_in}
+use Rattle.surf_model.specs.Surfaces.{IsClosedManifold, IsOrientable}
 use Rattle.surface_commands.specs.SurfaceRefusals.{surface_line, components_line}
-use Rattle.commands.specs.Stops.{Stops}
-use Rattle.surf_model.specs.Genera.{AreNumbersOf}
-use Rattle.closed_surfaces.specs.ComponentGenera.{AreGeneraOf}
 use Rattle.surface_commands.specs.Surface.{HasFewComponents, numbers_of, genera_of, surface, numbers_text}
 use Rattle.surface_commands.specs.SurfaceInput.{as_surface, surface_in, of_few_components}
-use Rattle.commands.specs.declared.stop.Stop.{Stop}
-use Rattle.surf_model.specs.declared.numbers.SurfaceNumbers.{SurfaceNumbers}
 use Rattle.surface_commands.specs.declared.surface.TheConstants.{MOST_COMPONENTS}
 
 one_ending : (mesh : FaceList) (a b : End SurfaceNumbers) → (numbers_of mesh).Ends a → (numbers_of mesh).Ends b → a ≡ b

@@ -1,19 +1,9 @@
 -- Commands that read a surface, then walks of it, and answer what is asked of these.
-use Rattle.std.proofs.Common.{◌≡◌, ℕ, List, inr, subst}
-use Rattle.std.specs.Prelude.{Option, Ok, Err}
-use Rattle.surf_io.specs.Calls.{OnlyReads}
-use Rattle.surf_io.specs.Files.{Files}
-use Rattle.surf_model.specs.FaceLists.{FaceList}
-use Rattle.commands.proofs.Checking.{stops_next, stops_second}
-use Rattle.commands.proofs.Running.{memory_no_fault, only_then, runs_faulty, runs_replied, runs_stopped}
-use Rattle.commands.specs.Answers.{Answer}
-use Rattle.commands.specs.Checks.{Check, Passes, ◌>>=◌}
+use Rattle.surface_commands.proofs.Common.{stops_next, stops_second, memory_no_fault, only_then, runs_faulty, runs_replied, runs_stopped, Answer, Check, Passes, ◌>>=◌, Reads, Stops, Stop, ReadFault, OutOfMemory, ◌≡◌, ℕ, List, inr, subst, Option, Ok, Err, Files, FaceList}
 use Rattle.commands.specs.Replies.{Replies, Runs}
-use Rattle.commands.specs.Stops.{Reads, Stops}
-use Rattle.surface_commands.specs.SurfaceInput.{surface_in}
 use Rattle.commands.specs.declared.reply.Reply.{Reply}
-use Rattle.commands.specs.declared.stop.Stop.{Stop}
-use Rattle.commands.specs.declared.stop.Stop.TheVariants.{ReadFault, OutOfMemory}
+use Rattle.surf_io.specs.Calls.{OnlyReads}
+use Rattle.surface_commands.specs.SurfaceInput.{surface_in}
 
 module _ {X A : Type 0} (held : X → Option Files) (faults : X → ℕ) (old mid new : X) (name : List ℕ)
     (walks_in : Option Files → FaceList → Check A) (next : FaceList → A → Check Answer) (surface : FaceList)

@@ -1,24 +1,10 @@
 -- `surface` in the words of the mesh.
-use Rattle.std.proofs.Common.{◌≡◌, ℕ, List, [], ◌∷◌, codes, sym, ◌∙◌}
-use Rattle.std.specs.Prelude.{Option}
-use Rattle.surf_io.specs.Files.{Files}
-use Rattle.surf_model.specs.FaceLists.{FaceList}
-use Rattle.closed_surfaces.proofs.Genera.{some_numbers, some_genera}
+use Rattle.surface_commands.proofs.Common.{some_numbers, some_genera, AreGeneraOf, mesh_valid, sound-mesh, mesh_told, mesh_passes, OfOddChain, yes_with, Refuse, Pass, IsTold, ◌>>=◌, Outcome, AnswersTo, IsAnswerOf, Status, ◌≡◌, ℕ, List, [], ◌∷◌, codes, sym, ◌∙◌, Option, Files, FaceList, AreNumbersOf, IsOrientableSurface, SurfaceNumbers}
+use Rattle.commands.specs.declared.status.Status.TheVariants.{Yes}
 use Rattle.surface_commands.proofs.Measuring.{answered_surface, behind_mesh, with_surface, fault_ends, turned_ends, many_ends, numbers_end}
-use Rattle.commands.proofs.MeshTexts.{mesh_valid}
-use Rattle.commands.proofs.Rows.{sound-mesh, mesh_told, mesh_passes}
-use Rattle.commands.specs.Answers.{OfOddChain, yes_with}
-use Rattle.commands.specs.Checks.{Refuse, Pass, IsTold, ◌>>=◌}
-use Rattle.surf_model.specs.OrientableSurfaces.{IsOrientableSurface}
-use Rattle.commands.specs.Outcomes.{Outcome, AnswersTo, IsAnswerOf}
 use Rattle.surface_commands.specs.SurfaceRefusals.{surface_line, components_line}
 use Rattle.surface_commands.specs.Surface.{surface, HasFewComponents, IsSurfaceInput, IsMeasured, numbers_text}
-use Rattle.closed_surfaces.specs.ComponentGenera.{AreGeneraOf}
-use Rattle.surf_model.specs.Genera.{AreNumbersOf}
 use Rattle.surface_commands.specs.SurfaceInput.{as_surface}
-use Rattle.commands.specs.declared.status.Status.{Status}
-use Rattle.commands.specs.declared.status.Status.TheVariants.{Yes}
-use Rattle.surf_model.specs.declared.numbers.SurfaceNumbers.{SurfaceNumbers}
 
 module _ (files : Option Files) (words : List (List ℕ)) (mesh : FaceList) (input : IsSurfaceInput files words mesh) where
   -- each file that is looked at is told

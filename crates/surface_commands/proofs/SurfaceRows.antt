@@ -1,25 +1,13 @@
 -- Commands on surfaces: the check of each has an end, and one where its files are told; and what comes behind a surface and its walks.
-use Rattle.std.proofs.Common.{◌≡◌, inr, ℕ, List, ◌∷◌, sym, subst, []}
-use Rattle.std.specs.Prelude.{Option}
-use Rattle.surf_io.specs.Files.{Files}
-use Rattle.surf_model.specs.FaceLists.{FaceList}
-use Rattle.off_reader.specs.OffTexts.{meaning_of}
+use Rattle.surface_commands.proofs.Common.{mesh_valid, sound-mesh, sound-pair, mesh_passes, spelled_pair, pair_told, IsOutcomeOf, IsSound, sound-then, sound-pass, meant_told, held, Answer, Check, Passes, Holds, IsTold, ◌>>=◌, IsInputOnSurface, pair_in, SpellsMesh, SpellsPair, AnswersTo, Status, ◌≡◌, inr, ℕ, List, ◌∷◌, sym, subst, [], Option, Files, FaceList, IsOrientableSurface}
 use Rattle.commands.proofs.Deciding.{behind}
-use Rattle.surface_commands.proofs.Measuring.{with_few, sound-numbers, sound-genera, surface_passed, as_passes}
-use Rattle.commands.proofs.MeshTexts.{mesh_valid}
-use Rattle.commands.proofs.Sound.{IsSound, sound-then, sound-pass, meant_told, held}
-use Rattle.surface_commands.proofs.Surfaces.{sound-as_surface, sound-few, few_passed}
-use Rattle.commands.specs.Answers.{Answer}
-use Rattle.commands.specs.Checks.{Check, Passes, Holds, IsTold, ◌>>=◌}
-use Rattle.commands.specs.Inputs.{IsInputOnSurface, pair_in, SpellsMesh, SpellsPair}
-use Rattle.commands.specs.Outcomes.{AnswersTo}
 use Rattle.commands.specs.Refusals.{off_line}
-use Rattle.surf_model.specs.OrientableSurfaces.{IsOrientableSurface}
+use Rattle.off_reader.specs.OffTexts.{meaning_of}
+use Rattle.surface_commands.proofs.Measuring.{with_few, sound-numbers, sound-genera, surface_passed, as_passes}
+use Rattle.surface_commands.proofs.Surfaces.{sound-as_surface, sound-few, few_passed}
 use Rattle.surface_commands.specs.Surface.{surface}
 use Rattle.surface_commands.specs.SurfaceInput.{surface_in}
-use Rattle.commands.specs.declared.status.Status.{Status}
 use Rattle.surface_commands.specs.declared.surface.TheConstants.{MOST_COMPONENTS}
-use Rattle.commands.proofs.Rows.{sound-mesh, sound-pair, mesh_passes, spelled_pair, pair_told, IsOutcomeOf}
 
 pub sound-surface_in : (held : Option Files) (name : List ℕ) → IsSound held (surface_in held name)
 sound-surface_in held name =

@@ -1,31 +1,18 @@
 -- How the checks of a surface end.
-use Rattle.std.proofs.Common.{◌≡◌, inl, inr, ℕ, ◌<◌, ◌≤◌, List, refl, sym, ap, subst, arith}
-use Rattle.std.specs.Prelude.{Option, Result, Ok, Err, IfOk, MatchResult, length}
-use Rattle.std.proofs.lemmas.Bool.{cases_lt}
-use Rattle.surf_io.specs.Files.{Files}
-use Rattle.surf_model.specs.FaceLists.{FaceList, IsFaceList}
-use Rattle.surf_model.specs.ComponentParts.{PartsView, AreParts}
-use Rattle.manifold_check.proofs.FaultLemmas.{one_fault, no_fault}
-use Rattle.manifold_check.proofs.OutcomeLemmas.{closed_or_fault}
-use Rattle.commands.proofs.Checking.{stops_next, told_stops}
+use Rattle.surface_commands.proofs.Common.{stops_next, told_stops, sound-orientable, IsSound, sound-then, OfOddChain, End, Refuse, Pass, Passes, mesh_in, Stops, Tells, Stop, Refused, ◌≡◌, inl, inr, ℕ, ◌<◌, ◌≤◌, List, refl, sym, ap, subst, arith, Option, Result, Ok, Err, IfOk, MatchResult, length, Files, FaceList, IsFaceList, HasComponents}
 use Rattle.closed_surfaces.proofs.SomeParts.{some_parts, same_count}
-use Rattle.commands.proofs.Sound.{IsSound, sound-then}
-use Rattle.commands.specs.Answers.{OfOddChain}
-use Rattle.commands.specs.Checks.{End, Refuse, Pass, Passes}
-use Rattle.surf_model.specs.OrientableSurfaces.{HasComponents}
-use Rattle.commands.specs.Inputs.{mesh_in}
-use Rattle.surface_commands.specs.SurfaceRefusals.{surface_line, components_line}
-use Rattle.commands.specs.Stops.{Stops, Tells}
-use Rattle.surface_commands.specs.SurfaceInput.{as_surface, closed, surface_in, of_few_components}
-use Rattle.commands.specs.declared.stop.Stop.{Stop}
-use Rattle.commands.specs.declared.stop.Stop.TheVariants.{Refused}
-use Rattle.commands.specs.declared.text.Text.TheVariants.{OddChain}
 use Rattle.closed_surfaces.specs.SignedSurfaces.{IsNoSurface}
 use Rattle.closed_surfaces.specs.declared.signed_mesh.NoSurface.{NoSurface}
 use Rattle.closed_surfaces.specs.declared.signed_mesh.NoSurface.TheVariants.{NotOrientable}
-use Rattle.surf_model.specs.declared.chains.ChainLink.{ChainLink}
 use Rattle.closed_surfaces.specs.declared.signed_mesh.SignedMesh.{SignedMesh}
-use Rattle.commands.proofs.MeshTexts.{sound-orientable}
+use Rattle.commands.specs.declared.text.Text.TheVariants.{OddChain}
+use Rattle.manifold_check.proofs.FaultLemmas.{one_fault, no_fault}
+use Rattle.manifold_check.proofs.OutcomeLemmas.{closed_or_fault}
+use Rattle.std.proofs.lemmas.Bool.{cases_lt}
+use Rattle.surf_model.specs.ComponentParts.{PartsView, AreParts}
+use Rattle.surf_model.specs.declared.chains.ChainLink.{ChainLink}
+use Rattle.surface_commands.specs.SurfaceRefusals.{surface_line, components_line}
+use Rattle.surface_commands.specs.SurfaceInput.{as_surface, closed, surface_in, of_few_components}
 
 one_closed : (mesh : FaceList) (a b : End FaceList) → (closed mesh).Ends a → (closed mesh).Ends b → a ≡ b
 one_closed mesh (Refuse r) (Refuse s) p q =

@@ -16,7 +16,7 @@ use surf_model::SurfaceNumbers;
 pub const MOST_COMPONENTS: u32 = 1024;
 
 /// The numbers of the surface in the file `mesh`, and the genus of each of its components.
-pub fn measure<S: Shelf>(alloc: Global, shelf: &mut S, mesh: &str) -> Result<Reply, Stop>
+pub fn answer_surface<S: Shelf>(alloc: Global, shelf: &mut S, mesh: &str) -> Result<Reply, Stop>
     ensures { Runs S.held S.faults shelf.old shelf.new (λ files. of_surface.surface files mesh.now) result }
 {
     let surface = read_surface(alloc, shelf, mesh)?;

@@ -1,27 +1,11 @@
 -- Equal words mean homotopic walks, on the surface from which the polygon of the labelling was cut.
-use Rattle.std.proofs.Common.{◌≡◌, ℕ, ◌≤◌, List, ap, sym, ◌∙◌, subst, arith}
-use Rattle.std.specs.Prelude.{◌↔◌, ℤ}
-use Rattle.surf_model.specs.Walks.{IsWalk, HaveCommonEnds}
-use Rattle.surf_model.specs.Moves.{Homotopic}
-use Rattle.turn_words.specs.FormLaws.{led}
-use Rattle.turn_words.specs.declared.word.Word.{Word}
-use Rattle.turn_words.specs.declared.word.Word.TheVariants.{Turns, Flat}
-use Rattle.flat_forms.specs.Vectors.{Vector, origin}
-use Rattle.flat_forms.specs.FlatStates.{flat_next}
-use Rattle.halfedge_map.specs.OrientedMeshes.{OrientedMesh, IsOrientedSurface}
-use Rattle.tree_cotree.specs.Splits.{SplitView, IsSplit}
-use Rattle.polygon_cut.specs.Polygons.{PolygonView, IsCutFrom}
-use Rattle.labellings.specs.Labellings.{LabellingView}
-use Rattle.labellings.specs.QuadPaths.{quad_path}
-use Rattle.quad_system.specs.PolygonLabellings.{labelling_from}
+use Rattle.walk_translate.proofs.Common.{flat_next, Vector, origin, OrientedMesh, IsOrientedSurface, quad_path_leads_to_sum, LabellingView, quad_path, IsWordOf, PolygonView, IsCutFrom, one_sum, labelling_from, ◌≡◌, ℕ, ◌≤◌, List, ap, sym, ◌∙◌, subst, arith, ◌↔◌, ℤ, Homotopic, IsWalk, HaveCommonEnds, SplitView, IsSplit, led, Turns, Flat}
 use Rattle.polygon_cut.proofs.SphereLemmas.{all_homotopic}
 use Rattle.quad_system.proofs.EqualWordLemmas.{one_word}
-use Rattle.quad_system.proofs.FlatWordLemmas.{one_sum}
-use Rattle.labellings.specs.WalkWords.{IsWordOf}
-use Rattle.walk_translate.specs.SurfaceLabels.{HasSphereSplit, IsLabelledByCut}
 use Rattle.surf_model.specs.declared.decisions.Answer.{Answer}
+use Rattle.turn_words.specs.declared.word.Word.{Word}
+use Rattle.walk_translate.specs.SurfaceLabels.{HasSphereSplit, IsLabelledByCut}
 use Rattle.surf_model.specs.declared.decisions.Answer.TheVariants as answers
-use Rattle.labellings.proofs.WalkWordLemmas.{quad_path_leads_to_sum}
 
 abbrev pub vector : ℤ → ℤ → Vector
 vector x y = record { x = x; y = y }

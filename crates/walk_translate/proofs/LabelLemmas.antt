@@ -1,18 +1,15 @@
 -- The labelling of a polygon, and the genus of the surface.
-use Rattle.std.proofs.Common.{◌≡◌, ℕ, Bool, false, List, length, ap, sym, ◌∙◌, subst, arith}
-use Rattle.std.specs.Prelude.{Option, Some, None, MatchOption}
-use Rattle.std.specs.List.{enumerate_from}
-use Rattle.std.proofs.lemmas.List.{length-map, same_lists, get_or_default}
-use Rattle.std.proofs.lemmas.List.FromFn.{length-enumerate_from}
-use Rattle.halfedge_map.specs.OrientedMeshes.{OrientedMesh, IsOrientedSurface}
-use Rattle.tree_cotree.proofs.LawLemmas.{exact}
-use Rattle.polygon_cut.specs.Polygons.{PolygonView}
-use Rattle.labellings.specs.Labellings.{FaceLabels, LabellingView, signs_of}
-use Rattle.labellings.specs.GoodLabellings.{IsGood}
-use Rattle.quad_system.specs.PolygonLabellings.{labelling_from, face_labels, IsFull}
-use Rattle.quad_system.proofs.PolygonLabelLemmas.{polygon_good, flips_are}
+use Rattle.walk_translate.proofs.Common.{OrientedMesh, IsOrientedSurface, IsGood, FaceLabels, LabellingView, signs_of, PolygonView, labelling_from, face_labels, IsFull, ◌≡◌, ℕ, ◌+◌, ◌*◌, Bool, false, List, length, refl, ap, sym, ◌∙◌, subst, arith, length-map, same_lists, get_or_default, Option, Some, None, MatchOption, ℤ, pos, ◌+ℤ◌, ◌-ℤ◌, is_used, SplitView, IsSplit}
+use Rattle.halfedge_map.specs.DartMaps.{used_vertices}
 use Rattle.quad_system.proofs.FullLemmas.{polygon_full}
-use Rattle.walk_translate.specs.SurfaceLabels.{HasGenus, IsSphere, IsSurfaceLabelling, HasSphereSplit, IsLabelledByCut}
+use Rattle.quad_system.proofs.PolygonLabelLemmas.{polygon_good, flips_are}
+use Rattle.std.proofs.lemmas.Int.{ints}
+use Rattle.std.proofs.lemmas.List.FromFn.{length-enumerate_from}
+use Rattle.std.specs.List.{enumerate_from}
+use Rattle.surf_model.specs.Genera.{HasGenus}
+use Rattle.surf_model.specs.Numbers.{count_below}
+use Rattle.tree_cotree.proofs.LawLemmas.{exact}
+use Rattle.walk_translate.specs.SurfaceLabels.{IsSurfaceLabelling, HasSphereSplit, IsLabelledByCut}
 
 -- the labelling has the signs of the surface
 signs_are : (s : OrientedMesh) (polygon : PolygonView) → IsOrientedSurface s → signs_of (labelling_from s polygon) ≡ s.signs
@@ -39,16 +36,32 @@ cut_is_full : (surface : OrientedMesh) (labelling : LabellingView) → IsOriente
 cut_is_full surface labelling o h =
     subst (IsFull surface.mesh) (sym h.labelling_is) (polygon_full surface h.split h.polygon o h.is_split h.is_cut h.some)
 
+-- the genus of a split is that of its surface
+pub genus_of_split : (s : OrientedMesh) (split : SplitView) → IsOrientedSurface s → IsSplit s split → HasGenus s.mesh split.genus
+unfolding used_vertices
+genus_of_split s split o t =
+    let euler : ℤ = (pos (count_below (is_used s.mesh) s.mesh.count) -ℤ pos (length s.table)) +ℤ pos (length s.mesh.faces) in
+    let count : count_below (is_used s.mesh) s.mesh.count + length s.mesh.faces + 2 * split.genus ≡ length s.table + 2 =
+    exact s split t.trees split.genus t.genus in (
+      record {
+        vertices = count_below (is_used s.mesh) s.mesh.count;
+        edges = length s.table;
+        faces = length s.mesh.faces;
+        euler = euler;
+      },
+      record { vertices = refl; table = s.table; is_table = o.table; edges = refl; faces = refl; euler = refl },
+      omega (arith, ints, count),
+    )
+
 -- what is said of the labelling of a surface
 pub surface_labelling : (surface : OrientedMesh) (found : Option LabellingView) → IsOrientedSurface surface
     → MatchOption found (HasSphereSplit surface) (IsLabelledByCut surface)
-    → MatchOption found (IsSphere surface) (IsSurfaceLabelling surface)
+    → MatchOption found (HasGenus surface.mesh 0) (IsSurfaceLabelling surface)
 surface_labelling surface None o h =
-    let genus : HasGenus surface h.split.genus = exact surface h.split h.is_split.trees h.split.genus h.is_split.genus in
-    subst (HasGenus surface) h.none genus
+    subst (HasGenus surface.mesh) h.none (genus_of_split surface h.split o h.is_split)
 surface_labelling surface (Some labelling) o h = record {
   genus = h.split.genus;
-  has_genus = exact surface h.split h.is_split.trees h.split.genus h.is_split.genus;
+  has_genus = genus_of_split surface h.split o h.is_split;
   some = omega (arith, h.some, h.is_cut.degree);
   degree = ap (λ (l : LabellingView). l.degree) h.labelling_is ∙ h.is_cut.degree;
   signs = ap signs_of h.labelling_is ∙ signs_are surface h.polygon o;

@@ -1,3 +1,4 @@
+pub mod Common
 pub mod DecidingLemmas
 pub mod LabelLemmas
 pub mod SpokedLemmas

@@ -1,35 +1,15 @@
 -- Walks whose darts are looked up once: the spokes of their darts, and the states to which they lead.
-use Rattle.std.proofs.Common.{◌≡◌, ◌⊎◌, inl, inr, ℕ, zero, suc, ◌+◌, ◌*◌, ◌<◌, ◌≤◌, true, false, List, [], ◌∷◌, ◌++◌, length, get_or, refl, ap, sym, ◌∙◌, subst, arith, add-one}
-use Rattle.std.specs.Prelude.{◌↔◌, All, IsTrue, Option, Some, None, IfSome}
-use Rattle.std.proofs.lemmas.List.{append-nil, get_or_append_left, get_or_default, length-append}
-use Rattle.std.proofs.Math.Seq.{get_or-append_seam}
-use Rattle.surf_model.specs.FaceLists.{FaceList, is_edge, is_used}
-use Rattle.surf_model.specs.Edges.{Edge, IsTableOf, HasEnds, edge_in}
-use Rattle.surf_model.specs.Walks.{darts, IsWalk, AreWalkPair}
-use Rattle.surf_model.specs.Moves.{Homotopic}
-use Rattle.surf_model.specs.declared.names.Spoke.{Spoke}
-use Rattle.surf_model.proofs.EdgeLemmas.{edge_swap, head_used}
-use Rattle.surf_model.proofs.TableEdgeLemmas.{table_pair}
-use Rattle.turn_words.specs.FormLaws.{led}
-use Rattle.turn_words.specs.HyperStates.{HyperState, IsHyperWheel, BelongsTo, IsEven, empty_state, hyper_next}
-use Rattle.turn_words.specs.Lemmas.HyperLaws.{hyper_starts, hyper_stays, hyper_there_and_back, hyper_across}
-use Rattle.turn_words.specs.Canonical.{IsCanonicalOf}
-use Rattle.turn_words.specs.SpokePaths.{turn_word_of}
-use Rattle.turn_words.specs.declared.word.Word.TheVariants.{Turns}
-use Rattle.turn_words.proofs.Led.{led-append}
-use Rattle.turn_words.proofs.Spokes.{canonical}
-use Rattle.flat_forms.specs.Vectors.{origin}
-use Rattle.flat_forms.specs.FlatStates.{flat_next}
-use Rattle.halfedge_map.specs.OrientedMeshes.{OrientedMesh, IsOrientedSurface}
-use Rattle.labellings.specs.Labellings.{LabellingView}
-use Rattle.labellings.specs.GoodLabellings.{IsGood}
-use Rattle.labellings.specs.QuadPaths.{spokes, quad_path}
-use Rattle.labellings.specs.Spokes.{spoke_list}
-use Rattle.labellings.specs.WalkWords.{IsWordOf}
+use Rattle.walk_translate.proofs.Common.{flat_next, origin, OrientedMesh, IsOrientedSurface, quad_path_below, hyper_wheel_of_good, IsGood, LabellingView, spokes, quad_path, spoke_list, IsWordOf, one_sum, ◌≡◌, ◌⊎◌, inl, inr, ℕ, zero, suc, ◌+◌, ◌*◌, ◌<◌, ◌≤◌, true, false, List, [], ◌∷◌, ◌++◌, length, get_or, refl, ap, sym, ◌∙◌, subst, arith, add-one, append-nil, get_or_append_left, get_or_default, length-append, ◌↔◌, All, IsTrue, Option, Some, None, IfSome, edge_swap, head_used, table_pair, Edge, IsTableOf, HasEnds, edge_in, FaceList, is_edge, is_used, Homotopic, darts, IsWalk, AreWalkPair, led, Turns}
 use Rattle.labellings.proofs.FoldLemmas.{PutLaws}
 use Rattle.labellings.proofs.KeepingLemmas.{moves_keep}
-use Rattle.labellings.proofs.WalkWordLemmas.{quad_path_below, hyper_wheel_of_good}
-use Rattle.quad_system.proofs.FlatWordLemmas.{one_sum}
+use Rattle.std.proofs.Math.Seq.{get_or-append_seam}
+use Rattle.surf_model.specs.declared.names.Spoke.{Spoke}
+use Rattle.turn_words.proofs.Led.{led-append}
+use Rattle.turn_words.proofs.Spokes.{canonical}
+use Rattle.turn_words.specs.Canonical.{IsCanonicalOf}
+use Rattle.turn_words.specs.HyperStates.{HyperState, IsHyperWheel, BelongsTo, IsEven, empty_state, hyper_next}
+use Rattle.turn_words.specs.Lemmas.HyperLaws.{hyper_starts, hyper_stays, hyper_there_and_back, hyper_across}
+use Rattle.turn_words.specs.SpokePaths.{turn_word_of}
 use Rattle.walk_translate.specs.DartSpokes.{AreSpokesBelow, AreSpokesOf, kept_at}
 use Rattle.walk_translate.specs.SurfaceLabels.{IsLabelledByCut}
 use Rattle.walk_translate.proofs.LabelLemmas.{cut_is_good}
@@ -157,7 +137,7 @@ points_decide surface labelling o h four first second pair =
     (sym (ap (λ (l : LabellingView). l.degree) h.labelling_is) ∙ four) pair.first_walk pair.second_walk pair.ends)
 
 -- the word of the state to which the spokes lead
-word_of_state : (mesh : FaceList) (labelling : LabellingView) (walk : List ℕ) → IsGood mesh labelling → 5 ≤ labelling.degree
+pub word_of_state : (mesh : FaceList) (labelling : LabellingView) (walk : List ℕ) → IsGood mesh labelling → 5 ≤ labelling.degree
     → IsWordOf mesh labelling walk (Turns (led hyper_next labelling.places empty_state (quad_path mesh labelling walk)).word)
 word_of_state mesh labelling walk good five =
     let path : List ℕ = quad_path mesh labelling walk in (

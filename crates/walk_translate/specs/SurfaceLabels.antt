@@ -1,24 +1,17 @@
--- Labellings of a surface, and its genus.
-use Rattle.std.specs.Prelude.{◌≡◌, ℕ, ◌+◌, ◌*◌, ◌<◌, length}
+-- Labellings of a surface.
+use Rattle.std.specs.Prelude.{◌≡◌, ℕ, ◌*◌, ◌<◌}
+use Rattle.surf_model.specs.Genera.{HasGenus}
 use Rattle.halfedge_map.specs.OrientedMeshes.{OrientedMesh}
-use Rattle.halfedge_map.specs.DartMaps.{used_vertices}
 use Rattle.tree_cotree.specs.Splits.{SplitView, IsSplit}
 use Rattle.polygon_cut.specs.Polygons.{PolygonView, IsCutFrom}
 use Rattle.labellings.specs.Labellings.{LabellingView, signs_of}
 use Rattle.labellings.specs.GoodLabellings.{IsGood}
 use Rattle.quad_system.specs.PolygonLabellings.{labelling_from, IsFull}
 
--- the genus, by the Euler characteristic: used vertices, faces and twice the genus are two more than the edges
-abbrev pub HasGenus : OrientedMesh → ℕ → Type 0
-HasGenus surface genus = used_vertices surface + length surface.mesh.faces + 2 * genus ≡ length surface.table + 2
-
-abbrev pub IsSphere : OrientedMesh → Type 0
-IsSphere surface = HasGenus surface 0
-
 -- a good and full labelling with the signs of the surface and with four spokes for each of its handles, of which there are some
 pub record IsSurfaceLabelling (surface : OrientedMesh) (labelling : LabellingView) : Type 0 where
   pub genus : ℕ
-  pub has_genus : HasGenus surface genus
+  pub has_genus : HasGenus surface.mesh genus
   pub some : 0 < genus
   pub degree : labelling.degree ≡ 4 * genus
   pub signs : signs_of labelling ≡ surface.signs

@@ -1,6 +1,7 @@
 //! Labellings of a surface.
 ghost use Rattle.std.specs.Prelude.{IfOk, MatchOption};
-ghost use Rattle.walk_translate.specs.SurfaceLabels.{IsSphere, IsSurfaceLabelling, HasSphereSplit, IsLabelledByCut};
+ghost use Rattle.surf_model.specs.Genera.{HasGenus};
+ghost use Rattle.walk_translate.specs.SurfaceLabels.{IsSurfaceLabelling, HasSphereSplit, IsLabelledByCut};
 
 use halfedge_map::Surface;
 use polygon_cut::cut_by_colours;
@@ -11,7 +12,7 @@ use tree_cotree::colour_edges;
 /// A labelling of a surface that is good and full and has the signs of the surface, with four spokes for each handle; none
 /// where the surface is a sphere.
 pub fn label_surface(alloc: Global, surface: &Surface) -> Result<Option<GoodLabelling>, AllocError>
-    ensures { IfOk result (λ found. MatchOption found (IsSphere surface.now) (IsSurfaceLabelling surface.now)) }
+    ensures { IfOk result (λ found. MatchOption found (HasGenus surface.now.mesh 0) (IsSurfaceLabelling surface.now)) }
 {
     // The proof reads what holds of every surface.
     let _ = surface.faces();

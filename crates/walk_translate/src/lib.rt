@@ -15,9 +15,11 @@ mod labels;
 mod spoked;
 mod walks;
 
+pub use dart_spokes::DartSpokes;
 pub use decider::Decider;
 pub use deciding::decide;
 pub use labellings::{DenialVerdict, check_denial, fold, word_of};
 pub use labels::{label_by_cut, label_surface};
+pub use spoked::Spoked;
 pub use surf_model::Answer;
 pub use walks::are_pair;

@@ -16,10 +16,10 @@ use turn_words::{Form, Hyper, Silent};
 
 /// A surface with its labels, and the spokes of its darts.
 #[derive(Clone, Copy)]
-pub(crate) struct Spoked<'a> {
-    pub(crate) surface: &'a Surface,
-    pub(crate) good: &'a GoodLabelling,
-    pub(crate) kept: &'a DartSpokes,
+pub struct Spoked<'a> {
+    pub surface: &'a Surface,
+    pub good: &'a GoodLabelling,
+    pub kept: &'a DartSpokes,
 }
 
 impl Spoked<'_> {
@@ -88,7 +88,7 @@ impl Spoked<'_> {
 
     /// Puts the spokes of a walk's darts into a form, in order, if the vertices are a walk of the surface, and tells whether
     /// they are. Each dart is looked up once.
-    fn fold<F: Form>(&self, form: &mut F, walk: &Walk) -> Result<bool, AllocError>
+    pub fn fold<F: Form>(&self, form: &mut F, walk: &Walk) -> Result<bool, AllocError>
         requires spoked { IsSpoked self.now }
         requires belongs { F.Belongs self.now.good.now.places (F.state form.old) }
         requires room { F.size (F.state form.old) + 2 * darts walk.now ≤ F.limit }

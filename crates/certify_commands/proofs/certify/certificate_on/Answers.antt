@@ -1,6 +1,4 @@
-use Rattle.std.proofs.Common.{sym, subst}
-use Rattle.surf_model.specs.Walks.{IsWalk}
-use Rattle.halfedge_map.specs.OrientedMeshes.{OrientedMesh}
+use Rattle.certify_commands.proofs.Common.{OrientedMesh, sym, subst, IsWalk}
 use Rattle.certify_commands.specs.Certify.{IsWithinLimits}
 use Rattle.certify_commands.specs.Findings.{IsFinding}
 use Rattle.certify_commands.proofs.certify.certificate_on.Goals as goal

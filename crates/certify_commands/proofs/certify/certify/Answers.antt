@@ -1,17 +1,9 @@
-use Rattle.std.proofs.Common.{arith}
-use Rattle.std.proofs.lemmas.Result.{err_from_is_err_and}
-use Rattle.surf_model.specs.Edges.{IsTableOf}
-use Rattle.surf_model.specs.Walks.{AreWalkPair}
-use Rattle.commands.specs.Answers.{Exactly}
-use Rattle.commands.specs.Certificates.{decision_of}
-use Rattle.certify_commands.specs.Certify.{certificate_answer, certify_limits, limit_word}
-use Rattle.commands.specs.Inputs.{pair_in}
-use Rattle.certify_commands.proofs.Certifying.{after_pair, certificate_found, limits_stop}
-use Rattle.commands.proofs.LimitLemmas.{fitting}
-use Rattle.commands.proofs.Rows.{two_walks}
-use Rattle.commands.proofs.Deciding.{walks_of_pair}
+use Rattle.certify_commands.proofs.Common.{walks_of_pair, fitting, two_walks, Exactly, decision_of, pair_in, arith, err_from_is_err_and, AreWalkPair}
 use Rattle.commands.proofs.Running.{tells_no_fault}
+use Rattle.surf_model.specs.Edges.{IsTableOf}
 use Rattle.surface_commands.proofs.RunsOnWalks.{runs_asked, runs_refused_next, runs_refused_walks, runs_wanting}
+use Rattle.certify_commands.specs.Certify.{certificate_answer, certify_limits, limit_word}
+use Rattle.certify_commands.proofs.Certifying.{after_pair, certificate_found, limits_stop}
 use Rattle.certify_commands.proofs.certify.certify.Goals as goal
 use Rattle.certify_commands.proofs.certify.certify.Goals.{After-at-second}
 

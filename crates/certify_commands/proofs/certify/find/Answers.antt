@@ -1,11 +1,7 @@
-use Rattle.std.proofs.Common.{◌≡◌, ◌+◌, ◌≤◌, length, subst, arith}
-use Rattle.std.specs.Prelude.{IfSome, MatchOption}
-use Rattle.surf_model.specs.Moves.{Homotopic}
-use Rattle.surf_model.specs.Walks.{darts}
+use Rattle.certify_commands.proofs.Common.{MOST_SHOWN_PEAK, ◌≡◌, ◌+◌, ◌≤◌, length, subst, arith, IfSome, MatchOption, Homotopic, darts}
 use Rattle.halfedge_map.specs.DartMaps.{darts_of}
-use Rattle.move_lifting.specs.Lifts.{HasLowPeak, IsShortList, LeadsAtPeak}
 use Rattle.move_lifting.proofs.BoundLemmas.{few_most, low_most}
-use Rattle.commands.specs.declared.certificate.TheConstants.{MOST_SHOWN_PEAK}
+use Rattle.move_lifting.specs.Lifts.{HasLowPeak, IsShortList, LeadsAtPeak}
 use Rattle.certify_commands.proofs.SplitGenera.{no_sides}
 use Rattle.certify_commands.proofs.certify.find.Goals as goal
 

@@ -1,6 +1,4 @@
-use Rattle.std.proofs.Common.{subst, arith}
-use Rattle.surf_model.specs.FaceLists.{FaceList}
-use Rattle.labellings.specs.WalkWords.{IsWordOf}
+use Rattle.certify_commands.proofs.Common.{IsWordOf, subst, arith, FaceList}
 use Rattle.certify_commands.proofs.Certifying.{some_sides, denial_holds, signs_are}
 use Rattle.certify_commands.proofs.SplitGenera.{no_sides}
 use Rattle.certify_commands.proofs.certify.find_words.Goals as goal

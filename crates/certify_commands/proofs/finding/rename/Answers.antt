@@ -1,6 +1,5 @@
-use Rattle.std.proofs.Common.{◌∙◌, arith}
+use Rattle.certify_commands.proofs.Common.{◌∙◌, arith, component_at}
 use Rattle.std.proofs.lemmas.Option.{get_or_from_slice_get}
-use Rattle.surf_model.specs.ComponentParts.{component_at}
 use Rattle.certify_commands.proofs.FoundLemmas.{renamed_more}
 use Rattle.certify_commands.proofs.finding.rename.Goals as goal
 

@@ -1,6 +1,4 @@
-use Rattle.std.proofs.Common.{◌≡◌, take}
-use Rattle.surf_model.specs.ComponentParts.{component_at}
-use Rattle.surf_model.specs.Submeshes.{renamed_moves}
+use Rattle.certify_commands.proofs.Common.{◌≡◌, take, component_at, renamed_moves}
 use Rattle.certify_commands.proofs.finding.rename.Given as goal
 
 abbrev pub invariant-loop-k : goal.invariant-loop-k

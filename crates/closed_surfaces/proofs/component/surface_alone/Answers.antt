@@ -1,11 +1,4 @@
-use Rattle.std.proofs.Common.{sym, subst, arith}
-use Rattle.surf_model.specs.FaceLists.{FaceList}
-use Rattle.surf_model.specs.Components.{EachTwoAreJoined}
-use Rattle.surf_model.specs.Surfaces.{IsClosedManifold, IsCoherent}
-use Rattle.surf_model.specs.ComponentParts.{component_at, component_mesh}
-use Rattle.surf_model.specs.Submeshes.{signs_among}
-use Rattle.manifold_check.proofs.PartPieces.{IsOfComponent, piece_of_parts, closed_alone, names_within}
-use Rattle.manifold_check.proofs.PieceSurfaces.{coherent_alone}
+use Rattle.closed_surfaces.proofs.Common.{IsOfComponent, piece_of_parts, closed_alone, names_within, coherent_alone, sym, subst, arith, component_at, component_mesh, EachTwoAreJoined, FaceList, signs_among, IsClosedManifold, IsCoherent}
 use Rattle.closed_surfaces.proofs.component.surface_alone.Goals as goal
 
 pub signs-requires-clause-signs : goal.signs-requires-clause-signs

@@ -1,10 +1,6 @@
-use Rattle.std.proofs.Common.{◌≡◌, ◌+◌, ◌<◌, ℕ, List, get_or, length, sym, subst, arith}
-use Rattle.std.proofs.lemmas.List.{get_or_read}
-use Rattle.surf_model.specs.ComponentParts.{component_mesh}
-use Rattle.surf_model.specs.Genera.{AreNumbersOf, HasGenus}
-use Rattle.surf_model.specs.declared.numbers.SurfaceNumbers.{SurfaceNumbers}
+use Rattle.closed_surfaces.proofs.Common.{◌≡◌, ◌+◌, ◌<◌, ℕ, List, get_or, length, sym, subst, arith, get_or_read, component_mesh, AreNumbersOf, HasGenus, SurfaceNumbers}
 use Rattle.closed_surfaces.proofs.Components.{signed_surface}
-use Rattle.closed_surfaces.proofs.Genera.{AreGeneraUpTo, IsComponentSurface, component_surface, counts_give, genera_all, genera_more, genera_none, genus_by_counts}
+use Rattle.closed_surfaces.proofs.Genera.{AreGeneraUpTo, IsComponentSurface, component_surface, genera_all, genera_more, genera_none, some_genus}
 use Rattle.closed_surfaces.proofs.measuring.genera_of.Goals as goal
 
 pub loop-part-init : goal.loop-part-init
@@ -25,8 +21,12 @@ genus_of-requires c =
     let alone : IsComponentSurface (component_mesh mesh parts part) =
     component_surface mesh parts part c.requires.signed.valid (signed_surface c.args.surface.now c.requires.signed) c.requires.parts
     there in
-    genus_by_counts (component_mesh mesh parts part) numbers alone.valid alone.surface
-    (subst (AreNumbersOf (component_mesh mesh parts part)) (sym read) (c.in_ok-all.ensures.numbers part numbers there))
+    let genus = some_genus (component_mesh mesh parts part) alone.valid alone.surface in (
+      component_mesh mesh parts part,
+      genus.0,
+      subst (AreNumbersOf (component_mesh mesh parts part)) (sym read) (c.in_ok-all.ensures.numbers part numbers there),
+      genus.1,
+    )
 
 pub loop-part-preserved : goal.loop-part-preserved
 loop-part-preserved c =
@@ -39,9 +39,8 @@ loop-part-preserved c =
     let read : numbers ≡ get_or all part numbers =
     get_or_read all part _ (omega (arith, there, c.in_ok-all.ensures.count)) c.index-numbers.ensures numbers in
     let genus : HasGenus (component_mesh mesh parts part) c.genus_of.result =
-    counts_give (component_mesh mesh parts part) numbers c.genus_of.result
-    (subst (AreNumbersOf (component_mesh mesh parts part)) (sym read) (c.in_ok-all.ensures.numbers part numbers there))
-    c.genus_of.ensures in
+    c.genus_of.ensures (component_mesh mesh parts part)
+    (subst (AreNumbersOf (component_mesh mesh parts part)) (sym read) (c.in_ok-all.ensures.numbers part numbers there)) in
     subst (λ (l : List ℕ). AreGeneraUpTo mesh parts l (part + 1)) (sym c.in_ok-push.ensures.items)
     (genera_more mesh parts c.loop-part.genera.items part c.genus_of.result c.loop-part.invariant genus)
 

@@ -1,13 +1,6 @@
-use Rattle.std.proofs.Common.{◌≡◌, ◌<◌, ℕ, List, length, ap, sym, ◌∙◌, subst, arith}
-use Rattle.std.specs.Prelude.{All}
-use Rattle.std.proofs.lemmas.List.{get_or_read, length-map, take_all}
-use Rattle.surf_model.specs.FaceLists.{FaceList, face_at, total_sides}
-use Rattle.surf_model.specs.Vertices.{numbers}
-use Rattle.surf_model.specs.declared.names.VertexName.{VertexName}
-use Rattle.surf_model.specs.ComponentParts.{PartsView, AreParts, component_at, component_mesh}
+use Rattle.component_deciding.proofs.Common.{count_at_most, ◌≡◌, ◌<◌, ℕ, List, length, ap, sym, ◌∙◌, subst, arith, get_or_read, length-map, take_all, All, PartsView, AreParts, component_at, component_mesh, FaceList, face_at, is_used, total_sides, numbers, VertexName}
 use Rattle.component_deciding.specs.OwnVertices.{AreOwnNumbers, own_mesh}
 use Rattle.component_deciding.specs.declared.own_numbers.OwnNumbers.{OwnNumbers}
-use Rattle.component_deciding.proofs.OwnLemmas.{own_within}
 use Rattle.component_deciding.proofs.ComponentLemmas.{IsNumbered, named_within, own_count, own_face_valid, own_faces_more, own_ring, own_room}
 use Rattle.component_deciding.proofs.own_mesh.own_faces.Goals as goal
 
@@ -29,7 +22,7 @@ new-alone-requires c =
       arith,
       get_or_read own.counts.items c.args.place _ inside c.index.ensures 0,
       c.requires.apart.own.counted c.args.place c.requires.place,
-      own_within (component_mesh mesh parts c.args.place),
+      count_at_most (is_used (component_mesh mesh parts c.args.place)) mesh.count,
       c.requires.apart.own.small.few_vertices,
     )
 

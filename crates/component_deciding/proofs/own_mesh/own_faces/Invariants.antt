@@ -1,5 +1,4 @@
-use Rattle.std.proofs.Common.{◌≡◌, take}
-use Rattle.surf_model.specs.ComponentParts.{component_mesh}
+use Rattle.component_deciding.proofs.Common.{◌≡◌, take, component_mesh}
 use Rattle.component_deciding.specs.OwnVertices.{own_mesh}
 use Rattle.component_deciding.proofs.own_mesh.own_faces.Given as goal
 

@@ -1,8 +1,4 @@
-use Rattle.std.proofs.Common.{sym, subst, arith}
-use Rattle.surf_model.specs.FaceLists.{FaceList}
-use Rattle.surf_model.specs.Components.{EachTwoAreJoined}
-use Rattle.surf_model.specs.Surfaces.{IsClosedManifold, IsCoherent}
-use Rattle.manifold_check.proofs.PartPieces.{names_within}
+use Rattle.component_deciding.proofs.Common.{names_within, sym, subst, arith, EachTwoAreJoined, FaceList, IsClosedManifold, IsCoherent}
 use Rattle.component_deciding.proofs.OwnSurfaces.{own_closed, own_joined, own_coherent}
 use Rattle.component_deciding.proofs.own_mesh.own_surface.Goals as goal
 

@@ -1,12 +1,4 @@
-use Rattle.std.proofs.Common.{◌≡◌, ◌<◌, ◌≤◌, ℕ, true, List, length, get_or, map, sym, ap, ◌∙◌, subst, arith}
-use Rattle.std.specs.Prelude.{All}
-use Rattle.std.proofs.lemmas.Bool.{both_ways}
-use Rattle.std.proofs.lemmas.List.{get_or_read, take_all, take_more}
-use Rattle.std.proofs.lemmas.List.Elements.{All-push}
-use Rattle.surf_model.specs.FaceLists.{is_used}
-use Rattle.surf_model.specs.Vertices.{numbers}
-use Rattle.surf_model.proofs.EdgeLemmas.{used_below}
-use Rattle.manifold_check.proofs.PartPieces.{walk_same_place}
+use Rattle.component_deciding.proofs.Common.{walk_same_place, ◌≡◌, ◌<◌, ◌≤◌, ℕ, true, List, length, get_or, map, sym, ap, ◌∙◌, subst, arith, both_ways, get_or_read, take_all, take_more, All-push, All, used_below, is_used, numbers}
 use Rattle.component_deciding.proofs.ComponentLemmas.{renumbered_more}
 use Rattle.component_deciding.proofs.OwnSurfaces.{IsThere, own_walk_is}
 use Rattle.component_deciding.proofs.own_mesh.own_walk.Goals as goal

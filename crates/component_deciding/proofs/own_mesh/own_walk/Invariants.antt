@@ -1,6 +1,5 @@
-use Rattle.std.proofs.Common.{◌≡◌, map, take}
-use Rattle.std.specs.Prelude.{All, slice_index}
-use Rattle.surf_model.specs.Vertices.{numbers}
+use Rattle.component_deciding.proofs.Common.{◌≡◌, map, take, All, numbers}
+use Rattle.std.specs.Prelude.{slice_index}
 use Rattle.component_deciding.proofs.OwnSurfaces.{IsThere}
 use Rattle.component_deciding.proofs.own_mesh.own_walk.Given as goal
 

@@ -1,7 +1,4 @@
-use Rattle.std.proofs.Common.{◌≡◌, ◌<◌, ℕ, List, length, get_or, sym, ◌∙◌, ap, arith}
-use Rattle.std.proofs.lemmas.List.{get_or_read, length-map}
-use Rattle.surf_model.specs.Vertices.{numbers}
-use Rattle.surf_model.specs.declared.names.VertexName.{VertexName}
+use Rattle.component_deciding.proofs.Common.{◌≡◌, ◌<◌, ℕ, List, length, get_or, sym, ◌∙◌, ap, arith, get_or_read, length-map, numbers, VertexName}
 use Rattle.component_deciding.proofs.ComponentLemmas.{number_at, renumbered_more}
 use Rattle.component_deciding.proofs.own_mesh.renumber.Goals as goal
 

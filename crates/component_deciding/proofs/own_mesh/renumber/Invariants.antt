@@ -1,5 +1,4 @@
-use Rattle.std.proofs.Common.{◌≡◌, map, take, slice_index}
-use Rattle.surf_model.specs.Vertices.{numbers}
+use Rattle.component_deciding.proofs.Common.{◌≡◌, map, take, slice_index, numbers}
 use Rattle.component_deciding.proofs.own_mesh.renumber.Given as goal
 
 abbrev pub invariant-loop-vertex : goal.invariant-loop-vertex

@@ -1,13 +1,7 @@
-use Rattle.std.proofs.Common.{Vec, Global, ◌≡◌, ◌+◌, ◌<◌, ℕ, true, false, List, get_or, set, length, sym, ◌∙◌, subst, ap, arith}
-use Rattle.std.proofs.lemmas.Bool.{both_ways}
-use Rattle.std.proofs.lemmas.List.{get_or_read, length-set, length_push}
-use Rattle.surf_model.specs.Building.{IsCounted}
-use Rattle.surf_model.specs.ComponentParts.{component_mesh}
-use Rattle.component_deciding.specs.OwnVertices.{own_number}
-use Rattle.surf_model.specs.FaceLists.{is_used}
-use Rattle.surf_model.proofs.EdgeLemmas.{used_below}
+use Rattle.component_deciding.proofs.Common.{place_of_used, used_counted, unused_counted, vertices_counted, Vec, Global, ◌≡◌, ◌+◌, ◌<◌, ℕ, true, false, List, get_or, set, length, sym, ◌∙◌, subst, ap, arith, both_ways, get_or_read, length_push, used_below, IsCounted, component_mesh, is_used}
+use Rattle.std.proofs.lemmas.List.{length-set}
 use Rattle.surf_model.proofs.TallyLemmas.{group_of_within}
-use Rattle.manifold_check.proofs.MeasureLemmas.{count_of_passing, place_of_used, used_counted, unused_counted, vertices_counted}
+use Rattle.component_deciding.specs.OwnVertices.{own_number}
 use Rattle.component_deciding.proofs.ComponentLemmas.{count_is_number, numbered_more}
 use Rattle.component_deciding.proofs.own_numbers.number_vertices.Goals as goal
 use Rattle.component_deciding.proofs.own_numbers.number_vertices.Goals.{then-used, else-used}
@@ -111,6 +105,5 @@ returns c =
       each_component = inv.each_component;
       numbered = λ v used. inv.numbered v (omega (arith, all, used_below mesh v c.count-count.ensures.valid used)) used;
       counted = λ k l. vertices_counted mesh parts c.loop-vertex.counts.items k c.requires.parts l (omega (arith, l, inv.each_component))
-          (subst (λ n. IsCounted (place_of_used mesh parts) n c.loop-vertex.counts.items) all inv.counted)
-          ∙ count_of_passing (is_used (component_mesh mesh parts k)) mesh.count;
+          (subst (λ n. IsCounted (place_of_used mesh parts) n c.loop-vertex.counts.items) all inv.counted);
     }

@@ -1,8 +1,4 @@
-use Rattle.std.proofs.Common.{◌≡◌, ◌<◌, ℕ, true, length, get_or}
-use Rattle.surf_model.specs.Building.{IsCounted}
-use Rattle.surf_model.specs.FaceLists.{is_used}
-use Rattle.surf_model.specs.ComponentParts.{component_mesh}
-use Rattle.manifold_check.proofs.MeasureLemmas.{place_of_used}
+use Rattle.component_deciding.proofs.Common.{place_of_used, ◌≡◌, ◌<◌, ℕ, true, length, get_or, IsCounted, component_mesh, is_used}
 use Rattle.component_deciding.specs.OwnVertices.{own_number}
 use Rattle.component_deciding.proofs.own_numbers.number_vertices.Given as goal
 

@@ -1,5 +1,4 @@
-use Rattle.std.proofs.Common.{refl}
-use Rattle.std.proofs.lemmas.Result.{err_from_is_err_and}
+use Rattle.pair_commands.proofs.Common.{refl, err_from_is_err_and}
 use Rattle.commands.proofs.Running.{err_no_fault}
 use Rattle.surface_commands.proofs.RunsOnWalks.{runs_asked, runs_refused_read, runs_refused_walks}
 use Rattle.pair_commands.specs.Decide.{decisions_answer}

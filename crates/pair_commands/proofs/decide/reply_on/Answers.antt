@@ -1,4 +1,4 @@
-use Rattle.std.proofs.Common.{◌≡◌, false, true, refl, sym, subst}
+use Rattle.pair_commands.proofs.Common.{◌≡◌, false, true, refl, sym, subst}
 use Rattle.pair_commands.proofs.PairDecisions.{AreHomotopic, status_yes, status_no}
 use Rattle.pair_commands.proofs.decide.reply_on.Goals as goal
 

@@ -1,18 +1,10 @@
-use Rattle.std.proofs.Common.{◌≡◌, ◌+◌, ◌/◌, ◌<◌, ℕ, true, List, length, get_or, set, sym, ap, ◌∙◌, subst, arith}
-use Rattle.std.proofs.lemmas.List.{get_or_read, length-set}
-use Rattle.std.proofs.lemmas.Result.{err_from_is_err_and}
-use Rattle.std.specs.Prelude.{Some}
-use Rattle.surf_model.specs.FaceLists.{FaceList}
-use Rattle.surf_model.specs.Edges.{IsTableOf}
-use Rattle.surf_model.specs.Walks.{AreWalkPair}
-use Rattle.walk_files.specs.PairLists.{are_paired}
-use Rattle.component_deciding.specs.Orders.{AreAllPairs}
-use Rattle.component_deciding.specs.PairDeciders.{IsFoundOn, mesh_of}
+use Rattle.pair_commands.proofs.Common.{all_hold, as_many, holds_next, pair_within, IsFoundOn, mesh_of, ◌≡◌, ◌/◌, ◌<◌, ℕ, true, List, length, get_or, sym, ◌∙◌, subst, arith, err_from_is_err_and, Some, FaceList, AreWalkPair, are_paired}
 use Rattle.component_deciding.specs.declared.order.Placed.{Placed}
-use Rattle.component_deciding.proofs.OrderLemmas.{HoldsUpTo, all_hold, as_many, entry_within, holds_more}
+use Rattle.std.proofs.lemmas.List.{get_or_read, length-set}
+use Rattle.surf_model.specs.Edges.{IsTableOf}
 use Rattle.pair_commands.proofs.PairDecisions.{IsDecidedAt, found_at, no_pairs, paired_even, pairs_decided}
 use Rattle.pair_commands.proofs.deciding.decide_all.Goals as goal
-use Rattle.pair_commands.proofs.deciding.decide_all.Goals.{in-Some, in-None+in_ok-check_list-in-None, then-not-are_paired+in_ok-check_list, else-not-are_paired}
+use Rattle.pair_commands.proofs.deciding.decide_all.Goals.{After-index, in-Some, in-None+in_ok-check_list-in-None, then-not-are_paired+in_ok-check_list, else-not-are_paired}
 
 pub returns-in_err-check_list-clause-ends : goal.returns-in_err-check_list-clause-ends
 returns-in_err-check_list-clause-ends c =
@@ -29,73 +21,32 @@ returns-in_err-check_list-in-None-clause-ends c =
     rw (p.1, p.2) (c.in_err-check_list-in-None.ensures.ends mesh table)
 
 -- the pair that stands next in the order is one of them
-below : (count at : ℕ) (order : List Placed) (entry : Placed) → AreAllPairs count order → (l : at < length order)
-    → entry ≡ get_or order at entry → entry.pair < count
-below count at order entry are l is =
-    omega (arith, ap (λ (p : Placed). p.pair) is, entry_within count order at entry are l)
-
-holds_next : {X : Type 0} (Holds : ℕ → X → Type 0) (order : List Placed) (n : ℕ) (xs : List X) (entry : Placed) (x : X)
-    → entry ≡ get_or order n entry → entry.pair < length xs → n < length order → Holds entry.pair x → HoldsUpTo Holds order n xs
-    → HoldsUpTo Holds order (n + 1) (set xs entry.pair x)
-holds_next {X} Holds order n xs entry x is inside few holds before =
-    subst (λ (p : Placed). p.pair < length xs → Holds p.pair x → HoldsUpTo Holds order (n + 1) (set xs p.pair x)) (sym is)
-    (λ b h. holds_more Holds order n xs entry x b few h before) inside holds
+there : (c : After-index) → c.index.result.now.pair < length c.args.walks.now.walks / 2
+there c =
+    pair_within (length c.args.walks.now.walks / 2) c.loop-at.at c.in_ok-order.order.items c.index.result.now c.in_ok-order.ensures.order
+    (omega (arith, c.loop-at-test.true))
+    (get_or_read c.in_ok-order.order.items c.loop-at.at _ (omega (arith, c.loop-at-test.true)) c.index.ensures c.index.result.now)
 
 pub overflow_mul-first : goal.overflow_mul-first
-overflow_mul-first c =
-    omega (
-      arith,
-      below (length c.args.walks.now.walks / 2) c.loop-at.at c.in_ok-order.order.items c.index.result.now c.in_ok-order.ensures.order
-          (omega (arith, c.loop-at-test.true))
-          (get_or_read c.in_ok-order.order.items c.loop-at.at _ (omega (arith, c.loop-at-test.true)) c.index.ensures c.index.result.now),
-      c.in_ok-order.ensures.few,
-    )
+overflow_mul-first c = omega (arith, there (goal.at.overflow_mul-first c).After-index, c.in_ok-order.ensures.few)
 
 pub overflow_mul-second : goal.overflow_mul-second
-overflow_mul-second c =
-    omega (
-      arith,
-      below (length c.args.walks.now.walks / 2) c.loop-at.at c.in_ok-order.order.items c.index.result.now c.in_ok-order.ensures.order
-          (omega (arith, c.loop-at-test.true))
-          (get_or_read c.in_ok-order.order.items c.loop-at.at _ (omega (arith, c.loop-at-test.true)) c.index.ensures c.index.result.now),
-      c.in_ok-order.ensures.few,
-    )
+overflow_mul-second c = omega (arith, there (goal.at.overflow_mul-second c).After-index, c.in_ok-order.ensures.few)
 
 pub overflow_add-second : goal.overflow_add-second
-overflow_add-second c =
-    omega (
-      arith,
-      below (length c.args.walks.now.walks / 2) c.loop-at.at c.in_ok-order.order.items c.index.result.now c.in_ok-order.ensures.order
-          (omega (arith, c.loop-at-test.true))
-          (get_or_read c.in_ok-order.order.items c.loop-at.at _ (omega (arith, c.loop-at-test.true)) c.index.ensures c.index.result.now),
-      c.in_ok-order.ensures.few,
-    )
+overflow_add-second c = omega (arith, there (goal.at.overflow_add-second c).After-index, c.in_ok-order.ensures.few)
 
 pub at-requires : goal.at-requires
-at-requires c =
-    omega (
-      arith,
-      below (length c.args.walks.now.walks / 2) c.loop-at.at c.in_ok-order.order.items c.index.result.now c.in_ok-order.ensures.order
-          (omega (arith, c.loop-at-test.true))
-          (get_or_read c.in_ok-order.order.items c.loop-at.at _ (omega (arith, c.loop-at-test.true)) c.index.ensures c.index.result.now),
-    )
+at-requires c = omega (arith, there (goal.at.at-requires c).After-index)
 
 pub at-requires-in-loop-at : goal.at-requires-in-loop-at
-at-requires-in-loop-at c =
-    omega (
-      arith,
-      below (length c.args.walks.now.walks / 2) c.loop-at.at c.in_ok-order.order.items c.index.result.now c.in_ok-order.ensures.order
-          (omega (arith, c.loop-at-test.true))
-          (get_or_read c.in_ok-order.order.items c.loop-at.at _ (omega (arith, c.loop-at-test.true)) c.index.ensures c.index.result.now),
-    )
+at-requires-in-loop-at c = omega (arith, there (goal.at.at-requires-in-loop-at c).After-index)
 
 pub index_mut-requires : goal.index_mut-requires
 index_mut-requires c =
     omega (
       arith,
-      below (length c.args.walks.now.walks / 2) c.loop-at.at c.in_ok-order.order.items c.index.result.now c.in_ok-order.ensures.order
-          (omega (arith, c.loop-at-test.true))
-          (get_or_read c.in_ok-order.order.items c.loop-at.at _ (omega (arith, c.loop-at-test.true)) c.index.ensures c.index.result.now),
+      there (goal.at.index_mut-requires c).After-index,
       as_many (length c.args.walks.now.walks / 2) c.in_ok-order.order.items c.in_ok-order.ensures.order,
       c.loop-at.invariant.each,
     )
@@ -116,7 +67,7 @@ loop-at-preserved c =
     let inside : pair < length c.loop-at.decisions.items =
     omega (
       arith,
-      below count at order entry c.in_ok-order.ensures.order few is,
+      there (goal.at.loop-at-preserved c).After-index,
       as_many count order c.in_ok-order.ensures.order,
       c.loop-at.invariant.each,
     ) in

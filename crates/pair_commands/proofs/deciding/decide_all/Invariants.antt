@@ -1,6 +1,4 @@
-use Rattle.std.proofs.Common.{◌≡◌, length}
-use Rattle.component_deciding.specs.PairDeciders.{mesh_of}
-use Rattle.component_deciding.proofs.OrderLemmas.{HoldsUpTo}
+use Rattle.pair_commands.proofs.Common.{HoldsUpTo, mesh_of, ◌≡◌, length}
 use Rattle.pair_commands.proofs.PairDecisions.{IsDecidedAt}
 use Rattle.pair_commands.proofs.deciding.decide_all.Given as goal
 

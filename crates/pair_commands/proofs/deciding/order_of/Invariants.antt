@@ -1,4 +1,4 @@
-use Rattle.std.proofs.Common.{◌≡◌, length}
+use Rattle.pair_commands.proofs.Common.{◌≡◌, length}
 use Rattle.pair_commands.proofs.deciding.order_of.Given as goal
 
 abbrev pub invariant-loop-pair : goal.invariant-loop-pair

@@ -1,5 +1,4 @@
-use Rattle.std.proofs.Common.{◌≡◌, ◌++◌, take}
-use Rattle.std.specs.Prelude.{map}
+use Rattle.surface_commands.proofs.Common.{◌≡◌, ◌++◌, take, map}
 use Rattle.surface_commands.specs.Surface.{genus_line}
 use Rattle.surface_commands.proofs.surface.put_genera.Given as goal
 

@@ -1,4 +1,4 @@
-use Rattle.commands.proofs.Running.{tells_no_fault}
+use Rattle.surface_commands.proofs.Common.{tells_no_fault}
 use Rattle.surface_commands.proofs.Surfaces.{few_pass, many_stop}
 use Rattle.surface_commands.specs.SurfaceRefusals.{components_line}
 use Rattle.surface_commands.proofs.surface_input.few_components.Goals as goal

@@ -1,4 +1,4 @@
-use Rattle.commands.proofs.Running.{reads_ended}
+use Rattle.surface_commands.proofs.Common.{reads_ended}
 use Rattle.surface_commands.proofs.Surfaces.{surface_end}
 use Rattle.surface_commands.proofs.surface_input.read_surface.Goals as goal
 

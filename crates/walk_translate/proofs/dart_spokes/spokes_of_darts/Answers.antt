@@ -1,10 +1,4 @@
-use Rattle.std.proofs.Common.{◌≡◌, sym, ◌∙◌, arith}
-use Rattle.surf_model.specs.Edges.{edge_in}
-use Rattle.labellings.specs.QuadPaths.{spokes}
-use Rattle.labellings.specs.Spokes.{spoke_list}
-use Rattle.labellings.proofs.PathLemmas.{listed}
-use Rattle.surf_model.proofs.EdgeLemmas.{edge_swap}
-use Rattle.surf_model.proofs.TableEdgeLemmas.{table_pair}
+use Rattle.walk_translate.proofs.Common.{listed, spokes, spoke_list, ◌≡◌, sym, ◌∙◌, arith, edge_swap, table_pair, edge_in}
 use Rattle.walk_translate.proofs.SpokedLemmas.{spokes_more}
 use Rattle.walk_translate.proofs.dart_spokes.spokes_of_darts.Goals as goal
 

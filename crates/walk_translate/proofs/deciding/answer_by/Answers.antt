@@ -1,8 +1,4 @@
-use Rattle.std.proofs.Common.{◌≡◌, true, false, refl, subst}
-use Rattle.std.specs.Prelude.{◌↔◌}
-use Rattle.surf_model.specs.FaceLists.{FaceList}
-use Rattle.surf_model.specs.Moves.{Homotopic}
-use Rattle.labellings.specs.WalkWords.{IsWordOf}
+use Rattle.walk_translate.proofs.Common.{IsWordOf, ◌≡◌, true, false, refl, subst, ◌↔◌, FaceList, Homotopic}
 use Rattle.walk_translate.specs.SurfaceLabels.{HasSphereSplit, IsLabelledByCut}
 use Rattle.walk_translate.proofs.LabelLemmas.{cut_is_good}
 use Rattle.walk_translate.proofs.DecidingLemmas.{words_decide, sphere_decides, equal_decides, unequal_decides}

@@ -1,5 +1,4 @@
-use Rattle.std.proofs.Common.{◌≡◌, true, get_or, ap, sym, ◌∙◌, arith}
-use Rattle.surf_model.specs.FaceLists.{is_used}
+use Rattle.walk_translate.proofs.Common.{◌≡◌, true, get_or, ap, sym, ◌∙◌, arith, is_used}
 use Rattle.walk_translate.proofs.SpokedLemmas.{told_yes, walk_of_edges}
 use Rattle.walk_translate.proofs.walks.is_walk.Goals as goal
 

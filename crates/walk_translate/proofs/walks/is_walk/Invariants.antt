@@ -1,5 +1,4 @@
-use Rattle.std.proofs.Common.{◌≡◌, ℕ, ◌+◌, ◌<◌, true, get_or}
-use Rattle.surf_model.specs.FaceLists.{is_edge}
+use Rattle.walk_translate.proofs.Common.{◌≡◌, ℕ, ◌+◌, ◌<◌, true, get_or, is_edge}
 use Rattle.walk_translate.proofs.walks.is_walk.Given as goal
 
 -- the darts so far

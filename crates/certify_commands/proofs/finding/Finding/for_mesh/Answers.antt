@@ -1,13 +1,5 @@
-use Rattle.std.proofs.Common.{◌≡◌, ℕ, true, get_or, ap, sym, subst, ◌∙◌}
-use Rattle.std.specs.Prelude.{IfOk}
-use Rattle.surf_model.specs.FaceLists.{FaceList, is_used}
-use Rattle.surf_model.specs.Walks.{IsWalk}
-use Rattle.commands.specs.Certificates.{IsShown}
-use Rattle.closed_surfaces.specs.SignedSurfaces.{IsComponentOf, surface_of}
+use Rattle.certify_commands.proofs.Common.{whole_sphere, IsComponentOf, surface_of, Component, Whole, Alone, IsShown, ◌≡◌, ℕ, true, get_or, ap, sym, subst, ◌∙◌, IfOk, FaceList, is_used, IsWalk}
 use Rattle.certify_commands.specs.Findings.{IsFinding, TellsOfSome}
-use Rattle.closed_surfaces.specs.declared.component.Component.{Component}
-use Rattle.closed_surfaces.specs.declared.component.Component.TheVariants.{Whole, Alone}
-use Rattle.closed_surfaces.proofs.Genera.{whole_sphere}
 use Rattle.certify_commands.proofs.finding.Finding.for_mesh.Goals as goal
 
 pub returns-in-Whole : goal.returns-in-Whole

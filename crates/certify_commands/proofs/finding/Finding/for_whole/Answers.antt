@@ -1,15 +1,7 @@
-use Rattle.std.proofs.Common.{◌≤◌, ℕ, List, length, get_or, sym, subst, arith}
-use Rattle.std.proofs.lemmas.List.{length-map}
-use Rattle.surf_model.specs.Moves.{PeakedMoves}
-use Rattle.surf_model.specs.PeakedLists.{LeadsAtPeak}
-use Rattle.surf_model.specs.ComponentParts.{component_at}
-use Rattle.surf_model.specs.Submeshes.{renamed_move, renamed_moves}
+use Rattle.certify_commands.proofs.Common.{part_sphere, MOST_SHOWN_PEAK, MOST_SPHERE_MOVES, ◌≤◌, ℕ, List, length, get_or, sym, subst, arith, length-map, component_at, LiesOnSphere, PeakedMoves, LeadsAtPeak, renamed_move, renamed_moves}
 use Rattle.certify_commands.specs.Findings.{IsFinding, TellsOfSome}
-use Rattle.surf_model.specs.Genera.{LiesOnSphere}
-use Rattle.commands.specs.declared.certificate.TheConstants.{MOST_SHOWN_PEAK, MOST_SPHERE_MOVES}
 use Rattle.certify_commands.specs.declared.finding.Finding.TheVariants.{Moves, Words}
 use Rattle.certify_commands.proofs.FoundLemmas.{good_there, names_of_moves, renamed_leads, signs_there, widened_holds}
-use Rattle.closed_surfaces.proofs.Genera.{part_sphere}
 use Rattle.certify_commands.proofs.finding.Finding.for_whole.Goals as goal
 
 pub rename-requires-clause-place : goal.rename-requires-clause-place

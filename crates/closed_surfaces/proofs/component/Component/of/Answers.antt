@@ -1,6 +1,5 @@
-use Rattle.std.proofs.Common.{arith}
+use Rattle.closed_surfaces.proofs.Common.{one_component, arith}
 use Rattle.surf_model.proofs.EdgeLemmas.{used_below}
-use Rattle.manifold_check.proofs.PartPieces.{one_component}
 use Rattle.closed_surfaces.proofs.component.Component.of.Goals as goal
 
 pub connected-requires-clause-joined : goal.connected-requires-clause-joined

@@ -1,6 +1,4 @@
-use Rattle.std.proofs.Common.{◌≡◌, ℕ, true, sym, subst}
-use Rattle.std.specs.Prelude.{IfOk}
-use Rattle.surf_model.specs.FaceLists.{is_used}
+use Rattle.closed_surfaces.proofs.Common.{◌≡◌, ℕ, true, sym, subst, IfOk, is_used}
 use Rattle.closed_surfaces.specs.SignedSurfaces.{IsComponentOf}
 use Rattle.closed_surfaces.proofs.component.Component.of_walk.Goals as goal
 

@@ -1,6 +1,5 @@
-use Rattle.std.proofs.Common.{rules}
+use Rattle.closed_surfaces.proofs.Common.{rules, IsClosedManifold, IsOrientable}
 use Rattle.surf_model.specs.OddChains.{IsOddChain}
-use Rattle.surf_model.specs.Surfaces.{IsClosedManifold, IsOrientable}
 use Rattle.closed_surfaces.proofs.signed_mesh.SignedMesh.of.Goals as goal
 
 pub returns-in-Err-NotOrientable-clause-none : goal.returns-in-Err-NotOrientable-clause-none

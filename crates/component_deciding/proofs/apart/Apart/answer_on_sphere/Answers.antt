@@ -1,5 +1,4 @@
-use Rattle.std.proofs.Common.{refl}
-use Rattle.surf_model.specs.Walks.{AreWalkPair}
+use Rattle.component_deciding.proofs.Common.{refl, AreWalkPair}
 use Rattle.component_deciding.proofs.SphereLemmas.{homotopic_on_sphere}
 use Rattle.component_deciding.proofs.apart.Apart.answer_on_sphere.Goals as goal
 

@@ -1,5 +1,5 @@
-use Rattle.std.proofs.Common.{◌≡◌, ℕ, get_or, sym, ◌∙◌, eqb-true, eq-eqb, arith}
-use Rattle.std.proofs.lemmas.List.{get_or_read}
+use Rattle.component_deciding.proofs.Common.{◌≡◌, get_or, sym, ◌∙◌, arith, get_or_read}
+use Rattle.std.proofs.Common.{eqb-true, eq-eqb}
 use Rattle.component_deciding.proofs.SphereLemmas.{genus_there, told_as_sphere}
 use Rattle.component_deciding.proofs.apart.Apart.is_sphere.Goals as goal
 

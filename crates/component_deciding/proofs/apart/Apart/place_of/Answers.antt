@@ -1,6 +1,4 @@
-use Rattle.std.proofs.Common.{◌≡◌, true, sym, arith}
-use Rattle.surf_model.specs.FaceLists.{is_used}
-use Rattle.surf_model.proofs.EdgeLemmas.{used_below}
+use Rattle.component_deciding.proofs.Common.{◌≡◌, true, sym, arith, used_below, is_used}
 use Rattle.component_deciding.proofs.apart.Apart.place_of.Goals as goal
 
 pub part_of-requires : goal.part_of-requires

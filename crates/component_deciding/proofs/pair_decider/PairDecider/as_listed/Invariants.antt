@@ -1,5 +1,4 @@
-use Rattle.std.proofs.Common.{◌≡◌}
-use Rattle.std.specs.List.{range_with_len}
+use Rattle.component_deciding.proofs.Common.{◌≡◌, range_with_len}
 use Rattle.component_deciding.proofs.OrderLemmas.{pairs_of}
 use Rattle.component_deciding.proofs.pair_decider.PairDecider.as_listed.Given as goal
 

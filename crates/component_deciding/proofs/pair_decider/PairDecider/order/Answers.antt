@@ -1,4 +1,4 @@
-use Rattle.std.proofs.lemmas.List.Sorted.{IsPermutation-map, IsPermutation-trans}
+use Rattle.component_deciding.proofs.Common.{IsPermutation-map, IsPermutation-trans}
 use Rattle.component_deciding.specs.declared.order.Placed.{Placed}
 use Rattle.component_deciding.proofs.pair_decider.PairDecider.order.Goals as goal
 

@@ -1,8 +1,4 @@
-use Rattle.std.proofs.Common.{◌≡◌, ◌<◌, ℕ, true, length, get_or, sym, ap, ◌∙◌, subst, arith}
-use Rattle.std.proofs.lemmas.Bool.{both_ways}
-use Rattle.std.proofs.lemmas.Result.{IfOk-weaker}
-use Rattle.surf_model.specs.FaceLists.{FaceList, is_used}
-use Rattle.surf_model.specs.Walks.{AreWalkPair}
+use Rattle.component_deciding.proofs.Common.{◌≡◌, ◌<◌, ℕ, true, length, get_or, sym, ap, ◌∙◌, subst, arith, both_ways, IfOk-weaker, FaceList, is_used, AreWalkPair}
 use Rattle.component_deciding.specs.OwnVertices.{IsApart}
 use Rattle.component_deciding.specs.PairDeciders.{IsFoundOn}
 use Rattle.component_deciding.proofs.OwnSurfaces.{found_on}

@@ -1,4 +1,4 @@
-use Rattle.std.proofs.Common.{refl, sym}
+use Rattle.walk_translate.proofs.Common.{refl, sym}
 use Rattle.walk_translate.proofs.SpokedLemmas.{joined}
 use Rattle.walk_translate.proofs.dart_spokes.DartSpokes.edge_between.Goals as goal
 

@@ -1,6 +1,4 @@
-use Rattle.std.proofs.Common.{◌≡◌, ◌∙◌, sym}
-use Rattle.labellings.specs.GoodLabellings.{IsGood}
-use Rattle.labellings.proofs.WalkWordLemmas.{flat_wheel_of_good}
+use Rattle.walk_translate.proofs.Common.{flat_wheel_of_good, IsGood, ◌≡◌, ◌∙◌, sym}
 use Rattle.walk_translate.proofs.LabelLemmas.{cut_is_good}
 use Rattle.walk_translate.proofs.SpokedLemmas.{five_then, points_decide, states_decide}
 use Rattle.walk_translate.proofs.spoked.Spoked.answer.Goals as goal

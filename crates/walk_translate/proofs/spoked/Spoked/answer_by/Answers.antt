@@ -1,7 +1,4 @@
-use Rattle.std.proofs.Common.{◌≡◌, ℕ, true, false, List, refl, ap, sym, ◌∙◌, subst, arith}
-use Rattle.surf_model.specs.Walks.{AreWalkPair}
-use Rattle.turn_words.specs.FormLaws.{led}
-use Rattle.labellings.specs.QuadPaths.{quad_path}
+use Rattle.walk_translate.proofs.Common.{quad_path, ◌≡◌, ℕ, true, false, List, refl, ap, sym, ◌∙◌, subst, arith, AreWalkPair, led}
 use Rattle.walk_translate.proofs.DecidingLemmas.{equal_decides, unequal_decides}
 use Rattle.walk_translate.proofs.spoked.Spoked.answer_by.Goals.{After-same}
 use Rattle.walk_translate.proofs.spoked.Spoked.answer_by.Goals as goal

@@ -1,12 +1,4 @@
-use Rattle.std.proofs.Common.{◌≡◌, ℕ, suc, ◌+◌, ◌<◌, ◌≤◌, inl, inr, true, List, ◌++◌, length, get_or, take, ap, sym, ◌∙◌, subst, arith}
-use Rattle.std.proofs.lemmas.List.{take_all}
-use Rattle.surf_model.specs.FaceLists.{is_edge, is_used}
-use Rattle.surf_model.specs.Edges.{IsTableOf}
-use Rattle.turn_words.specs.FormLaws.{led}
-use Rattle.labellings.specs.QuadPaths.{spokes, quad_path}
-use Rattle.labellings.specs.Spokes.{spoke_list}
-use Rattle.labellings.specs.GoodLabellings.{IsGood}
-use Rattle.labellings.proofs.PathLemmas.{path-next}
+use Rattle.walk_translate.proofs.Common.{path-next, IsGood, spokes, quad_path, spoke_list, ◌≡◌, ℕ, suc, ◌+◌, ◌<◌, ◌≤◌, inl, inr, true, List, ◌++◌, length, get_or, take, ap, sym, ◌∙◌, subst, arith, take_all, IsTableOf, is_edge, is_used, led}
 use Rattle.walk_translate.proofs.LabelLemmas.{cut_is_good}
 use Rattle.walk_translate.proofs.SpokedLemmas.{before_or_last, kept_spokes, led_on, no_walk, spokes_below, told_no, told_yes, walk_of_edges}
 use Rattle.walk_translate.proofs.spoked.Spoked.fold.Goals.{After-along}

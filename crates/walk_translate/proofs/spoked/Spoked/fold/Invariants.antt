@@ -1,7 +1,4 @@
-use Rattle.std.proofs.Common.{◌≡◌, ℕ, suc, ◌+◌, ◌*◌, ◌<◌, ◌≤◌, true, get_or, take}
-use Rattle.surf_model.specs.FaceLists.{is_edge}
-use Rattle.turn_words.specs.FormLaws.{led}
-use Rattle.labellings.specs.QuadPaths.{quad_path}
+use Rattle.walk_translate.proofs.Common.{quad_path, ◌≡◌, ℕ, suc, ◌+◌, ◌*◌, ◌<◌, ◌≤◌, true, get_or, take, is_edge, led}
 use Rattle.walk_translate.proofs.spoked.Spoked.fold.Given as goal
 
 -- the darts so far

@@ -1,12 +1,9 @@
-use Rattle.std.proofs.Common.{refl, ap, ◌∙◌}
+use Rattle.surface_commands.proofs.Common.{err_no_fault, memory_no_fault, runs_faulty, runs_replied, yes_with, OutOfMemory, refl, ap, ◌∙◌}
 use Rattle.std.proofs.lemmas.Result.{err_from_is_err_and}
-use Rattle.commands.specs.Answers.{yes_with}
 use Rattle.surface_commands.specs.Surface as of_surface
 use Rattle.surface_commands.specs.Surface.{numbers_text}
-use Rattle.commands.specs.declared.stop.Stop.TheVariants.{OutOfMemory}
 use Rattle.surface_commands.proofs.Measuring.{few_stop, numbers_pass}
-use Rattle.commands.proofs.Running.{err_no_fault, memory_no_fault, runs_faulty, runs_replied}
-use Rattle.surface_commands.proofs.surface.measure.Goals as goal
+use Rattle.surface_commands.proofs.surface.answer_surface.Goals as goal
 
 pub returns-in_err-parts : goal.returns-in_err-parts
 returns-in_err-parts g c =

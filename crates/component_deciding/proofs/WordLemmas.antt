@@ -1,0 +1,206 @@
+-- What words of walks decide, on a connected surface and among several components.
+use Rattle.component_deciding.proofs.Common.{OrientedMesh, IsOrientedSurface, IsWordOf, ◌≡◌, ◌≢◌, ◌↔◌, inl, inr, false, ℕ, zero, suc, ◌<◌, eqb, List, [], ◌∷◌, ◌++◌, length, get_or, set, get_or-set_same, get_or-set_other, sym, ap, ◌∙◌, refl, subst, length-set, both_ways, cases_Bool, eq-eqb, eqb-true, IfSome, MatchOption, None, Option, Some, is_some, component_mesh, FaceList, HasGenus, Homotopic, IsWalk, AreWalkPair, Turns, words_decide, HasSphereSplit, IsLabelledByCut}
+use Rattle.labellings.specs.Labellings.{LabellingView}
+use Rattle.polygon_cut.proofs.SphereLemmas.{all_homotopic}
+use Rattle.turn_words.specs.declared.word.Word.{Word}
+use Rattle.component_deciding.specs.ComponentWords.{AreLabelledApart, DoDecide, IsLabelledMore, IsLabelledSurface, IsOwnLabelled, IsWordAmong, IsWordAt, IsWordFound, IsWordUnder, LabelledView, SeveralView, labelled_at}
+use Rattle.component_deciding.specs.OwnVertices.{IsApart, IsOwnWalk, own_mesh, own_walk}
+use Rattle.component_deciding.specs.declared.apart.Apart.{Apart}
+use Rattle.component_deciding.proofs.ComponentLemmas.{IsNumbered}
+use Rattle.component_deciding.proofs.OwnSurfaces.{own_homotopic, own_walks, walk_back}
+use Rattle.component_deciding.proofs.SphereLemmas.{homotopic_on_sphere}
+
+-- ---- a connected surface
+
+labels_decide : (surface : OrientedMesh) (labels : Option LabellingView) (first second : List ℕ) (one other : Word)
+    → IsOrientedSurface surface → MatchOption labels (HasSphereSplit surface) (IsLabelledByCut surface)
+    → AreWalkPair surface.mesh first second → MatchOption labels (one ≡ Turns []) (λ labelling. IsWordOf surface.mesh labelling first one)
+    → MatchOption labels (other ≡ Turns []) (λ labelling. IsWordOf surface.mesh labelling second other)
+    → Homotopic surface.mesh first second ↔ (one ≡ other)
+labels_decide surface None first second one other o sphere walks here there = (
+  λ _. here ∙ sym there,
+  λ _. all_homotopic surface sphere.split first second o sphere.is_split sphere.none walks.first_walk walks.second_walk walks.ends,
+)
+labels_decide surface (Some labelling) first second one other o cut walks here there =
+    words_decide surface labelling first second one other o cut walks.first_walk walks.second_walk walks.ends here there
+
+pub under_decide : (labelled : LabelledView) → IsLabelledSurface labelled → DoDecide labelled.surface.mesh (IsWordUnder labelled)
+under_decide labelled h = λ first second one other walks here there.
+    labels_decide labelled.surface labelled.labels first second one other h.oriented h.labels walks here there
+
+-- ---- several components
+
+numbered : (apart : Apart) (k : ℕ) → IsApart apart → k < length apart.parts.components
+    → IsNumbered apart.mesh.faces apart.parts apart.own k
+numbered apart k is l = record { parts_are = is.parts; numbers_are = is.own; within = l }
+
+at_decide : (apart : Apart) (k : ℕ) (found : Option LabelledView) (first second : List ℕ) (one other : Word) → IsApart apart
+    → k < length apart.parts.components
+    → IfSome found (IsOwnLabelled apart k) → AreWalkPair apart.mesh.faces first second → get_or apart.parts.places (get_or first 0 0) 0 ≡ k
+    → MatchOption found (HasGenus (component_mesh apart.mesh.faces apart.parts k) 0 × (one ≡ Turns []))
+    (λ labelled. IsWordUnder labelled (own_walk (component_mesh apart.mesh.faces apart.parts k) first) one)
+    → MatchOption found (HasGenus (component_mesh apart.mesh.faces apart.parts k) 0 × (other ≡ Turns []))
+    (λ labelled. IsWordUnder labelled (own_walk (component_mesh apart.mesh.faces apart.parts k) second) other)
+    → Homotopic apart.mesh.faces first second ↔ (one ≡ other)
+at_decide apart k None first second one other is l none walks at here there =
+    ((λ _. here.1 ∙ sym there.1), (λ _. homotopic_on_sphere apart k first second is l here.0 at walks))
+at_decide apart k (Some labelled) first second one other is l h walks at here there =
+    let mesh : FaceList = apart.mesh.faces in
+    let alone : FaceList = component_mesh mesh apart.parts k in
+    let own : IsNumbered mesh apart.parts apart.own k = numbered apart k is l in
+    let alike = own_homotopic mesh apart.parts apart.own k first second own walks at in
+    let pair : AreWalkPair labelled.surface.mesh (own_walk alone first) (own_walk alone second) =
+    subst (λ (m : FaceList). AreWalkPair m (own_walk alone first) (own_walk alone second)) (sym h.mesh)
+    (own_walks mesh apart.parts apart.own k first second own walks at) in
+    let told : Homotopic (own_mesh alone) (own_walk alone first) (own_walk alone second) ↔ (one ≡ other) =
+    subst (λ (m : FaceList). Homotopic m (own_walk alone first) (own_walk alone second) ↔ (one ≡ other)) h.mesh
+    (under_decide labelled h.labels (own_walk alone first) (own_walk alone second) one other pair here there) in
+    ((λ leads. told.0 (alike.0 leads)), (λ e. alike.1 (told.1 e)))
+
+pub among_decide : (several : SeveralView) → AreLabelledApart several → DoDecide several.apart.mesh.faces (IsWordAmong several)
+among_decide several h = λ first second one other walks here there.
+    let apart : Apart = several.apart in
+    let k : ℕ = get_or apart.parts.places (get_or first 0 0) 0 in
+    let within : k < length apart.parts.components =
+    h.apart.parts.places.below (get_or first 0 0) (walks.first_walk.used 0 0 walks.first_walk.starts) in
+    let same : get_or apart.parts.places (get_or second 0 0) 0 ≡ k =
+    ap (λ (v : ℕ). get_or apart.parts.places v 0) (sym walks.ends.starts) in
+    at_decide apart k (labelled_at several k) first second one other h.apart within (h.labelled k within) walks refl here
+    (subst (λ (p : ℕ). IsWordAt several p second other) same there)
+
+-- ---- one component more is labelled
+
+-- the word of a walk in a component with these labels, or with none
+abbrev HasWord : Apart → Option LabelledView → ℕ → List ℕ → Word → Type 0
+HasWord apart found k walk word =
+    MatchOption found (HasGenus (component_mesh apart.mesh.faces apart.parts k) 0 × (word ≡ Turns []))
+    (λ labelled. IsWordUnder labelled (own_walk (component_mesh apart.mesh.faces apart.parts k) walk) word)
+
+-- no walk of a component without labels has a word, unless it is a sphere
+word_stays : (apart : Apart) (k : ℕ) (before after : Option LabelledView) (walk : List ℕ) (word : Word)
+    → (HasGenus (component_mesh apart.mesh.faces apart.parts k) 0 → ⊥)
+    → ((labelled : LabelledView) → before ≡ Some labelled → after ≡ Some labelled)
+    → HasWord apart before k walk word → HasWord apart after k walk word
+word_stays apart k None after walk word not stay is = absurd (not is.0)
+word_stays apart k (Some labelled) after walk word not stay is =
+    subst (λ (o : Option LabelledView). HasWord apart o k walk word) (sym (stay labelled refl)) is
+
+-- so words stay where one component more is labelled
+pub words_stay : (several next : SeveralView) (place : ℕ) (walk : List ℕ) (word : Word) → IsLabelledMore place several next
+    → (HasGenus (component_mesh several.apart.mesh.faces several.apart.parts place) 0 → ⊥) → IsWordAmong several walk word
+    → IsWordAmong next walk word
+words_stay several next place walk word more not is =
+    let apart : Apart = several.apart in
+    let v : ℕ = get_or walk 0 0 in
+    let k : ℕ = get_or apart.parts.places v 0 in
+    let there : HasWord apart (labelled_at next k) k walk word = elim (cases_Bool (eqb k place)) [
+      | inl same ↦
+          (let here : place ≡ k = sym (eqb-true k place same) in
+          word_stays apart k (labelled_at several k) (labelled_at next k) walk word
+          (subst (λ (p : ℕ). HasGenus (component_mesh apart.mesh.faces apart.parts p) 0 → ⊥) here not)
+          (subst (λ (p : ℕ). (labelled : LabelledView) → labelled_at several p ≡ Some labelled → labelled_at next p ≡ Some labelled) here
+          more.stay) is)
+      | inr differ ↦
+          subst (λ (o : Option LabelledView). HasWord apart o k walk word)
+          (sym (more.others k (λ e. both_ways (eqb k place) differ (eq-eqb k place e)))) is
+    ] in
+    subst (λ (a : Apart). HasWord a (labelled_at next (get_or a.parts.places v 0)) (get_or a.parts.places v 0) walk word)
+    (sym more.same) there
+
+-- the labels of a component are those of its own mesh
+own_labels : (several : SeveralView) (k : ℕ) (labelled : LabelledView) → AreLabelledApart several
+    → k < length several.apart.parts.components → labelled_at several k ≡ Some labelled → IsOwnLabelled several.apart k labelled
+own_labels several k labelled is l there =
+    subst (λ (o : Option LabelledView). IfSome o (IsOwnLabelled several.apart k)) there (is.labelled k l)
+
+-- on a sphere the word of no turns is that of a walk
+on_sphere : (apart : Apart) (k : ℕ) (found : Option LabelledView) (walk : List ℕ) (word : Word) → IfSome found (IsOwnLabelled apart k)
+    → HasGenus (component_mesh apart.mesh.faces apart.parts k) 0 → word ≡ Turns [] → HasWord apart found k walk word
+on_sphere apart k None walk word none sphere e = (sphere, e)
+on_sphere apart k (Some labelled) walk word h sphere e = absurd (h.no_sphere sphere)
+
+pub sphere_found : (several : SeveralView) (k : ℕ) (walk : List ℕ) (found : Option Word) → AreLabelledApart several
+    → k < length several.apart.parts.components → get_or several.apart.parts.places (get_or walk 0 0) 0 ≡ k
+    → HasGenus (component_mesh several.apart.mesh.faces several.apart.parts k) 0
+    → MatchOption found (IsWalk several.apart.mesh.faces walk → ⊥) (λ word. IsWalk several.apart.mesh.faces walk × (word ≡ Turns []))
+    → IsWordFound several.apart.mesh.faces (IsWordAmong several) walk found
+sphere_found several k walk None is l at sphere none = none
+sphere_found several k walk (Some word) is l at sphere told = (
+  told.0,
+  subst (λ (p : ℕ). IsWordAt several p walk word) (sym at)
+      (on_sphere several.apart k (labelled_at several k) walk word (is.labelled k l) sphere told.1),
+)
+
+-- what is found of a walk over its own vertices is found of it
+pub word_found : (several : SeveralView) (k : ℕ) (labelled : LabelledView) (walk own : List ℕ) (found : Option Word)
+    → AreLabelledApart several → k < length several.apart.parts.components
+    → get_or several.apart.parts.places (get_or walk 0 0) 0 ≡ k → IsOwnWalk several.apart k walk own
+    → labelled_at several k ≡ Some labelled → IsWordFound labelled.surface.mesh (IsWordUnder labelled) own found
+    → IsWordFound several.apart.mesh.faces (IsWordAmong several) walk found
+word_found several k labelled walk own None is l at here there none = λ w.
+    let apart : Apart = several.apart in
+    let mesh : FaceList = apart.mesh.faces in
+    let e : labelled.surface.mesh ≡ own_mesh (component_mesh mesh apart.parts k) = (own_labels several k labelled is l there).mesh in
+    let pair : AreWalkPair mesh walk walk =
+    record { first_walk = w; second_walk = w; ends = record { starts = refl; ends = refl } } in
+    none (subst (λ (m : FaceList). IsWalk m own) (sym e)
+    (subst (IsWalk (own_mesh (component_mesh mesh apart.parts k))) (sym here.by_number)
+    (own_walks mesh apart.parts apart.own k walk walk (numbered apart k is.apart l) pair at).first_walk))
+word_found several k labelled walk own (Some word) is l at here there found =
+    let apart : Apart = several.apart in
+    let mesh : FaceList = apart.mesh.faces in
+    let alone : FaceList = component_mesh mesh apart.parts k in
+    let e : labelled.surface.mesh ≡ own_mesh alone = (own_labels several k labelled is l there).mesh in
+    let home : IsWalk (own_mesh alone) (own_walk alone walk) =
+    subst (IsWalk (own_mesh alone)) here.by_number (subst (λ (m : FaceList). IsWalk m own) e found.0) in
+    let under : IsWordUnder labelled (own_walk alone walk) word =
+    subst (λ (w : List ℕ). IsWordUnder labelled w word) here.by_number found.1 in (
+      walk_back mesh apart.parts apart.own k walk (numbered apart k is.apart l) here.there home,
+      subst (λ (p : ℕ). IsWordAt several p walk word) (sym at)
+          (subst (λ (o : Option LabelledView). MatchOption o (HasGenus alone 0 × (word ≡ Turns []))
+          (λ labels. IsWordUnder labels (own_walk alone walk) word)) (sym there) under),
+    )
+
+-- ---- lists of labels
+
+-- nothing is labelled, and one component more is not
+pub none_more : {X : Type 0} (xs : List (Option X)) → ((k : ℕ) → get_or xs k None ≡ None) → (k : ℕ) → get_or (xs ++ None ∷ []) k None ≡ None
+none_more {X} [] none zero = refl
+none_more {X} [] none (suc k) = refl
+none_more {X} (x ∷ xs) none zero = none zero
+none_more {X} (x ∷ xs) none (suc k) = none_more xs (λ j. none (suc j)) k
+
+-- the component at a place has labels now, which had none
+pub labelled_more : (apart : Apart) (labelled : List (Option LabelledView)) (place : ℕ) (one : LabelledView)
+    → AreLabelledApart (record { apart = apart; labelled = labelled }) → place < length apart.parts.components
+    → get_or labelled place None ≡ None → IsOwnLabelled apart place one
+    → IsLabelledMore place (record { apart = apart; labelled = labelled })
+    (record { apart = apart; labelled = set labelled place (Some one) })
+labelled_more apart labelled place one is l none own =
+    let next : List (Option LabelledView) = set labelled place (Some one) in
+    let inside : place < length labelled = subst (λ (n : ℕ). place < n) (sym is.each) l in
+    let here : get_or next place None ≡ Some one = get_or-set_same labelled place (Some one) None inside in
+    let others : (k : ℕ) → k ≢ place → get_or next k None ≡ get_or labelled k None =
+    λ k differ. get_or-set_other labelled place k (Some one) None differ in
+    record {
+      labelled = record {
+        apart = is.apart;
+        each = length-set labelled place (Some one) ∙ is.each;
+        labelled = λ k few. elim (cases_Bool (eqb k place)) [
+          | inl same ↦
+              (let at : k ≡ place = eqb-true k place same in
+              subst (λ (p : ℕ). IfSome (get_or next p None) (IsOwnLabelled apart p)) (sym at)
+              (subst (λ (o : Option LabelledView). IfSome o (IsOwnLabelled apart place)) (sym here) own))
+          | inr differ ↦
+              subst (λ (o : Option LabelledView). IfSome o (IsOwnLabelled apart k))
+              (sym (others k (λ e. both_ways (eqb k place) differ (eq-eqb k place e)))) (is.labelled k few)
+        ];
+      };
+      same = refl;
+      stay = λ labels e. absurd (let wrong : None ≡ Some labels = sym none ∙ e in cc);
+      others = others;
+    }
+
+pub not_there : {X : Type 0} (x : Option X) → false ≡ is_some x → x ≡ None
+not_there {X} None e = refl
+not_there {X} (Some y) e = absurd cc

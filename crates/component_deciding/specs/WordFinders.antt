@@ -1,0 +1,17 @@
+-- A surface of which the words of walks are asked.
+use Rattle.std.specs.Prelude.{ℕ, List}
+use Rattle.surf_model.specs.FaceLists.{FaceList}
+use Rattle.turn_words.specs.declared.word.Word.{Word}
+use Rattle.component_deciding.specs.ComponentWords.{IsWordUnder, IsWordAmong}
+use Rattle.component_deciding.specs.declared.word_finder.WordFinder.{WordFinder}
+use Rattle.component_deciding.specs.declared.word_finder.WordFinder.TheVariants.{Whole, Several}
+
+-- its mesh
+abbrev pub mesh_of_finder : WordFinder → FaceList
+mesh_of_finder (Whole labelled) = labelled.surface.mesh
+mesh_of_finder (Several several) = several.apart.mesh.faces
+
+-- the word of a walk there
+abbrev pub IsWordIn : WordFinder → List ℕ → Word → Type 0
+IsWordIn (Whole labelled) walk word = IsWordUnder labelled walk word
+IsWordIn (Several several) walk word = IsWordAmong several walk word

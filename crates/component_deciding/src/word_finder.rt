@@ -1,0 +1,68 @@
+//! The words of the walks of a surface, of which two with common ends are one exactly where the walks are homotopic.
+ghost use Rattle.std.specs.Prelude.{◌≡◌, ℕ, List, IfOk};
+ghost use Rattle.closed_surfaces.specs.SignedSurfaces.{IsSigned};
+ghost use Rattle.component_deciding.specs.ComponentWords.{DoDecide, IsWordFound};
+ghost use Rattle.component_deciding.specs.WordFinders.{IsWordIn, mesh_of_finder};
+ghost use Rattle.surf_model.specs.Edges.{IsTableOf};
+ghost use Rattle.turn_words.specs.declared.word.Word.{Word};
+
+use crate::labelled::Labelled;
+use crate::several_words::SeveralWords;
+use closed_surfaces::{SignedMesh, connected};
+use manifold_check::Parts;
+use std::alloc::{AllocError, Global};
+use surf_model::{Sides, Walk};
+use turn_words::Word;
+
+/// A surface of which the words of walks may be asked, each under the labels of its component. Contracts see its mesh, and which words
+/// its walks have.
+#[derive(Drop)]
+pub enum WordFinder {
+    /// A connected surface with its labels.
+    Whole(Labelled),
+    /// Several components, each of which is labelled where it is asked about.
+    Several(SeveralWords),
+}
+
+impl WordFinder {
+    /// The surface that a mesh is, of which walks of so many darts are to be asked. Where there is one component alone, it is labelled, and
+    /// no face is copied; of several, each that is no sphere is labelled where the first walk lies in it, and keeps its labels.
+    pub fn of(alloc: Global, mesh: SignedMesh, darts: u64) -> Result<WordFinder, AllocError>
+        requires { IsSigned mesh }
+        ensures { IfOk result (λ finder. mesh_of_finder finder ≡ mesh.faces) }
+    {
+        let parts = Parts::build(alloc, &mesh.faces, &mesh.sides)?;
+        if parts.len() == 1 {
+            // Its memory is for the surface.
+            drop(parts);
+            let keeps_spokes = darts >= u64::from(mesh.sides.len());
+            let surface = connected(alloc, mesh)?;
+            return Ok(WordFinder::Whole(Labelled::of(alloc, surface, keeps_spokes)?));
+        }
+        Ok(WordFinder::Several(SeveralWords::of(alloc, mesh, parts, darts)?))
+    }
+
+    /// The edge table of the surface.
+    pub fn sides(&self) -> &Sides
+        ensures table { IsTableOf (mesh_of_finder self.now) result.now }
+        // What holds of the words that every finder gives.
+        ensures decide { DoDecide (mesh_of_finder self.now) (IsWordIn self.now) }
+    {
+        match self {
+            WordFinder::Whole(labelled) => labelled.sides(),
+            WordFinder::Several(several) => several.sides(),
+        }
+    }
+
+    /// The word of a walk, or none where this is no walk of the surface. Words that were given before stay those of their walks.
+    pub fn word_if_walk(&mut self, walk: &Walk) -> Result<Option<Word>, AllocError>
+        ensures same { mesh_of_finder self.new ≡ mesh_of_finder self.old }
+        ensures kept { (other : List ℕ) (word : Word) → IsWordIn self.old other word → IsWordIn self.new other word }
+        ensures word { IfOk result (IsWordFound (mesh_of_finder self.old) (IsWordIn self.new) walk.now) }
+    {
+        match self {
+            WordFinder::Whole(labelled) => labelled.word_if_walk(walk),
+            WordFinder::Several(several) => several.word_if_walk(walk),
+        }
+    }
+}

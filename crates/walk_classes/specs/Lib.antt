@@ -1,0 +1,4 @@
+pub mod WalkClasses
+pub mod Keys
+pub mod Faults
+pub mod WalkKeys
