@@ -1,6 +1,7 @@
 /* Times of calls: on a tetrahedron; on a torus of 1000 times 1000 squares, of 4,000,000 sides, with one pair and with 100,000 pairs of
  * walks of 20 darts each pair; on 50,000 tetrahedra apart, with one pair and with a pair in each, in order and mixed; and on two tori of
- * 100 times 100 squares, with one pair and with 10,000 that alternate between them. Prints seconds of the processor, the least of some runs. */
+ * 100 times 100 squares, with one pair and with 10,000 that alternate between them. The torus and the two are kept, too, and asked about
+ * one pair after another, and about the classes of all walks. Prints seconds of the processor, the least of some runs. */
 #include <homotopy.h>
 #include <stdio.h>
 #include <stdlib.h>
@@ -10,6 +11,7 @@ enum { GRID = 1000, FACES = GRID * GRID, PAIRS = 100000, DARTS = 10, PIECES = 50
 
 static uint32_t sizes[FACES], corners[4 * FACES], walk_sizes[2 * PAIRS], walk_vertices[2 * PAIRS * (DARTS + 1)];
 static uint8_t answers[PAIRS];
+static size_t classes[2 * PAIRS];
 
 static uint32_t at(int x, int y) { return (uint32_t)(GRID * (y % GRID) + x % GRID); }
 
@@ -60,6 +62,32 @@ static double asked(uint32_t vertices, size_t faces, size_t sides, size_t pairs,
     return least;
 }
 
+/* Prints the seconds for keeping a mesh in the arrays, for its pairs one after another, and for the classes of all their walks. */
+static void kept(const char *what, uint32_t vertices, size_t faces, size_t sides, size_t pairs) {
+    homotopy_mesh mesh = HOMOTOPY_EMPTY_MESH;
+    homotopy_outcome outcome;
+    double began = seconds();
+    homotopy_mesh_new(vertices, sizes, faces, corners, sides, &mesh, &outcome);
+    if (outcome.code != HOMOTOPY_DONE) exit(1);
+    const double made = seconds() - began;
+    const uint32_t *walks = walk_vertices;
+    began = seconds();
+    for (size_t k = 0; k < pairs; k++) {
+        const size_t entries = walk_sizes[2 * k] + walk_sizes[2 * k + 1];
+        homotopy_mesh_decide(&mesh, walk_sizes + 2 * k, 2, walks, entries, answers, 1, &outcome);
+        if (outcome.code != HOMOTOPY_DONE || answers[0] != HOMOTOPY_HOMOTOPIC) exit(1);
+        walks += entries;
+    }
+    printf("%s, kept: %.3f seconds; %zu pairs, one after another: %.3f", what, made, pairs, seconds() - began);
+    began = seconds();
+    homotopy_mesh_classes(&mesh, walk_sizes, 2 * pairs, walk_vertices, (size_t)(walks - walk_vertices), classes, 2 * pairs, &outcome);
+    if (outcome.code != HOMOTOPY_DONE) exit(1);
+    for (size_t k = 0; k < pairs; k++)
+        if (classes[2 * k] != classes[2 * k + 1]) exit(1);
+    printf("; the classes of their walks: %.3f\n", seconds() - began);
+    homotopy_mesh_free(&mesh);
+}
+
 /* For each piece by its turn a walk along two sides of its first face, and one along the third. */
 static void put_pieces(const uint32_t *turns) {
     for (size_t k = 0; k < PIECES; k++) {
@@ -106,6 +134,7 @@ static void two_tori(int runs) {
     const uint32_t faces = 2 * SMALL * SMALL;
     printf("two tori and a pair: %.3f seconds; 10,000 pairs that alternate: %.3f\n", asked(faces, faces, 4 * faces, 1, runs),
            asked(faces, faces, 4 * faces, ALTERNATING, runs));
+    kept("two tori", faces, faces, 4 * faces, ALTERNATING);
 }
 
 int main(int count, char **words) {
@@ -142,6 +171,7 @@ int main(int count, char **words) {
     }
     printf("4,000,000 sides and a pair: %.3f seconds\n", one);
     printf("4,000,000 sides and 100,000 pairs: %.3f seconds more\n", many - one);
+    kept("4,000,000 sides", FACES, FACES, 4 * FACES, PAIRS);
     tetrahedra(runs);
     two_tori(runs);
     return 0;

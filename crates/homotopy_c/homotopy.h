@@ -18,10 +18,10 @@
  * behind the array's end. malloc, realloc and free are of one allocator. No call comes from a signal handler, or from the forked child of a
  * process with threads. Everything else is looked at, and what is wrong is answered.
  *
- * Calls keep and share nothing, so any number of threads may make them at once, of the same arrays too; no array that is read is written.
- * A call takes at most 24 KiB of its thread's stack, whatever the mesh (measured, not proved). The library is made for Linux on x86-64
- * processors of level 2 (since 2009), by the usual convention of calls there, and takes malloc, realloc, free, memcpy, memmove and memset
- * from the C library, and nothing else.
+ * Calls keep and share nothing but the mesh that a handle holds, which is one call's at a time, as told below. So any number of threads may
+ * make them at once, of the same arrays too; no array that is read is written. A call takes at most 24 KiB of its thread's stack, whatever
+ * the mesh (measured, not proved). The library is made for Linux on x86-64 processors of level 2 (since 2009), by the usual convention of
+ * calls there, and takes malloc, realloc, free, memcpy, memmove and memset from the C library, and nothing else.
  */
 #ifndef HOMOTOPY_H
 #define HOMOTOPY_H
@@ -30,7 +30,7 @@
 #include <stdint.h>
 
 /* The version of this header and of its library. The first number changes where a program made with an earlier one would no longer do. */
-#define HOMOTOPY_VERSION "1.0.0"
+#define HOMOTOPY_VERSION "1.1.0"
 
 #ifdef __cplusplus
 extern "C" {
@@ -45,6 +45,7 @@ enum homotopy_code {
     HOMOTOPY_ACCEPTED = 3,          /* the certificate is accepted */
     HOMOTOPY_SHORT_ROOM = 4,        /* the caller's array is too short [the length that is wanted; the answer] */
     HOMOTOPY_NO_MEMORY = 5,         /* memory was wanting; this says nothing of the mesh or of the walks */
+    HOMOTOPY_NO_MESH = 6,           /* the handle holds no mesh */
 
     HOMOTOPY_MANY_VERTICES = 10,    /* more than 1,000,000 vertices */
     HOMOTOPY_CORNER_COUNT = 11,     /* the sizes of the faces together are not the number of the corners */
@@ -124,12 +125,53 @@ void homotopy_surface(
  * The room is looked at first: where it is too small for half as many answers as there are walks, the code is SHORT_ROOM, and nothing else
  * is looked at; then the mesh, then the sizes of the walks. The mesh is read once, and where it is in one piece the time for a pair is that
  * of its walks. Where it is in several, pairs may lie in them in any order: each piece in which some pair lies is made a surface of its own
- * once, over its own vertices, so what it costs hangs on its own size; all walks are looked at first, and the pairs are sorted by their
- * pieces. (What is said of time is not proved.) */
+ * once, over its own vertices, so what it costs hangs on its own size. (What is said of time is not proved.) */
 void homotopy_decide(
     uint32_t vertices, const uint32_t *sizes, size_t face_count, const uint32_t *corners, size_t corner_count,
     const uint32_t *walk_sizes, size_t walk_count, const uint32_t *walk_vertices, size_t walk_vertex_count,
     uint8_t *answers, size_t answer_room, homotopy_outcome *outcome);
+
+/* A handle, which holds a mesh from call to call, so that questions about its walks can be asked as they come. It begins as
+ * HOMOTOPY_EMPTY_MESH, which holds none, and is changed by the calls below alone: what is in it is the library's own. It is one call's at a
+ * time. Any thread may make that call; a lock, or the start or the end of a thread, has to lie between the calls of two. A handle may be
+ * moved in memory; where it was copied, one of the two is used from there on, and the other one never. What it holds is to be given back in
+ * the end, by `homotopy_mesh_free`. */
+typedef struct homotopy_mesh {
+    void *kept; /* null where no mesh is held */
+} homotopy_mesh;
+
+#define HOMOTOPY_EMPTY_MESH {0}
+
+/* Keeps an orientable closed surface. Code DONE: the handle holds it, what it held before is given back, and the arrays are no longer
+ * looked at. Or what is first wrong with the mesh, as `homotopy_decide` tells it: the handle holds what it held. */
+void homotopy_mesh_new(
+    uint32_t vertices, const uint32_t *sizes, size_t face_count, const uint32_t *corners, size_t corner_count,
+    homotopy_mesh *mesh, homotopy_outcome *outcome);
+
+/* What `homotopy_decide` tells of the mesh that the handle holds. The code is NO_MESH where it holds none, with nothing else looked at. The
+ * mesh is not read again, and where it is in one piece the time is that of the walks. Where it is in several, each piece is made a surface
+ * of its own when a walk first lies in it, and stays one. (What is said of time is not proved.) */
+void homotopy_mesh_decide(
+    homotopy_mesh *mesh,
+    const uint32_t *walk_sizes, size_t walk_count, const uint32_t *walk_vertices, size_t walk_vertex_count,
+    uint8_t *answers, size_t answer_room, homotopy_outcome *outcome);
+
+/* The classes of walks on the mesh that the handle holds: any number of walks, `walk_sizes` with the number of vertices of each, and
+ * `walk_vertices` with the vertices of all, walk after walk. A number of `classes` for each walk: the place, counted from 0, of the first
+ * walk that starts where it starts, ends where it ends, and is homotopic to it. So two numbers are equal exactly where the walks have
+ * common ends and are homotopic. The outcome's code is DONE where each walk has its number; else `classes` is left as it was.
+ *
+ * The code is NO_MESH where the handle holds none, with nothing else looked at; then, where there is room for fewer numbers than there are
+ * walks, SHORT_ROOM; then WALK_COUNT, where the sizes together are not the number of the vertices; then what is first wrong with the first
+ * walk that is none of the surface: EMPTY_WALK, LONG_WALK, NO_VERTEX or NO_EDGE. Each walk is gone along once, and then looked up among
+ * those before it. (What is said of time is not proved.) */
+void homotopy_mesh_classes(
+    homotopy_mesh *mesh,
+    const uint32_t *walk_sizes, size_t walk_count, const uint32_t *walk_vertices, size_t walk_vertex_count,
+    size_t *classes, size_t class_room, homotopy_outcome *outcome);
+
+/* Gives back the mesh that the handle holds, if any. It holds none then, as at its beginning. */
+void homotopy_mesh_free(homotopy_mesh *mesh);
 
 /* Whether two walks on an orientable closed surface are homotopic, with the text that shows it, as the program's `certify` prints it: a
  * list of moves, or a denial. Code HOMOTOPIC or DIFFERENT, and the length of the text, which stands in front of `text`; or SHORT_ROOM,
@@ -158,6 +200,7 @@ void homotopy_verify(
     ROW(ACCEPTED, "accepted", "the certificate is accepted") \
     ROW(SHORT_ROOM, "", "the array for the answer is too short: {0} are wanted") \
     ROW(NO_MEMORY, "", "memory was wanting") \
+    ROW(NO_MESH, "", "the handle holds no mesh") \
     ROW(MANY_VERTICES, "", "the mesh has more than 1,000,000 vertices") \
     ROW(CORNER_COUNT, "", "the sizes of the faces together are not the number of corners") \
     ROW(MANY_SIDES, "", "the mesh has more than 4,000,000 corners") \

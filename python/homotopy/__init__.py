@@ -15,16 +15,17 @@ import ctypes
 import enum
 import itertools
 import operator
+import threading
 
-from ._library import Numbers, Outcome, call, line_of, text_of
+from ._library import Handle, Numbers, Outcome, call, line_of, text_of
 
 try:
     import numpy
 except ImportError:
     numpy = None
 
-__version__ = "1.0.0"
-__all__ = ["Answer", "Faces", "Refused", "Surface", "Verdict", "certify", "decide", "surface", "verify"]
+__version__ = "1.1.0"
+__all__ = ["Answer", "Faces", "Mesh", "Refused", "Surface", "Verdict", "certify", "decide", "surface", "verify"]
 
 _SHORT_ROOM, _NO_MEMORY, _ACCEPTED = 4, 5, 3
 _REJECTED = range(50, 70)
@@ -182,20 +183,25 @@ def _faces(faces):
     return _Lent.of(array.array("I", map(len, faces)), "the sizes"), corners
 
 
-def _walks(pairs):
-    """The sizes and the vertices of the walks of all pairs."""
+def _listed(walks):
+    """The sizes and the vertices of walks that come with their names."""
     sizes, vertices = array.array("I"), array.array("I")
+    for what, walk in walks:
+        lent = _of_numpy(walk, 1, what).tobytes() if _is_array(walk) else _copied(walk, what).tobytes()
+        sizes.append(len(lent) // 4)
+        vertices.frombytes(lent)
+    return _Lent.of(sizes, "the sizes"), _Lent.of(vertices, "the walks")
+
+
+def _in_pairs(pairs):
+    """The walks of all pairs, with their names."""
     for number, pair in enumerate(pairs):
         if isinstance(pair, (str, bytes)) or not hasattr(pair, "__len__"):
             raise TypeError("pair %d is of the type %s, and not a sequence of two walks" % (number, type(pair).__name__))
         if len(pair) != 2:
             raise ValueError("pair %d has %d walks, and not 2" % (number, len(pair)))
         for place, walk in enumerate(pair, 1):
-            what = "walk %d of pair %d" % (place, number)
-            lent = _of_numpy(walk, 1, what).tobytes() if _is_array(walk) else _copied(walk, what).tobytes()
-            sizes.append(len(lent) // 4)
-            vertices.frombytes(lent)
-    return _Lent.of(sizes, "the sizes"), _Lent.of(vertices, "the walks")
+            yield "walk %d of pair %d" % (place, number), walk
 
 
 def surface(vertices, faces):
@@ -212,15 +218,68 @@ def surface(vertices, faces):
     return Surface(numbers.vertices, numbers.edges, numbers.faces, numbers.euler, genera[:numbers.components])
 
 
+def _decided(pairs, ask):
+    """The `Answer` on each pair: `ask` makes the call, of the words for the pairs and an outcome."""
+    sizes, entries = _listed(_in_pairs(pairs))
+    count, outcome = sizes.words[1] // 2, Outcome()
+    answers = ctypes.create_string_buffer(max(count, 1))
+    ask(*sizes.words, *entries.words, ctypes.addressof(answers), count, outcome)
+    _check(outcome)
+    return [Answer(code) for code in answers.raw[:count]]
+
+
 def decide(vertices, faces, pairs):
     """The `Answer` on each pair of walks, in order, on an orientable closed surface. Refused where the mesh is none."""
     mesh, _kept = _mesh(vertices, faces)
-    sizes, entries = _walks(pairs)
-    count, outcome = sizes.words[1] // 2, Outcome()
-    answers = ctypes.create_string_buffer(max(count, 1))
-    call("homotopy_decide", *mesh, *sizes.words, *entries.words, ctypes.addressof(answers), count, outcome)
-    _check(outcome)
-    return [Answer(code) for code in answers.raw[:count]]
+    return _decided(pairs, lambda *words: call("homotopy_decide", *mesh, *words))
+
+
+class Mesh:
+    """An orientable closed surface that is kept, so that walks can be asked about as they come. Refused where the mesh is none.
+
+    It is given back by `close`, at the end of a `with`, or when nothing names it any more. Threads that ask it wait for one another.
+    """
+
+    def __init__(self, vertices, faces):
+        self._handle, self._asking = Handle(), threading.Lock()
+        mesh, _kept = _mesh(vertices, faces)
+        outcome = Outcome()
+        call("homotopy_mesh_new", *mesh, self._handle, outcome)
+        _check(outcome)
+
+    def decide(self, pairs):
+        """The `Answer` on each pair of walks, in order, as the function `decide` gives it. Refused where the mesh was given back."""
+        with self._asking:
+            return _decided(pairs, lambda *words: call("homotopy_mesh_decide", self._handle, *words))
+
+    def classes(self, walks):
+        """For each walk the place of the first one with the same ends that is homotopic to it, counted from 0.
+
+        Two numbers are equal exactly where the walks have common ends and are homotopic. Refused, with the number of the walk, counted
+        from 1, where one is no walk of the surface; and where the mesh was given back.
+        """
+        sizes, entries = _listed(("walk %d" % number, walk) for number, walk in enumerate(walks, 1))
+        count, outcome = sizes.words[1], Outcome()
+        numbers = (ctypes.c_size_t * max(count, 1))()
+        with self._asking:
+            call("homotopy_mesh_classes", self._handle, *sizes.words, *entries.words, ctypes.addressof(numbers), count, outcome)
+        _check(outcome)
+        return numbers[:count]
+
+    def close(self):
+        """Gives the mesh back. It may be given back again."""
+        with self._asking:
+            call("homotopy_mesh_free", self._handle)
+
+    def __enter__(self):
+        return self
+
+    def __exit__(self, *_error):
+        self.close()
+
+    def __del__(self):
+        if "_handle" in self.__dict__:
+            call("homotopy_mesh_free", self._handle)
 
 
 def certify(vertices, faces, first, second):

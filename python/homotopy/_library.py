@@ -15,11 +15,21 @@ class Numbers(ctypes.Structure):
                 ("components", ctypes.c_uint64)]
 
 
+class Handle(ctypes.Structure):
+    """What a mesh is kept by: null where there is none."""
+
+    _fields_ = [("kept", ctypes.c_void_p)]
+
+
 _ARRAY = [ctypes.c_void_p, ctypes.c_size_t]
 _ENDING = [ctypes.POINTER(Outcome)]
 _ARGUMENTS = {
     "homotopy_surface": [ctypes.c_uint32] + 2 * _ARRAY + [ctypes.POINTER(Numbers)] + _ARRAY + _ENDING,
     "homotopy_decide": [ctypes.c_uint32] + 5 * _ARRAY + _ENDING,
+    "homotopy_mesh_new": [ctypes.c_uint32] + 2 * _ARRAY + [ctypes.POINTER(Handle)] + _ENDING,
+    "homotopy_mesh_decide": [ctypes.POINTER(Handle)] + 3 * _ARRAY + _ENDING,
+    "homotopy_mesh_classes": [ctypes.POINTER(Handle)] + 3 * _ARRAY + _ENDING,
+    "homotopy_mesh_free": [ctypes.POINTER(Handle)],
     "homotopy_certify": [ctypes.c_uint32] + 5 * _ARRAY + _ENDING,
     "homotopy_verify": [ctypes.c_uint32] + 5 * _ARRAY + _ENDING,
 }
@@ -59,7 +69,7 @@ _library = _load()
 
 
 def call(name, *words):
-    """Calls a function of homotopy.h. An outcome or numbers at the end are passed by their address."""
+    """Calls a function of homotopy.h. An outcome, numbers and a handle are passed by their address."""
     getattr(_library, name)(*words)
 
 

@@ -6,6 +6,7 @@ import array
 import os
 import subprocess
 import sys
+import threading
 
 HERE = os.path.dirname(os.path.realpath(__file__))
 TOP = os.path.dirname(os.path.dirname(HERE))
@@ -14,7 +15,7 @@ sys.path.insert(0, PYTHON)
 os.environ.setdefault("LIBHOMOTOPY", os.path.join(TOP, "crates/homotopy_c/out/libhomotopy.so"))
 
 import homotopy  # noqa: E402
-from homotopy import Answer, Faces, Surface, certify, decide, surface, verify  # noqa: E402
+from homotopy import Answer, Faces, Mesh, Surface, certify, decide, surface, verify  # noqa: E402
 
 numpy = homotopy.numpy
 TETRA = [[0, 1, 2], [0, 3, 1], [0, 2, 3], [1, 3, 2]]
@@ -57,6 +58,50 @@ def take():
     refuse(homotopy.Refused, "the sizes of the faces together", surface, 4, Faces([3, 3], [0, 1, 2]))
 
 
+def keep():
+    pairs = [([0, 1, 2], [0, 2]), ((0, 1), [0]), ([], [0]), ([0, 4], [0]), ([0, 0], [0]), ([0], [1])]
+    with Mesh(5, TETRA) as kept:
+        for some in (pairs, pairs[::-1], pairs[2:], []):
+            expect(kept.decide(some), decide(5, TETRA, some), "a mesh that is kept")
+        refuse(TypeError, "walk 1 of pair 0: place 0 has 0.9", kept.decide, [([0.9], [0])])
+        expect(kept.classes([[0, 1], (1, 0), [0, 2, 1], [0], array.array("I", [0, 3, 1]), [1, 0]]), [0, 1, 0, 3, 0, 1], "classes")
+        expect(kept.classes([]), [], "classes of no walks")
+        expect(kept.classes(iter([[0]])), [0], "the class of one walk")
+        refuse(homotopy.Refused, "walk 2 has no vertex", kept.classes, [[0, 1], [], [0, 9]])
+        refuse(homotopy.Refused, "walk 3 has at place 1 no vertex of a face", kept.classes, [[0, 1], [0], [0, 4], []])
+        refuse(homotopy.Refused, "walk 1 has no edge from place 0 to the next", kept.classes, [[0, 0], [9]])
+        refuse(TypeError, "walk 2: place 1 has 0.9", kept.classes, [[0], [0, 0.9]])
+        refuse(TypeError, "walk 1 is of the type int", kept.classes, [0, 1])
+        refuse(TypeError, "walk 1 is of the type str", kept.classes, "01")
+        expect(kept.decide(pairs), decide(5, TETRA, pairs), "a mesh that is kept, behind an error")
+    refuse(homotopy.Refused, "the handle holds no mesh", kept.decide, pairs)
+    refuse(homotopy.Refused, "the handle holds no mesh", kept.classes, [[0]])
+    kept.close()
+    refuse(homotopy.Refused, "the edge 1 2 should be in two sides of faces, and is in 1", Mesh, 4, TETRA[:3])
+    refuse(TypeError, "face 0 is of the type int", Mesh, 4, [0, 1, 2])
+    several = [Mesh(4, TETRA) for _ in range(100)]
+    expect([mesh.decide(pairs[:1]) for mesh in several], [[Answer.HOMOTOPIC]] * 100, "a hundred of them")
+
+
+def keep_for_threads():
+    """Threads that ask one mesh are told each its own."""
+    told = []
+    pairs = [([0, 1, 2], [0, 2]), ((0, 1), [0]), ([], [0]), ([0], [1])] * 50
+    kept = Mesh(4, TETRA)
+
+    def ask(number):
+        for start in range(50):
+            told.append((number, start, kept.decide(pairs[start + number:])))
+
+    threads = [threading.Thread(target=ask, args=(number,)) for number in range(4)]
+    for thread in threads:
+        thread.start()
+    for thread in threads:
+        thread.join()
+    wanted = [(number, start, decide(4, TETRA, pairs[start + number:])) for number in range(4) for start in range(50)]
+    expect(sorted(told), wanted, "what threads are told")
+
+
 def refuse_sequences():
     refuse(TypeError, "walk 1 of pair 0: place 0 has 0.9, which is no whole number", decide, 4, TETRA, [([0.9, 1.9, 2.9], [0, 2])])
     refuse(TypeError, "walk 2 of pair 1: place 1 has 2.0", decide, 4, TETRA, [([0], [0]), ([0, 2], [0, 2.0])])
@@ -86,6 +131,7 @@ def take_arrays():
         expect(surface(4, numpy.asfortranarray(faces)), SPHERE, "columns of " + kind)
         expect(surface(4, list(faces)), SPHERE, "a list of arrays of " + kind)
         expect(decide(4, faces, [(faces[0], faces[0, ::2])]), [Answer.HOMOTOPIC], "walks of " + kind)
+        expect(Mesh(4, faces).classes(faces), [0, 1, 2, 3], "rows of " + kind)
         expect(bool(verify(4, faces[:, ::-1], faces[0], faces[0, ::2], b"MOVES 1 2\nf 0 0 2 - 2\n")), True, "turned faces of " + kind)
     block = bytearray(49)
     unaligned = numpy.frombuffer(block, dtype=numpy.uint32, offset=1).reshape(4, 3)
@@ -132,6 +178,8 @@ def compare_with_header():
 
 compare_with_header()
 take()
+keep()
+keep_for_threads()
 refuse_sequences()
 import_without_a_library()
 if numpy is None:

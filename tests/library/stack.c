@@ -40,15 +40,34 @@ static void *surface(void *unused) {
     return outcome.code == HOMOTOPY_DONE ? unused : NULL;
 }
 
-static void *decide(void *unused) {
-    static uint32_t walk_sizes[4] = {2 * GRID + 1, 2 * GRID + 1, GRID + 1, 1}, vertices[5 * GRID + 4];
-    homotopy_outcome outcome;
-    uint8_t answers[2];
+static uint32_t walk_sizes[4] = {2 * GRID + 1, 2 * GRID + 1, GRID + 1, 1}, vertices[5 * GRID + 4];
+
+static void fill_walks(void) {
     memcpy(vertices, ways, sizeof ways);
     memcpy(vertices + 4 * GRID + 2, across, sizeof across);
     vertices[5 * GRID + 3] = there[0];
+}
+
+static void *decide(void *unused) {
+    homotopy_outcome outcome;
+    uint8_t answers[2];
+    fill_walks();
     homotopy_decide(ALL, sizes, faces, corners, 4 * faces, walk_sizes, 4, vertices, 5 * GRID + 4, answers, 2, &outcome);
     return outcome.code == HOMOTOPY_DONE && answers[0] == HOMOTOPY_HOMOTOPIC && answers[1] == HOMOTOPY_DIFFERENT ? unused : NULL;
+}
+
+static void *keep(void *unused) {
+    homotopy_mesh mesh = HOMOTOPY_EMPTY_MESH;
+    homotopy_outcome outcome;
+    uint8_t answers[2];
+    size_t classes[4];
+    fill_walks();
+    homotopy_mesh_new(ALL, sizes, faces, corners, 4 * faces, &mesh, &outcome);
+    homotopy_mesh_decide(&mesh, walk_sizes, 4, vertices, 5 * GRID + 4, answers, 2, &outcome);
+    if (outcome.code != HOMOTOPY_DONE || answers[0] != HOMOTOPY_HOMOTOPIC || answers[1] != HOMOTOPY_DIFFERENT) return NULL;
+    homotopy_mesh_classes(&mesh, walk_sizes, 4, vertices, 5 * GRID + 4, classes, 4, &outcome);
+    homotopy_mesh_free(&mesh);
+    return outcome.code == HOMOTOPY_DONE && classes[0] == classes[1] && classes[2] != classes[3] ? unused : NULL;
 }
 
 /* What is certified is verified. The certificate is made on one torus, since both have too many sides. */
@@ -86,14 +105,14 @@ static size_t depth_of(void *(*body)(void *)) {
 }
 
 int main(int argc, char **argv) {
-    static void *(*const bodies[])(void *) = {surface, decide, certify, deny};
-    static const char *const names[] = {"surface", "decide", "certify and verify", "deny and verify"};
+    static void *(*const bodies[])(void *) = {surface, decide, keep, certify, deny};
+    static const char *const names[] = {"surface", "decide", "keep and decide", "certify and verify", "deny and verify"};
     const size_t empty = depth_of(nothing);
     int wrong = 0;
     (void)argv;
     make();
     for (int pieces = 1; pieces <= 2; pieces++, faces = ALL)
-        for (int k = 0; k < 4; k++) {
+        for (int k = 0; k < 5; k++) {
             const size_t depth = depth_of(bodies[k]);
             if (argc > 1) printf("%d pieces, %s: %zu bytes\n", pieces, names[k], depth - empty);
             if (depth == 0 || depth - empty > MOST) printf("stack.c: %s takes %zu bytes\n", names[k], depth - empty), wrong = 1;

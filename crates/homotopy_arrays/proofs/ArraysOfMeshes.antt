@@ -1,15 +1,8 @@
 -- The arrays of a mesh are read as that mesh, and what is read is the mesh whose arrays they are.
-use Rattle.std.proofs.Common.{◌≡◌, ℕ, zero, suc, ◌+◌, ◌<◌, ◌≤◌, Bool, true, false, cond, not, eqb, ltb, List, [], ◌∷◌, ◌++◌, length, take, drop, map, append_assoc, append-nil, length-take-le, refl, sym, ap, ap₂, subst, ◌∙◌, arith}
-use Rattle.std.specs.Prelude.{All, Option, Some, None, Result, Ok, sum, sum_by, flat_map}
-use Rattle.std.specs.List.{list_all}
-use Rattle.std.proofs.lemmas.Bool.{le-ltb, lt-ltb, ne_eqb, eqb-true, ltb-false, and_from}
-use Rattle.std.proofs.lemmas.List.{take_at, drop_at, take-append-drop, length-drop}
+use Rattle.homotopy_arrays.proofs.Common.{DifferTo, differ_more, differ_all, ◌≡◌, ℕ, zero, suc, ◌+◌, ◌<◌, ◌≤◌, Bool, true, false, cond, not, eqb, ltb, List, [], ◌∷◌, ◌++◌, length, take, drop, map, append_assoc, append-nil, length-take-le, refl, sym, ap, ap₂, subst, ◌∙◌, arith, le-ltb, lt-ltb, ne_eqb, eqb-true, ltb-false, and_from, take_at, drop_at, take-append-drop, length-drop, sum_by-cons, list_all, All, Option, Some, None, Result, Ok, sum_by, flat_map, FaceList, IsFace, total_sides, MOST_VERTICES, MOST_SIDES}
 use Rattle.std.proofs.lemmas.List.Concat.{length-flat_map}
 use Rattle.std.proofs.lemmas.List.Elements.{All-nil, All-cons, All-head, All-tail}
-use Rattle.std.proofs.lemmas.List.Sums.{sum_by-cons}
-use Rattle.surf_model.specs.FaceLists.{FaceList, IsFace, total_sides}
-use Rattle.surf_model.specs.declared.limits.TheConstants.{MOST_VERTICES, MOST_SIDES}
-use Rattle.off_reader.proofs.RingLemmas.{DifferTo, differ_more, differ_all}
+use Rattle.std.specs.Prelude.{sum}
 use Rattle.homotopy_arrays.specs.MeshArrays.{AreArraysOf, counts_fault, face_fault, faces_behind, mesh_of, unless}
 use Rattle.homotopy_arrays.specs.declared.fault.Fault.{Fault}
 use Rattle.homotopy_arrays.specs.declared.fault.Fault.TheVariants.{ManyVertices, CornerCount, ManySides}

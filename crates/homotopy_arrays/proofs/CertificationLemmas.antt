@@ -1,17 +1,12 @@
 -- Certificates, from their parts.
-use Rattle.std.proofs.Common.{◌≡◌, ◌⊎◌, ℕ, List, sym, ap, ◌∙◌, inl, inr}
-use Rattle.std.specs.Option.{option_map}
-use Rattle.std.specs.Prelude.{MatchResult, Option, None, Result, Ok, Err}
-use Rattle.surf_model.specs.FaceLists.{FaceList}
+use Rattle.homotopy_arrays.proofs.Common.{signed_surface, IsSigned, SignedMesh, ◌≡◌, ◌⊎◌, ℕ, List, sym, ap, ◌∙◌, inl, inr, MatchResult, None, Result, Ok, Err, FaceList}
 use Rattle.certify_commands.proofs.Certifying.{convinces_decides}
-use Rattle.closed_surfaces.proofs.Components.{signed_surface}
-use Rattle.commands.specs.Certificates.{IsShown}
 use Rattle.certify_commands.specs.Certify.{IsWithinLimits, certify_limits, limit_word}
 use Rattle.commands.proofs.LimitLemmas.{fitting}
+use Rattle.commands.specs.Certificates.{IsShown}
 use Rattle.commands.specs.Limits.{first_over, over_line}
-use Rattle.closed_surfaces.specs.SignedSurfaces.{IsSigned}
 use Rattle.commands.specs.declared.certificate.Certificate.{Certificate}
-use Rattle.closed_surfaces.specs.declared.signed_mesh.SignedMesh.{SignedMesh}
+use Rattle.std.specs.Option.{option_map}
 use Rattle.homotopy_arrays.specs.Certifications.{Certifies, IsCertified, IsCertifyFault, IsFaultOfPair, IsLimitFault, no_memory}
 use Rattle.homotopy_arrays.specs.Pairs.{AreWalks}
 use Rattle.homotopy_arrays.specs.Surfaces.{IsSurfaceFault, IsSurfaceOf, OfMesh}

@@ -1,16 +1,9 @@
 -- How questions end.
-use Rattle.std.proofs.Common.{◌≡◌, ◌⊎◌, ℕ, List, sym, ap, subst, ◌∙◌, inl, inr, refl}
-use Rattle.std.specs.Prelude.{Result, Ok, Err, IsTrue}
-use Rattle.surf_model.specs.FaceLists.{FaceList}
-use Rattle.closed_surfaces.specs.SignedSurfaces.{IsNoSurface}
+use Rattle.homotopy_arrays.proofs.Common.{signed_surface, IsNoSurface, SignedMesh, ◌≡◌, ◌⊎◌, sym, ap, subst, ◌∙◌, inl, inr, refl, Result, Ok, Err, FaceList, IsOrientableSurface}
 use Rattle.closed_surfaces.specs.declared.signed_mesh.NoSurface.{NoSurface}
 use Rattle.closed_surfaces.specs.declared.signed_mesh.NoSurface.TheVariants as nones
-use Rattle.closed_surfaces.proofs.Components.{signed_surface}
-use Rattle.closed_surfaces.specs.declared.signed_mesh.SignedMesh.{SignedMesh}
-use Rattle.homotopy_arrays.specs.Decisions.{AreDecided}
-use Rattle.homotopy_arrays.specs.Pairs.{are_pairs, AreAnswers}
-use Rattle.homotopy_arrays.specs.Surfaces.{IsSurfaceFault, IsSurfaceOf, OfMesh, of_no_surface, of_surface_fault}
-use Rattle.homotopy_arrays.specs.declared.decide.PairAnswer.{PairAnswer}
+use Rattle.homotopy_arrays.specs.Decisions.{IsKept}
+use Rattle.homotopy_arrays.specs.Surfaces.{EndsOn, IsSurfaceFault, IsSurfaceOf, OfMesh, of_no_surface, of_surface_fault}
 use Rattle.homotopy_arrays.specs.declared.fault.Fault.{Fault}
 use Rattle.homotopy_arrays.specs.declared.fault.Fault.TheVariants.{OutOfMemory}
 
@@ -40,14 +33,25 @@ none_ends read mesh none fault was h e =
       | inr first ↦ inr (inr (record { mesh = mesh; is = sym was; holds = subst (IsSurfaceFault mesh) (sym e) first }))
     ]
 
--- ---- decisions
+-- ---- meshes that are kept
 
-pub decided : (read : Result FaceList Fault) (surface : SignedMesh) (sizes vertices : List ℕ) (given : List PairAnswer)
-    → OfMesh read (λ mesh. IsSurfaceOf mesh surface) → IsTrue (are_pairs sizes vertices)
-    → AreAnswers surface.faces sizes vertices given → OfMesh read (λ mesh. AreDecided sizes vertices mesh given)
-decided read surface sizes vertices given of pairs answers =
+-- how a question about a mesh that is kept ends, one about the arrays that it was made of does
+pub of_kept : {T : Type 0} (read : Result FaceList Fault) (kept : FaceList) (Gives : FaceList → T → Type 0)
+    (Refuses : FaceList → Fault → Type 0) (end : Result T Fault) → OfMesh read (λ mesh. IsKept mesh kept)
+    → EndsOn (Ok kept) Gives Refuses end → EndsOn read Gives Refuses end
+of_kept read kept Gives Refuses end of ends =
+    let same : read ≡ Ok kept = of.is ∙ ap (λ (m : FaceList). Ok m) (sym of.holds.same) in
+    subst (λ (r : Result FaceList Fault). EndsOn r Gives Refuses end) (sym same) ends
+
+-- a surface that was read is kept
+pub kept_surface : (read : Result FaceList Fault) (surface : SignedMesh) (kept : FaceList)
+    → OfMesh read (λ mesh. IsSurfaceOf mesh surface) → kept ≡ surface.faces → OfMesh read (λ mesh. IsKept mesh kept)
+kept_surface read surface kept of is =
     record {
-      mesh = surface.faces;
-      is = of.is ∙ ap (λ (m : FaceList). Ok m) (sym of.holds.faces);
-      holds = record { surface = signed_surface surface of.holds.signed; pairs = pairs; answers = answers };
+      mesh = of.mesh;
+      is = of.is;
+      holds = record {
+        surface = subst IsOrientableSurface of.holds.faces (signed_surface surface of.holds.signed);
+        same = is ∙ of.holds.faces;
+      };
     }

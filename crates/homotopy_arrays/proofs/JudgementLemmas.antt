@@ -1,24 +1,15 @@
 -- What comes of certificates, from their parts.
-use Rattle.std.proofs.Common.{◌≡◌, ◌⊎◌, ◌<◌, ◌≤◌, ℕ, List, [], ◌∷◌, length, get_or, refl, sym, ap, subst, ◌∙◌, inl, inr, arith}
-use Rattle.std.specs.Prelude.{Result, Ok, Err, MatchResult, Some, None, slice_get}
-use Rattle.std.proofs.lemmas.Option.{get_or_from_slice_get}
-use Rattle.surf_model.specs.FaceLists.{FaceList}
-use Rattle.surf_model.specs.Moves.{PeakedMoves}
+use Rattle.homotopy_arrays.proofs.Common.{◌≡◌, ◌⊎◌, ◌<◌, ◌≤◌, ℕ, zero, suc, List, [], ◌∷◌, length, get_or, refl, sym, ap, subst, ◌∙◌, inl, inr, arith, get_or_from_slice_get, Result, Ok, Err, MatchResult, Option, Some, None, slice_get, FaceList, Move, Line, end_line, left_start, list-moves, list-wrong, before_ok, head_of_text, moves_of_text, denial_of_lines, Certificate, count_in, denial_left, lines_to_come, moves_left, moves_to_come, next_answer, next_of, started, unless_refused, CertHead, CertFault}
+use Rattle.commands.specs.declared.inputs.TheConstants.{MOST_BYTES}
 use Rattle.labellings.specs.DenialVerdicts.{IsVerdict}
-use Rattle.labellings.specs.declared.denial.Denial as denials
 use Rattle.labellings.specs.declared.verdict.DenialVerdict.{DenialVerdict}
-use Rattle.move_checker.specs.Verdicts.{verdict_of}
 use Rattle.move_checker.specs.declared.judge.Verdict.{Verdict}
-use Rattle.walk_files.specs.Certificates.{head_of_text, moves_of_text}
-use Rattle.walk_files.specs.Denials.{denial_of_lines}
-use Rattle.walk_files.specs.Readers.{Certificate, denial_left, moves_left, started}
-use Rattle.walk_files.specs.declared.certificate.CertHead.{CertHead}
+use Rattle.verify_commands.proofs.Streaming.{denial_right}
+use Rattle.labellings.specs.declared.denial.Denial as denials
 use Rattle.walk_files.specs.declared.certificate.CertHead.TheVariants as heads
-use Rattle.walk_files.specs.declared.fault.CertFault.{CertFault}
 use Rattle.walk_files.specs.declared.fault.CertFault.TheVariants as certificates
 use Rattle.commands.specs.declared.certificate.Certificate.TheVariants as shown
-use Rattle.commands.specs.declared.inputs.TheConstants.{MOST_BYTES}
-use Rattle.homotopy_arrays.specs.Judgements.{IsFaultOfMoves, IsFaultOfSpelling, IsFaultOfText, IsFaultOfWalks, IsVerifyFault, Judges, JudgesSpelt, JudgesText, JudgesWalks, of_certificate_fault}
+use Rattle.homotopy_arrays.specs.Judgements.{IsFaultOfMoves, IsFaultOfSpelling, IsFaultOfText, IsFaultOfWalks, IsVerdictOnMoves, IsVerifyFault, Judges, JudgesSpelt, JudgesText, JudgesWalks, of_certificate_fault}
 use Rattle.homotopy_arrays.specs.Pairs.{AreWalks}
 use Rattle.homotopy_arrays.specs.declared.fault.Fault.{Fault}
 use Rattle.homotopy_arrays.specs.declared.fault.Fault.TheVariants.{OutOfMemory}
@@ -27,8 +18,6 @@ use Rattle.homotopy_arrays.specs.declared.verify.Judgement.TheVariants.{Moves, D
 use Rattle.homotopy_arrays.specs.declared.verify.VerifyFault.{VerifyFault}
 use Rattle.homotopy_arrays.specs.declared.verify.VerifyFault.TheVariants.{Mesh}
 use Rattle.homotopy_arrays.proofs.CertificateLemmas.{bad_head, denial_faulty, denial_given, denial_or_memory, denial_start, started_ok}
-use Rattle.verify_commands.proofs.Gathering.{left_start, list-moves, list-wrong}
-use Rattle.verify_commands.proofs.Streaming.{denial_right}
 
 -- ---- the text
 
@@ -59,14 +48,36 @@ moves_faulty text reader count peak fault e head (inr wrong) =
     let spelt : head_of_text text ≡ Ok (heads.Moves count peak) = head_is text reader (heads.Moves count peak) e head in
     inr (wrong.0, list-wrong text count peak wrong.0 spelt (sym (left_of text reader count peak e head) ∙ wrong.1), wrong.2)
 
-pub moves_judged : (mesh : FaceList) (first second text : List ℕ) (reader : Certificate) (count peak : ℕ) (list : PeakedMoves)
-    (verdict : Verdict) → Ok reader ≡ started text (head_of_text text) → reader.head ≡ heads.Moves count peak
-    → moves_left reader ≡ Ok list.moves → list.peak ≡ peak → verdict ≡ verdict_of mesh first second list
-    → JudgesSpelt mesh first second text (Moves verdict)
-moves_judged mesh first second text reader count peak list verdict e head left is_peak is =
-    let same : reader.head ≡ heads.Moves count list.peak = head ∙ ap (λ (p : ℕ). heads.Moves count p) (sym is_peak) in
-    let spelt : head_of_text text ≡ Ok (heads.Moves count list.peak) = head_is text reader (heads.Moves count list.peak) e same in
-    (shown.Moves list, list-moves text count list.peak list.moves spelt (sym (left_of text reader count list.peak e same) ∙ left), is)
+pub moves_judged : (mesh : FaceList) (first second text : List ℕ) (reader : Certificate) (count peak : ℕ) (verdict : Verdict)
+    → Ok reader ≡ started text (head_of_text text) → reader.head ≡ heads.Moves count peak
+    → IsVerdictOnMoves mesh first second peak (moves_left reader) verdict → JudgesSpelt mesh first second text (Moves verdict)
+moves_judged mesh first second text reader count peak verdict e head is =
+    let spelt : head_of_text text ≡ Ok (heads.Moves count peak) = head_is text reader (heads.Moves count peak) e head in (
+      shown.Moves (record { moves = is.0; peak = peak }),
+      list-moves text count peak is.0 spelt (sym (left_of text reader count peak e head) ∙ is.1),
+      is.2,
+    )
+
+-- none is read yet
+pub none_yet : (left : Result (List Move) CertFault) → left ≡ before_ok [] left
+none_yet (Ok moves) = refl
+none_yet (Err fault) = refl
+
+-- a move that is given is one of those that the head promises
+pub promised : (reader : Certificate) (move : Move) → reader.refusal ≡ None → next_answer reader ≡ Ok (Some move)
+    → reader.given < count_in reader.head
+promised reader move kept gives =
+    let end : ℕ = end_line reader.text in
+    let still : ℕ = moves_to_come reader in
+    let lines : List Line = lines_to_come reader in
+    let some : 0 < still = by_lines end still lines
+    (sym (ap (λ (o : Option CertFault). unless_refused o (next_of end still lines)) kept) ∙ gives) in
+    omega (arith, some)
+  where
+    by_lines : (end still : ℕ) (lines : List Line) → next_of end still lines ≡ Ok (Some move) → 0 < still
+    by_lines end zero [] e = absurd cc
+    by_lines end zero (line ∷ lines) e = absurd cc
+    by_lines end (suc still) lines e = omega arith
 
 pub denial_wrong : (text : List ℕ) (reader : Certificate) (degree : ℕ) (first : CertFault) (fault : VerifyFault)
     → Ok reader ≡ started text (head_of_text text) → reader.head ≡ heads.Labels degree

@@ -1,6 +1,8 @@
+pub mod Common
 pub mod MeshLemmas
 pub mod ArraysOfMeshes
 pub mod PairLemmas
+pub mod ClassLemmas
 pub mod EndLemmas
 pub mod CertificateLemmas
 pub mod JudgementLemmas

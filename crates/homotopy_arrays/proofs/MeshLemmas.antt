@@ -1,15 +1,7 @@
 -- Meshes from arrays, face by face.
-use Rattle.std.proofs.Common.{◌≡◌, ℕ, ◌+◌, ◌*◌, ◌<◌, ◌≤◌, Bool, true, false, cond, not, eqb, ltb, List, [], ◌∷◌, ◌++◌, length, take, drop, get_or, length-take-le, refl, sym, ap, subst, ◌∙◌, arith}
-use Rattle.std.specs.Prelude.{Option, Some, None, Ok, Err, sum, sum_by}
-use Rattle.std.specs.List.{list_all}
-use Rattle.std.proofs.lemmas.Bool.{eq-eqb, lt-ltb, le-ltb, ltb-false}
-use Rattle.std.proofs.lemmas.List.{drop-drop, drop_more, drop_all, length-drop, take_more, length_push}
-use Rattle.std.proofs.lemmas.List.Sums.{sum_by-append, sum_by-take-drop, sum_by-cons}
-use Rattle.std.proofs.lemmas.Option.{none-some}
-use Rattle.surf_model.specs.FaceLists.{PendingFace, IsFace, total_sides}
-use Rattle.surf_model.specs.declared.limits.TheConstants.{MOST_VERTICES, MOST_SIDES}
+use Rattle.homotopy_arrays.proofs.Common.{all_below, differ_at, ◌≡◌, ℕ, ◌+◌, ◌*◌, ◌<◌, ◌≤◌, Bool, true, false, cond, not, eqb, ltb, List, [], ◌∷◌, ◌++◌, length, take, drop, get_or, length-take-le, refl, sym, ap, subst, ◌∙◌, arith, eq-eqb, lt-ltb, le-ltb, ltb-false, drop-drop, drop_more, drop_all, length-drop, take_more, length_push, sum_by-append, sum_by-take-drop, sum_by-cons, none-some, list_all, Option, Some, None, Ok, Err, sum_by, PendingFace, IsFace, total_sides, MOST_VERTICES, MOST_SIDES}
 use Rattle.off_reader.specs.OffTexts.{has_equal_neighbours}
-use Rattle.off_reader.proofs.RingLemmas.{all_below, differ_at}
+use Rattle.std.specs.Prelude.{sum}
 use Rattle.homotopy_arrays.specs.MeshArrays.{face_fault, faces_behind, mesh_of, unless}
 use Rattle.homotopy_arrays.specs.declared.fault.Fault.{Fault}
 use Rattle.homotopy_arrays.specs.declared.fault.Fault.TheVariants.{ManyVertices, CornerCount, ManySides, FewCorners, NoVertex, EqualNeighbours}

@@ -1,23 +1,15 @@
 -- Pairs of walks, cut from arrays.
-use Rattle.std.proofs.Common.{◌≡◌, ◌≢◌, ℕ, Bool, true, false, cond, eqb, ltb, ◌+◌, ◌-◌, ◌*◌, ◌<◌, ◌≤◌, List, [], ◌∷◌, ◌++◌, length, take, drop, get_or, refl, sym, ap, ap₂, subst, ◌∙◌, inl, inr, arith, ◌↔◌}
-use Rattle.std.specs.Prelude.{Some, None, option_map, sum, sum_by, Option, MatchOption}
+use Rattle.homotopy_arrays.proofs.Common.{◌≡◌, ◌≢◌, ℕ, Bool, true, false, cond, eqb, ltb, ◌+◌, ◌-◌, ◌*◌, ◌<◌, ◌≤◌, List, [], ◌∷◌, ◌++◌, length, take, drop, get_or, refl, sym, ap, ap₂, subst, ◌∙◌, inl, inr, arith, ◌↔◌, cases_lt, ne_eqb, eqb-false, le-ltb, ltb-false, take_more, get_or_append_left, length_push, sum_by-append, sum_by-take-drop, sum_by-cons, none-some, Some, None, option_map, sum_by, Option, MatchOption, FaceList, AreWalkPair, IsWalk, HaveCommonEnds, Homotopic, IsPair, pair_fault}
+use Rattle.component_deciding.specs.ComponentWords.{DoDecide}
+use Rattle.component_deciding.specs.PairDeciders.{IsFoundOn}
 use Rattle.std.proofs.Math.Seq.{get_or-append_seam}
-use Rattle.std.proofs.lemmas.Bool.{cases_lt, ne_eqb, eqb-false, le-ltb, ltb-false}
-use Rattle.std.proofs.lemmas.List.{take_more, get_or_append_left, length_push}
-use Rattle.std.proofs.lemmas.Option.{none-some}
-use Rattle.std.proofs.lemmas.List.Sums.{sum_by-append, sum_by-take-drop, sum_by-cons}
-use Rattle.surf_model.specs.FaceLists.{FaceList}
-use Rattle.surf_model.specs.Walks.{IsWalk, HaveCommonEnds}
+use Rattle.std.specs.Prelude.{sum}
+use Rattle.turn_words.specs.declared.word.Word.{Word}
+use Rattle.walk_files.specs.declared.pair.PairFault.{PairFault}
 use Rattle.surf_model.specs.Moves as moves
 use Rattle.surf_model.specs.declared.decisions.Answer as deciding
-use Rattle.surf_model.specs.declared.decisions.Answer.TheVariants.{Homotopic}
-use Rattle.component_deciding.specs.PairDeciders.{IsFoundOn}
-use Rattle.walk_files.specs.Pairs.{IsPair, pair_fault}
-use Rattle.walk_files.specs.declared.pair.PairFault.{PairFault}
-use Rattle.homotopy_arrays.specs.CheckedPairs.{AreSlices, IsPairAt}
 use Rattle.homotopy_arrays.specs.Pairs.{AreWalks, IsAnswer, length_fault, walk_at, walks_fault}
 use Rattle.homotopy_arrays.specs.declared.decide.PairAnswer.{PairAnswer}
-use Rattle.homotopy_arrays.specs.declared.pair.PairSlices.{PairSlices}
 use Rattle.homotopy_arrays.specs.declared.pair.WalkFault.{WalkFault}
 use Rattle.homotopy_arrays.specs.declared.pair.WalkFault.TheVariants.{Empty, Long, Pair}
 use Rattle.homotopy_arrays.specs.declared.pair.TheConstants.{MOST_WALK}
@@ -36,12 +28,12 @@ length_good walk vertices e = by_tests (eqb (length vertices) 0) (ltb MOST_WALK 
         let some : length vertices ≢ 0 = eqb-false (length vertices) 0 p in
         (omega (arith, some), ltb-false MOST_WALK (length vertices) q)
 
+pub length_fits : (walk : ℕ) (vertices : List ℕ) → 0 < length vertices → length vertices ≤ MOST_WALK → length_fault walk vertices ≡ None
+length_fits walk vertices some few = rw (ne_eqb (length vertices) 0 (omega (arith, some)), le-ltb MOST_WALK (length vertices) few) refl
+
 pub length_bad : (walk : ℕ) (vertices : List ℕ) (fault : WalkFault) → length_fault walk vertices ≡ Some fault → 0 < length vertices
     → length vertices ≤ MOST_WALK → ⊥
-length_bad walk vertices fault e some few = none-some fault (sym good ∙ e)
-  where
-    good : length_fault walk vertices ≡ None
-    good = rw (ne_eqb (length vertices) 0 (omega (arith, some)), le-ltb MOST_WALK (length vertices) few) refl
+length_bad walk vertices fault e some few = none-some fault (sym (length_fits walk vertices some few) ∙ e)
 
 -- ---- the walks of a pair
 
@@ -51,9 +43,9 @@ walks_of_pair mesh first second is few =
     let one : is.first ≡ first = cc is.two in
     let other : is.second ≡ second = cc is.two in
     record {
-      first_walk = subst (IsWalk mesh) one is.first_walk;
-      second_walk = subst (IsWalk mesh) other is.second_walk;
-      ends = subst (HaveCommonEnds first) other (subst (λ (w : List ℕ). HaveCommonEnds w is.second) one is.ends);
+      first_walk = subst (IsWalk mesh) one is.are.first_walk;
+      second_walk = subst (IsWalk mesh) other is.are.second_walk;
+      ends = subst (HaveCommonEnds first) other (subst (λ (w : List ℕ). HaveCommonEnds w is.second) one is.are.ends);
       few = few;
     }
 
@@ -63,9 +55,7 @@ pair_of_walks mesh first second are =
       first = first;
       second = second;
       two = refl;
-      first_walk = are.first_walk;
-      second_walk = are.second_walk;
-      ends = are.ends;
+      are = record { first_walk = are.first_walk; second_walk = are.second_walk; ends = are.ends };
     }
 
 -- ---- what is first wrong
@@ -88,44 +78,34 @@ no_pair mesh first second fault one other e none =
 -- ---- the walks that sizes cut from vertices
 
 -- behind one more walk
-pub next_place : (sizes : List ℕ) (k : ℕ) → k < length sizes → sum (take (k + 1) sizes) ≡ sum (take k sizes) + get_or sizes k 0
-next_place sizes k below =
-    ap (sum_by (λ x. x)) (take_more sizes k 0 below)
-    ∙ sum_by-append (λ x. x) (take k sizes) (get_or sizes k 0 ∷ [])
-    ∙ ap (λ (n : ℕ). sum (take k sizes) + n) (sum_by-cons (λ x. x) (get_or sizes k 0) [] ∙ omega arith)
+pub next_place : (sizes : List ℕ) (k at : ℕ) → at ≡ sum (take k sizes) → k < length sizes
+    → at + get_or sizes k 0 ≡ sum (take (k + 1) sizes)
+next_place sizes k at place below =
+    let last : sum (take k sizes ++ get_or sizes k 0 ∷ []) ≡ sum (take k sizes) + get_or sizes k 0 =
+    sum_by-append (λ x. x) (take k sizes) (get_or sizes k 0 ∷ [])
+    ∙ ap (λ (n : ℕ). sum (take k sizes) + n) (sum_by-cons (λ x. x) (get_or sizes k 0) [] ∙ omega arith) in
+    omega (arith, place, last, ap (sum_by (λ x. x)) (take_more sizes k 0 below))
 
--- the two slices of a pair are its walks
-pub first_of_pair : (sizes vertices : List ℕ) (k at : ℕ) → at ≡ sum (take (2 * k) sizes)
-    → take (at + get_or sizes (2 * k) 0 - at) (drop at vertices) ≡ walk_at sizes vertices (2 * k)
-first_of_pair sizes vertices k at place =
-    let size : at + get_or sizes (2 * k) 0 - at ≡ get_or sizes (2 * k) 0 = omega arith in
+-- which is within the vertices
+pub place_within : (sizes : List ℕ) (k at total : ℕ) → at ≡ sum (take k sizes) → k < length sizes → sum sizes ≡ total
+    → at + get_or sizes k 0 ≤ total
+place_within sizes k at total place below all =
+    omega (arith, all, next_place sizes k at place below, sum_by-take-drop (λ x. x) sizes (k + 1))
+
+-- what is cut at its place is the walk
+pub walk_cut : (sizes vertices : List ℕ) (k at : ℕ) → at ≡ sum (take k sizes)
+    → take (at + get_or sizes k 0 - at) (drop at vertices) ≡ walk_at sizes vertices k
+walk_cut sizes vertices k at place =
+    let size : at + get_or sizes k 0 - at ≡ get_or sizes k 0 = omega arith in
     ap₂ (λ (n a : ℕ). take n (drop a vertices)) size place
 
-pub second_of_pair : (sizes vertices : List ℕ) (k at : ℕ) → at ≡ sum (take (2 * k) sizes) → 2 * k < length sizes
-    → take (at + get_or sizes (2 * k) 0 + get_or sizes (2 * k + 1) 0 - (at + get_or sizes (2 * k) 0))
-    (drop (at + get_or sizes (2 * k) 0) vertices)
-    ≡ walk_at sizes vertices (2 * k + 1)
-second_of_pair sizes vertices k at place below =
-    let size : at + get_or sizes (2 * k) 0 + get_or sizes (2 * k + 1) 0 - (at + get_or sizes (2 * k) 0) ≡ get_or sizes (2 * k + 1) 0 =
-    omega arith in
-    let behind : at + get_or sizes (2 * k) 0 ≡ sum (take (2 * k + 1) sizes) = omega (arith, place, next_place sizes (2 * k) below) in
-    ap₂ (λ (n a : ℕ). take n (drop a vertices)) size behind
-
--- where the next pair starts, which is within the vertices
+-- where the next pair starts
 pub pair_end : (sizes : List ℕ) (k at : ℕ) → at ≡ sum (take (2 * k) sizes) → 2 * k + 1 < length sizes
     → at + get_or sizes (2 * k) 0 + get_or sizes (2 * k + 1) 0 ≡ sum (take (2 * (k + 1)) sizes)
 pair_end sizes k at place below =
-    let two : 2 * (k + 1) ≡ 2 * k + 1 + 1 = omega arith in
-    let first : sum (take (2 * k + 1) sizes) ≡ sum (take (2 * k) sizes) + get_or sizes (2 * k) 0 =
-    next_place sizes (2 * k) (omega (arith, below)) in
-    let second : sum (take (2 * k + 1 + 1) sizes) ≡ sum (take (2 * k + 1) sizes) + get_or sizes (2 * k + 1) 0 =
-    next_place sizes (2 * k + 1) below in
-    omega (arith, place, first, second, ap (λ (n : ℕ). sum (take n sizes)) two)
-
-pub within : (sizes : List ℕ) (k at total : ℕ) → at ≡ sum (take (2 * k) sizes) → 2 * k + 1 < length sizes → sum sizes ≡ total
-    → at + get_or sizes (2 * k) 0 + get_or sizes (2 * k + 1) 0 ≤ total
-within sizes k at total place below all =
-    omega (arith, all, pair_end sizes k at place below, sum_by-take-drop (λ x. x) sizes (2 * (k + 1)))
+    let two : 2 * k + 1 + 1 ≡ 2 * (k + 1) = omega arith in
+    next_place sizes (2 * k + 1) (at + get_or sizes (2 * k) 0) (next_place sizes (2 * k) at place (omega (arith, below))) below
+    ∙ ap (λ (n : ℕ). sum (take n sizes)) two
 
 -- what holds of each entry at its place still does with one entry more
 one_more : {X : Type 0} (Holds : ℕ → X → Type 0) (xs : List X) (k : ℕ) (x : X) → length xs ≡ k
@@ -142,13 +122,15 @@ one_more Holds xs k x many so_far is j none below =
           subst (Holds j) found (subst (λ (n : ℕ). Holds n x) there is))
     ]
 
--- a pair more
-pub more_slices : (sizes vertices : List ℕ) (pairs next : List PairSlices) (k : ℕ) (pair : PairSlices) → next ≡ pairs ++ pair ∷ []
-    → length pairs ≡ k → AreSlices sizes vertices pairs → IsPairAt sizes vertices k pair → AreSlices sizes vertices next
-more_slices sizes vertices pairs next k pair grown each slices is =
-    subst (AreSlices sizes vertices) (sym grown) (one_more (IsPairAt sizes vertices) pairs k pair each slices is)
-
 -- ---- the answers on pairs
+
+-- where words decide, the answer is whether they are one
+pub words_answer : (mesh : FaceList) (IsWord : List ℕ → Word → Type 0) (first second : List ℕ) (one other : Word)
+    (answer : deciding.Answer) → DoDecide mesh IsWord → AreWalkPair mesh first second → IsWord first one → IsWord second other
+    → ((answer ≡ Homotopic) ↔ (one ≡ other)) → IsFoundOn mesh first second (Some answer)
+words_answer mesh IsWord first second one other answer decide pair here there is =
+    let told : moves.Homotopic mesh first second ↔ (one ≡ other) = decide first second one other pair here there in
+    (pair, ((λ e. told.1 (is.0 e)), (λ leads. is.1 (told.0 leads))))
 
 -- what is found of two walks is found of their vertices, of which there are not too many
 found_few : (mesh : FaceList) (first second : List ℕ) (found : Option deciding.Answer)
@@ -172,11 +154,23 @@ told_of_vertices mesh first second one other found e f few told =
 abbrev pub IsAnswerAt : FaceList → (sizes vertices : List ℕ) → ℕ → PairAnswer → Type 0
 IsAnswerAt mesh sizes vertices k answer = IsAnswer mesh (walk_at sizes vertices (2 * k)) (walk_at sizes vertices (2 * k + 1)) answer
 
-pub answered_at : (mesh same : FaceList) (sizes vertices : List ℕ) (pairs : List PairSlices) (k : ℕ) (two : PairSlices)
-    (answer : PairAnswer) → AreSlices sizes vertices pairs → k < length pairs → two ≡ get_or pairs k two → mesh ≡ same
-    → IsAnswer mesh two.first.now two.second.now answer → IsAnswerAt same sizes vertices k answer
-answered_at mesh same sizes vertices pairs k two answer slices l is e told =
-    let here : IsPairAt sizes vertices k two = subst (IsPairAt sizes vertices k) (sym is) (slices k two l) in
+-- a pair more
+pub more_answers : (mesh same : FaceList) (sizes vertices : List ℕ) (answers next : List PairAnswer) (k at : ℕ) (answer : PairAnswer)
+    → next ≡ answers ++ answer ∷ [] → length answers ≡ k → at ≡ sum (take (2 * k) sizes) → 2 * k + 1 < length sizes → mesh ≡ same
+    → IsAnswer mesh (take (at + get_or sizes (2 * k) 0 - at) (drop at vertices))
+    (take (at + get_or sizes (2 * k) 0 + get_or sizes (2 * k + 1) 0 - (at + get_or sizes (2 * k) 0))
+    (drop (at + get_or sizes (2 * k) 0) vertices)) answer
+    → ((j : ℕ) (none : PairAnswer) → j < length answers → IsAnswerAt same sizes vertices j (get_or answers j none))
+    → (j : ℕ) (none : PairAnswer) → j < length next → IsAnswerAt same sizes vertices j (get_or next j none)
+more_answers mesh same sizes vertices answers next k at answer grown each place below e told so_far =
+    let middle : at + get_or sizes (2 * k) 0 ≡ sum (take (2 * k + 1) sizes) = next_place sizes (2 * k) at place (omega (arith, below)) in
+    let second : List ℕ =
+    take (at + get_or sizes (2 * k) 0 + get_or sizes (2 * k + 1) 0 - (at + get_or sizes (2 * k) 0))
+    (drop (at + get_or sizes (2 * k) 0) vertices) in
+    let is : IsAnswerAt same sizes vertices k answer =
     subst (λ (m : FaceList). IsAnswerAt m sizes vertices k answer) e
-    (subst (λ (w : List ℕ). IsAnswer mesh w (walk_at sizes vertices (2 * k + 1)) answer) here.first
-    (subst (λ (w : List ℕ). IsAnswer mesh two.first.now w answer) here.second told))
+    (subst (λ (w : List ℕ). IsAnswer mesh (walk_at sizes vertices (2 * k)) w answer)
+    (walk_cut sizes vertices (2 * k + 1) (at + get_or sizes (2 * k) 0) middle)
+    (subst (λ (w : List ℕ). IsAnswer mesh w second answer) (walk_cut sizes vertices (2 * k) at place) told)) in
+    subst (λ (l : List PairAnswer). (j : ℕ) (none : PairAnswer) → j < length l → IsAnswerAt same sizes vertices j (get_or l j none))
+    (sym grown) (one_more (IsAnswerAt same sizes vertices) answers k answer each so_far is)

@@ -8,6 +8,11 @@ use Rattle.homotopy_arrays.specs.declared.decide.PairAnswer.{PairAnswer}
 use Rattle.homotopy_arrays.specs.declared.fault.Fault.{Fault}
 use Rattle.homotopy_arrays.specs.declared.fault.Fault.TheVariants.{WalkCount}
 
+-- the mesh is a surface, and is the one that is kept
+pub record IsKept (mesh kept : FaceList) : Type 0 where
+  pub surface : IsOrientableSurface mesh
+  pub same : kept ≡ mesh
+
 -- the mesh is a surface, and each pair has its answer
 pub record AreDecided (walk_sizes walk_vertices : List ℕ) (mesh : FaceList) (given : List PairAnswer) : Type 0 where
   pub surface : IsOrientableSurface mesh

@@ -4,6 +4,7 @@ use Rattle.surf_model.specs.FaceLists.{FaceList}
 use Rattle.surf_model.specs.declared.moves.Move.{Move}
 use Rattle.labellings.specs.DenialVerdicts.{IsVerdict}
 use Rattle.move_checker.specs.Verdicts.{verdict_of}
+use Rattle.move_checker.specs.declared.judge.Verdict.{Verdict}
 use Rattle.walk_files.specs.declared.fault.CertFault.{CertFault}
 use Rattle.walk_files.specs.declared.fault.CertFault.TheVariants as certificates
 use Rattle.commands.specs.Inputs.{certificate_of}
@@ -28,6 +29,11 @@ IsJudgement mesh first second (shown.Moves list) (Moves verdict) = verdict ≡ v
 IsJudgement mesh first second (shown.Moves list) (Denial verdict) = ⊥
 IsJudgement mesh first second (shown.Denial denial) (Moves verdict) = ⊥
 IsJudgement mesh first second (shown.Denial denial) (Denial verdict) = IsVerdict mesh first second denial verdict
+
+-- moves were read, and have this verdict under a peak
+abbrev pub IsVerdictOnMoves : FaceList → (first second : List ℕ) → (peak : ℕ) → Result (List Move) CertFault → Verdict → Type 0
+IsVerdictOnMoves mesh first second peak read verdict =
+    (moves : List Move) × (read ≡ Ok moves) × (verdict ≡ verdict_of mesh first second (record { moves = moves; peak = peak }))
 
 -- the bytes spell a certificate that is judged so
 abbrev pub JudgesSpelt : FaceList → (first second certificate : List ℕ) → Judgement → Type 0

@@ -1,11 +1,13 @@
 //! Two walks that lie in arrays.
-ghost use Rattle.std.specs.Prelude.{◌≡◌, ◌≤◌, ◌<◌, ◌*◌, length, IfOk, IsTrue};
+ghost use Rattle.std.specs.Prelude.{◌≡◌, ◌≤◌, ◌<◌, length, sum, IfOk, Some};
+ghost use Rattle.component_deciding.specs.WordFinders.{mesh_of_finder};
 ghost use Rattle.surf_model.specs.FaceLists.{FaceList};
 ghost use Rattle.surf_model.specs.Edges.{IsTableOf};
-ghost use Rattle.homotopy_arrays.specs.CheckedPairs.{AreSlices, IsChecked};
-ghost use Rattle.homotopy_arrays.specs.Pairs.{are_pairs, length_fault};
+ghost use Rattle.homotopy_arrays.specs.CheckedPairs.{IsChecked};
+ghost use Rattle.homotopy_arrays.specs.Pairs.{AreWalks, are_pairs, length_fault, walk_at, walks_fault};
 
 use crate::mesh::add_up_to;
+use component_deciding::WordFinder;
 use std::alloc::{AllocError, Global};
 use surf_model::{Sides, VertexName, Walk};
 use walk_files::{PairFault, WalkList, check_pair};
@@ -33,13 +35,6 @@ pub(crate) enum Checked {
     Faulty(WalkFault),
 }
 
-/// The two walks of a pair as they lie in an array.
-#[derive(Clone, Copy)]
-pub(crate) struct PairSlices<'a> {
-    pub(crate) first: &'a [u32],
-    pub(crate) second: &'a [u32],
-}
-
 /// Compares two walks with the mesh that has this table.
 pub(crate) fn check_walks(
     alloc: Global,
@@ -61,6 +56,22 @@ pub(crate) fn check_walks(
     match check_pair(sides, &pair) {
         Ok(()) => Ok(Checked::Pair(pair)),
         Err(fault) => Ok(Checked::Faulty(WalkFault::Pair(fault))),
+    }
+}
+
+/// What is first wrong with two lists that are no two walks of a finder's surface with common ends.
+pub(crate) fn fault_of(
+    alloc: Global,
+    finder: &WordFinder,
+    first: &[u32],
+    second: &[u32],
+) -> Result<WalkFault, AllocError>
+    requires { AreWalks (mesh_of_finder finder.now) first.now second.now → ⊥ }
+    ensures { IfOk result (λ fault. walks_fault (mesh_of_finder finder.now) first.now second.now ≡ Some fault) }
+{
+    match check_walks(alloc, finder.sides(), first, second)? {
+        Checked::Faulty(fault) => Ok(fault),
+        Checked::Pair(_) => unreachable!(),
     }
 }
 
@@ -97,26 +108,16 @@ pub(crate) fn are_pairs(sizes: &[u32], vertices: &[u32]) -> bool
     add_up_to(sizes, vertices.len()) && sizes.len() % 2 == 0
 }
 
-/// The two walks of each pair.
-pub(crate) fn slices_of_pairs<'a>(
-    alloc: Global,
-    sizes: &[u32],
-    vertices: &'a [u32],
-) -> Result<Vec<PairSlices<'a>>, AllocError>
-    requires { IsTrue (are_pairs sizes.now vertices.now) }
-    ensures each { IfOk result (λ pairs. 2 * length pairs.items ≡ length sizes.now) }
-    ensures walks { IfOk result (λ pairs. AreSlices sizes.now vertices.now pairs.items) }
+/// The vertices of the walk at a place.
+pub(crate) fn slice_at<'a>(sizes: &[u32], vertices: &'a [u32], place: usize) -> &'a [u32]
+    requires sizes { sum sizes.now ≡ length vertices.now }
+    requires place { place < length sizes.now }
+    ensures { result.now ≡ walk_at sizes.now vertices.now place }
 {
-    let count = sizes.len() / 2;
-    let mut pairs = Vec::with_capacity(alloc, count)?;
     let mut at = 0;
-    for pair in 0..count {
-        let middle = at + sizes[2 * pair] as usize;
-        let end = middle + sizes[2 * pair + 1] as usize;
-        let first = &vertices[at..middle];
-        let second = &vertices[middle..end];
-        pairs.push(PairSlices { first, second })?;
-        at = end;
+    for before in 0..place {
+        at += sizes[before] as usize;
     }
-    Ok(pairs)
+    let end = at + sizes[place] as usize;
+    &vertices[at..end]
 }

@@ -1,9 +1,10 @@
 //! What comes of certificates that lie in bytes.
-ghost use Rattle.std.specs.Prelude.{◌≡◌, ◌≤◌, Ok, MatchResult, IsTrue, length};
+ghost use Rattle.std.specs.Prelude.{◌≡◌, ◌^◌, ◌<◌, ◌≤◌, None, MatchResult, IsTrue, length};
 ghost use Rattle.surf_model.specs.Edges.{IsTableOf};
 ghost use Rattle.surf_model.specs.Walks.{IsWalk};
-ghost use Rattle.walk_files.specs.Readers.{is_list, moves_left};
-ghost use Rattle.homotopy_arrays.specs.Judgements.{IsFaultOfMoves, IsFaultOfSpelling, IsFaultOfText, IsVerifyFault, Judges, JudgesSpelt, JudgesText, JudgesWalks, IsFaultOfWalks};
+ghost use Rattle.walk_files.specs.Readers.{count_in, is_list, moves_left};
+ghost use Rattle.walk_files.specs.declared.limits.TheConstants.{MOST_PEAK};
+ghost use Rattle.homotopy_arrays.specs.Judgements.{IsFaultOfMoves, IsFaultOfSpelling, IsFaultOfText, IsVerdictOnMoves, IsVerifyFault, Judges, JudgesSpelt, JudgesText, JudgesWalks, IsFaultOfWalks};
 ghost use Rattle.homotopy_arrays.specs.MeshArrays.{mesh_in};
 
 use crate::fault::Fault;
@@ -11,9 +12,10 @@ use crate::mesh::{MeshArrays, mesh_of_arrays};
 use crate::pair::{Checked, WalkFault, check_walks};
 use commands::MOST_BYTES;
 use labellings::{DenialVerdict, check_denial};
-use move_checker::{Verdict, check_moves};
+use move_checker::Verdict;
 use std::alloc::{AllocError, Global};
-use surf_model::{Faces, MoveList, Sides, Walk};
+use surf_model::{Faces, Sides};
+use verify_commands::progress::{Pair, Progress};
 use walk_files::{CertFault, CertHead, CertReader};
 
 /// Why nothing comes of a certificate.
@@ -78,15 +80,6 @@ struct Tabled<'a> {
     sides: &'a Sides,
 }
 
-/// Two walks of a mesh.
-#[derive(Clone, Copy)]
-struct Compared<'a> {
-    faces: &'a Faces,
-    sides: &'a Sides,
-    first: &'a Walk,
-    second: &'a Walk,
-}
-
 /// What comes of the certificate that the bytes spell, between two walks of the mesh that the arrays are, which need be no surface.
 pub fn verify_arrays(
     alloc: Global,
@@ -141,20 +134,20 @@ fn verify_walks(
 {
     match check_walks(alloc, on.sides, first, second)? {
         Checked::Pair(walks) => {
-            let compared = Compared {
+            let pair = Pair {
                 faces: on.faces,
                 sides: on.sides,
                 first: walks.at(0),
                 second: walks.at(1),
             };
-            judge(alloc, &compared, certificate)
+            judge(alloc, &pair, certificate)
         }
         Checked::Faulty(fault) => Err(VerifyFault::Walks(fault)),
     }
 }
 
 /// What comes of the certificate that the bytes spell.
-fn judge(alloc: Global, on: &Compared<'_>, certificate: &[u8]) -> Result<Judgement, VerifyFault>
+fn judge(alloc: Global, on: &Pair<'_>, certificate: &[u8]) -> Result<Judgement, VerifyFault>
     requires table { IsTableOf on.now.faces.now on.now.sides.now }
     requires first { IsWalk on.now.faces.now on.now.first.now }
     requires second { IsWalk on.now.faces.now on.now.second.now }
@@ -168,11 +161,7 @@ fn judge(alloc: Global, on: &Compared<'_>, certificate: &[u8]) -> Result<Judgeme
 }
 
 /// What comes of the certificate that the bytes spell, which are no more than are read.
-fn judge_text(
-    alloc: Global,
-    on: &Compared<'_>,
-    certificate: &[u8],
-) -> Result<Judgement, VerifyFault>
+fn judge_text(alloc: Global, on: &Pair<'_>, certificate: &[u8]) -> Result<Judgement, VerifyFault>
     requires table { IsTableOf on.now.faces.now on.now.sides.now }
     requires first { IsWalk on.now.faces.now on.now.first.now }
     requires second { IsWalk on.now.faces.now on.now.second.now }
@@ -183,8 +172,7 @@ fn judge_text(
     let mut reader = CertReader::start(certificate)?;
     match reader.head() {
         CertHead::Moves { peak, .. } => {
-            let list = read_moves(alloc, &mut reader, peak)?;
-            let verdict = check_moves(alloc, on.faces, on.sides, on.first, on.second, &list)?;
+            let verdict = judge_moves(alloc, on, reader, peak)?;
             Ok(Judgement::Moves(verdict))
         }
         CertHead::Labels { .. } => {
@@ -195,20 +183,27 @@ fn judge_text(
     }
 }
 
-/// The moves that a reader has still to give, with this peak.
-fn read_moves(
+/// The verdict on the moves that a reader has to give, under this peak. They are judged while they are read, and none is kept. Behind a
+/// move that is refused the text is read on to its end, as a line that is no move is refused before.
+fn judge_moves(
     alloc: Global,
-    reader: &mut CertReader<'_>,
+    on: &Pair<'_>,
+    mut reader: CertReader<'_>,
     peak: u32,
-) -> Result<MoveList, VerifyFault>
-    requires { IsTrue (is_list reader.old) }
-    ensures { MatchResult result (λ list. (moves_left reader.old ≡ Ok list.moves) × (list.peak ≡ peak))
-        (IsFaultOfMoves (moves_left reader.old)) }
+) -> Result<Verdict, VerifyFault>
+    requires table { IsTableOf on.now.faces.now on.now.sides.now }
+    requires list { IsTrue (is_list reader) }
+    requires fresh { (reader.given ≡ 0) × (reader.refusal ≡ None) }
+    requires peak { peak ≤ MOST_PEAK }
+    requires count { count_in reader.head < 2 ^ 64 }
+    ensures { MatchResult result (IsVerdictOnMoves on.now.faces.now on.now.first.now on.now.second.now peak (moves_left reader.entry))
+        (IsFaultOfMoves (moves_left reader.entry)) }
 {
-    let mut list = MoveList::new(alloc, peak);
+    let mut progress = Progress::start(alloc, on.first, peak)?;
+    let mut done = 0;
     'moves: while let Some(mv) = reader.next_move()? {
-        // The peak is declared already.
-        list.push(mv, 0)?;
+        progress.step(on, done, mv);
+        done += 1;
     }
-    Ok(list)
+    Ok(progress.verdict(on.second))
 }

@@ -1,16 +1,13 @@
 -- What is told of a fault is no answer.
-use Rattle.std.proofs.Common.{◌≡◌, ◌≢◌, ◌<◌, ℕ, true, false, sym, ◌∙◌, arith}
-use Rattle.walk_files.specs.declared.fault.CertFault.TheVariants as certificates
-use Rattle.walk_files.specs.declared.fault.CertFault.{CertFault}
-use Rattle.walk_files.specs.declared.pair.PairFault.TheVariants.{NotTwo, NoVertex, NoEdge, EndsDiffer}
-use Rattle.commands.specs.declared.limits.OverLimit.TheVariants as limits
-use Rattle.homotopy_arrays.specs.declared.certify.CertifyFault.{CertifyFault}
-use Rattle.homotopy_arrays.specs.declared.certify.CertifyFault.TheVariants as certify
-use Rattle.homotopy_arrays.specs.declared.fault.Fault.{Fault}
-use Rattle.homotopy_arrays.specs.declared.fault.Fault.TheVariants as faults
+use Rattle.homotopy_c.proofs.Common.{CertifyFault, Fault, VerifyFault, ◌≡◌, ◌≢◌, ◌<◌, ℕ, true, false, sym, ◌∙◌, arith}
 use Rattle.homotopy_arrays.specs.declared.pair.WalkFault.{WalkFault}
 use Rattle.homotopy_arrays.specs.declared.pair.WalkFault.TheVariants.{Empty, Long, Pair}
-use Rattle.homotopy_arrays.specs.declared.verify.VerifyFault.{VerifyFault}
+use Rattle.walk_files.specs.declared.fault.CertFault.{CertFault}
+use Rattle.walk_files.specs.declared.pair.PairFault.TheVariants.{NotTwo, NoVertex, NoEdge, EndsDiffer}
+use Rattle.walk_files.specs.declared.fault.CertFault.TheVariants as certificates
+use Rattle.commands.specs.declared.limits.OverLimit.TheVariants as limits
+use Rattle.homotopy_arrays.specs.declared.certify.CertifyFault.TheVariants as certify
+use Rattle.homotopy_arrays.specs.declared.fault.Fault.TheVariants as faults
 use Rattle.homotopy_arrays.specs.declared.verify.VerifyFault.TheVariants as verify
 use Rattle.homotopy_c.specs.Certified.{told_certify}
 use Rattle.homotopy_c.specs.Judged.{told_certificate, told_verify}

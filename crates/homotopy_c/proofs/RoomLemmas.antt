@@ -1,7 +1,6 @@
 -- Writing in front of an array.
-use Rattle.std.proofs.Common.{◌≡◌, ℕ, ◌+◌, ◌<◌, List, [], ◌∷◌, ◌++◌, length, take, drop, get_or, set, append_assoc, length-take-le, sym, ap, ◌∙◌, arith}
-use Rattle.std.specs.Prelude.{map}
-use Rattle.std.proofs.lemmas.List.{drop_more, length-map, map-append, set_at, take_more}
+use Rattle.homotopy_c.proofs.Common.{◌≡◌, ℕ, ◌+◌, ◌<◌, List, [], ◌∷◌, ◌++◌, length, take, get_or, set, append_assoc, length-take-le, sym, ap, ◌∙◌, arith, drop_more, length-map, map-append, set_at, take_more, map}
+use Rattle.std.proofs.Common.{drop}
 
 -- one item more stands in front
 pub one_put : {X : Type 0} (f : X → ℕ) (items : List X) (old room : List ℕ) (k y : ℕ) (d : X) → k < length items → k < length old

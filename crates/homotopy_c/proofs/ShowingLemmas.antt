@@ -1,38 +1,33 @@
 -- What is told of certificates, that are written and that are judged, and what it means.
-use Rattle.std.proofs.Common.{◌≡◌, ◌≢◌, ◌⊎◌, inl, inr, ℕ, ◌^◌, ◌<◌, ◌≤◌, List, ◌++◌, length, drop, get_or, take, refl, sym, ap, ◌∙◌, subst, arith}
-use Rattle.std.specs.Prelude.{◌↔◌, Result, Ok, Err, MatchResult}
-use Rattle.std.proofs.Math.Seq.{take-append_seam}
-use Rattle.std.proofs.lemmas.Bool.{cases_lt}
-use Rattle.surf_model.specs.FaceLists.{FaceList, IsFaceList, HasFileSize}
-use Rattle.surf_model.specs.Moves as moves
-use Rattle.surf_model.specs.Moves.{PeakedMoves}
-use Rattle.labellings.specs.DenialVerdicts.{IsVerdict}
-use Rattle.labellings.specs.declared.fault.LabelFault.{LabelFault}
-use Rattle.labellings.specs.declared.fault.LabelFault.TheVariants as labels
-use Rattle.labellings.specs.declared.verdict.DenialVerdict.{DenialVerdict}
-use Rattle.labellings.specs.declared.verdict.DenialVerdict.TheVariants as denials
-use Rattle.labellings.proofs.VerdictLemmas.{one_verdict}
-use Rattle.move_checker.specs.Verdicts.{LeadsWithin, verdict_of}
-use Rattle.move_checker.specs.declared.fault.MoveFault.{MoveFault}
-use Rattle.move_checker.specs.declared.fault.MoveFault.TheVariants.{Place, NoEdge, NotSpur, NotOnFace, OverPeak}
-use Rattle.move_checker.specs.declared.judge.Verdict.{Verdict}
-use Rattle.move_checker.specs.declared.judge.Verdict.TheVariants as verdicts
-use Rattle.move_checker.proofs.Judgement.{accepted_exactly}
-use Rattle.surf_model.specs.declared.decisions.Answer.TheVariants as decisions
+use Rattle.homotopy_c.proofs.Common.{AreWalks, CertifyFault, VerifyFault, ◌≡◌, ◌≢◌, ◌⊎◌, inl, inr, ℕ, ◌^◌, ◌<◌, ◌≤◌, List, ◌++◌, length, get_or, take, refl, sym, ap, ◌∙◌, subst, arith, cases_lt, Result, Ok, Err, MatchResult, FaceList, IsFaceList, HasFileSize, IsOrientableSurface}
 use Rattle.commands.specs.Certificates.{Convinces, certificate_text, decision_of}
-use Rattle.surf_model.specs.OrientableSurfaces.{IsOrientableSurface}
 use Rattle.commands.specs.Inputs.{SpellsCertificate, certificate_of}
 use Rattle.commands.specs.declared.certificate.Certificate.{Certificate}
 use Rattle.commands.specs.declared.certificate.Certificate.TheVariants.{Moves, Denial}
 use Rattle.commands.specs.declared.inputs.TheConstants.{MOST_BYTES}
-use Rattle.verify_commands.proofs.Accepting.{spelled}
 use Rattle.homotopy_arrays.specs.Certifications.{Certifies, IsCertified, IsCertifyFault}
 use Rattle.homotopy_arrays.specs.Judgements.{IsFaultOfSpelling, IsFaultOfText, IsFaultOfWalks, IsJudgement, IsVerifyFault, Judges, JudgesWalks, no_memory}
-use Rattle.homotopy_arrays.specs.Pairs.{AreWalks}
-use Rattle.homotopy_arrays.specs.declared.certify.CertifyFault.{CertifyFault}
 use Rattle.homotopy_arrays.specs.declared.verify.Judgement.{Judgement}
+use Rattle.labellings.proofs.VerdictLemmas.{one_verdict}
+use Rattle.labellings.specs.DenialVerdicts.{IsVerdict}
+use Rattle.labellings.specs.declared.fault.LabelFault.{LabelFault}
+use Rattle.labellings.specs.declared.verdict.DenialVerdict.{DenialVerdict}
+use Rattle.move_checker.proofs.Judgement.{accepted_exactly}
+use Rattle.move_checker.specs.Verdicts.{LeadsWithin, verdict_of}
+use Rattle.move_checker.specs.declared.fault.MoveFault.{MoveFault}
+use Rattle.move_checker.specs.declared.fault.MoveFault.TheVariants.{Place, NoEdge, NotSpur, NotOnFace, OverPeak}
+use Rattle.move_checker.specs.declared.judge.Verdict.{Verdict}
+use Rattle.std.proofs.Common.{drop}
+use Rattle.std.proofs.Math.Seq.{take-append_seam}
+use Rattle.std.specs.Prelude.{◌↔◌}
+use Rattle.surf_model.specs.Moves.{PeakedMoves}
+use Rattle.verify_commands.proofs.Accepting.{spelled}
+use Rattle.surf_model.specs.Moves as moves
+use Rattle.labellings.specs.declared.fault.LabelFault.TheVariants as labels
+use Rattle.labellings.specs.declared.verdict.DenialVerdict.TheVariants as denials
+use Rattle.move_checker.specs.declared.judge.Verdict.TheVariants as verdicts
+use Rattle.surf_model.specs.declared.decisions.Answer.TheVariants as decisions
 use Rattle.homotopy_arrays.specs.declared.verify.Judgement.TheVariants as judgements
-use Rattle.homotopy_arrays.specs.declared.verify.VerifyFault.{VerifyFault}
 use Rattle.homotopy_c.specs.Certified.{IsCertifyCall, IsShownPut, TellsCertificate, code_of, told_certify}
 use Rattle.homotopy_c.specs.Judged.{IsVerifyCall, ended, judged, judged_denial, judged_labels, judged_moves, move_code, told_verify}
 use Rattle.homotopy_c.specs.Meanings.{IsAccepted, Shows, ShowsDifferent, ShowsHomotopic}

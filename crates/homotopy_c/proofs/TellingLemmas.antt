@@ -1,19 +1,12 @@
 -- What is told of surfaces and of pairs, and what it means.
-use Rattle.std.proofs.Common.{◌≡◌, ◌≢◌, ◌⊎◌, inl, inr, ℕ, ◌+◌, ◌*◌, ◌/◌, ◌<◌, ◌≤◌, List, ◌++◌, length, drop, get_or, map, refl, sym, ap, ◌∙◌, subst, arith}
-use Rattle.std.specs.Global.{Vec}
-use Rattle.std.specs.Prelude.{Result, Ok, Err}
-use Rattle.std.proofs.lemmas.Bool.{cases_lt}
-use Rattle.std.proofs.lemmas.List.{get_or_append_left, get_or-map, length-map}
-use Rattle.surf_model.specs.FaceLists.{FaceList}
-use Rattle.surf_model.specs.Moves as moves
-use Rattle.surf_model.specs.OrientableSurfaces.{IsOrientableSurface}
-use Rattle.homotopy_arrays.specs.Decisions.{AreDecided, IsDecideFault}
-use Rattle.homotopy_arrays.specs.Pairs.{AreWalks, IsAnswer, walk_at}
+use Rattle.homotopy_c.proofs.Common.{AreWalks, IsAnswer, walk_at, Homotopic, Different, Faulty, Fault, ◌≡◌, ◌≢◌, ◌⊎◌, inl, inr, ℕ, ◌+◌, ◌*◌, ◌/◌, ◌<◌, ◌≤◌, List, ◌++◌, length, get_or, refl, sym, ap, ◌∙◌, subst, arith, cases_lt, get_or_append_left, get_or-map, length-map, Vec, Option, Result, Ok, Err, FaceList, IsOrientableSurface}
+use Rattle.homotopy_arrays.specs.Decisions.{AreDecided, IsDecideFault, IsKept}
 use Rattle.homotopy_arrays.specs.Surfaces.{EndsOn, IsMeasured, IsSurfaceFault, OfMesh}
 use Rattle.homotopy_arrays.specs.declared.decide.PairAnswer.{PairAnswer}
-use Rattle.homotopy_arrays.specs.declared.decide.PairAnswer.TheVariants.{Homotopic, Different, Faulty}
-use Rattle.homotopy_arrays.specs.declared.fault.Fault.{Fault}
 use Rattle.homotopy_arrays.specs.declared.surface.Measured.{Measured}
+use Rattle.std.proofs.Common.{drop, map}
+use Rattle.surf_model.specs.Moves as moves
+use Rattle.homotopy_c.specs.Kept.{IsMeshDecideCall, IsMeshNewCall, TellsKept}
 use Rattle.homotopy_c.specs.Meanings.{DoesAnswer, DoesMeasure}
 use Rattle.homotopy_c.specs.Outcomes.{byte_of, done, told}
 use Rattle.homotopy_c.specs.Told.{AreDecisionsTold, IsDecideCall, IsPut, IsSurfaceTold, TellsDecisions, TellsSurface, in_front}
@@ -26,7 +19,7 @@ use Rattle.homotopy_c.proofs.CodeLemmas.{byte_code, fault_code}
 pub of_one : (mesh : FaceList) (Holds : FaceList → Type 0) → OfMesh (Ok mesh) Holds → Holds mesh
 of_one mesh Holds h = let same : h.mesh ≡ mesh = (let is = h.is in cc) in subst Holds same h.holds
 
-code_is : (outcome target : Outcome) → outcome ≡ target → outcome.code ≡ target.code
+pub code_is : (outcome target : Outcome) → outcome ≡ target → outcome.code ≡ target.code
 code_is outcome target e = ap (λ (o : Outcome). o.code) e
 
 -- ---- pairs
@@ -83,6 +76,29 @@ decide_means mesh sizes vertices old answers outcome h =
           ((λ e. absurd (omega (arith, e, code_is outcome _ short.1))), (λ _. short.0)))
       | inr room ↦ (let told_so = h.room room in decided mesh sizes vertices old answers outcome told_so.end told_so.right told_so.tells)
     ]
+
+-- ---- meshes that are kept
+
+pub kept_told : (read : Result FaceList Fault) (old held : Option FaceList) (made : Outcome) → IsMeshNewCall read old held made
+    → made.code ≡ codes.DONE → (sizes vertices before answers : List ℕ) (outcome : Outcome)
+    → IsMeshDecideCall held sizes vertices before answers outcome → IsDecideCall read sizes vertices before answers outcome
+kept_told read old held made h e sizes vertices before answers outcome asked = by_end h.end h.right h.tells
+  where
+    by_end : (end : Result FaceList Fault) → EndsOn read IsKept IsSurfaceFault end → TellsKept end old held made
+        → IsDecideCall read sizes vertices before answers outcome
+    by_end (Ok kept) of tells =
+        let same : read ≡ Ok kept = of.is ∙ ap (λ (m : FaceList). Ok m) (sym of.holds.same) in
+        subst (λ (r : Result FaceList Fault). IsDecideCall r sizes vertices before answers outcome) (sym same)
+        (subst (λ (o : Option FaceList). IsMeshDecideCall o sizes vertices before answers outcome) tells.0 asked)
+    by_end (Err fault) right tells = absurd (omega (arith, e, code_is made (told fault) tells.1, fault_code fault))
+
+pub kept_else_same : (read : Result FaceList Fault) (old held : Option FaceList) (made : Outcome) → IsMeshNewCall read old held made
+    → made.code ≢ codes.DONE → held ≡ old
+kept_else_same read old held made h differs = by_end h.end h.tells
+  where
+    by_end : (end : Result FaceList Fault) → TellsKept end old held made → held ≡ old
+    by_end (Ok kept) tells = absurd (differs (code_is made done tells.1))
+    by_end (Err fault) tells = tells.0
 
 -- ---- surfaces
 

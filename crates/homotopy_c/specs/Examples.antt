@@ -10,13 +10,14 @@ use Rattle.walk_files.specs.declared.fault.CertFault.TheVariants as texts
 use Rattle.walk_files.specs.declared.pair.PairFault.TheVariants.{NoVertex, NoEdge, EndsDiffer}
 use Rattle.commands.specs.declared.limits.OverLimit.TheVariants.{Sides, Darts}
 use Rattle.homotopy_arrays.specs.declared.certify.CertifyFault.TheVariants.{Over}
+use Rattle.homotopy_arrays.specs.declared.classes.NoClasses.TheVariants as none
 use Rattle.homotopy_arrays.specs.declared.decide.PairAnswer.TheVariants.{Homotopic, Different, Faulty}
 use Rattle.homotopy_arrays.specs.declared.fault.Fault.TheVariants as faults
 use Rattle.homotopy_arrays.specs.declared.pair.WalkFault.TheVariants.{Empty, Long, Pair}
 use Rattle.homotopy_arrays.specs.declared.verify.VerifyFault.TheVariants as unjudged
 use Rattle.homotopy_c.specs.Certified.{told_certify}
 use Rattle.homotopy_c.specs.Judged.{judged_moves, judged_labels, judged_denial, told_certificate, told_verify}
-use Rattle.homotopy_c.specs.Outcomes.{byte_of, coded, done, short_room, told, told_walks}
+use Rattle.homotopy_c.specs.Outcomes.{byte_of, coded, done, no_mesh, short_room, told, told_no_classes, told_walks}
 
 abbrev named : ℕ → VertexName
 named v = record { 0 = v }
@@ -28,10 +29,11 @@ face f = record { 0 = f }
 
 arrays :
     (done ≡ coded 0 0 0 0) × (short_room 9 ≡ coded 4 9 0 0) × (told faults.OutOfMemory ≡ coded 5 0 0 0)
-    × (told faults.ManyVertices ≡ coded 10 0 0 0) × (told faults.CornerCount ≡ coded 11 0 0 0) × (told faults.ManySides ≡ coded 12 0 0 0)
+    × (no_mesh ≡ coded 6 0 0 0) × (told faults.ManyVertices ≡ coded 10 0 0 0) × (told faults.CornerCount ≡ coded 11 0 0 0)
+    × (told faults.ManySides ≡ coded 12 0 0 0)
     × (told (faults.FewCorners (face 3)) ≡ coded 13 3 0 0) × (told (faults.NoVertex (face 3)) ≡ coded 14 3 0 0)
     × (told (faults.EqualNeighbours (face 3)) ≡ coded 15 3 0 0)
-arrays = (refl, refl, refl, refl, refl, refl, refl, refl, refl)
+arrays = (refl, refl, refl, refl, refl, refl, refl, refl, refl, refl)
 
 meshes :
     (told faults.NoFace ≡ coded 20 0 0 0) × (told (faults.EdgeSides (named 1) (named 2) 3) ≡ coded 21 1 2 3)
@@ -45,6 +47,12 @@ walks :
     × (told_walks (Pair (NoVertex 1 5)) ≡ coded 33 1 5 0) × (told_walks (Pair (NoEdge 2 0)) ≡ coded 34 2 0 0)
     × (told_walks (Pair (EndsDiffer true)) ≡ coded 35 0 0 0) × (told_walks (Pair (EndsDiffer false)) ≡ coded 36 0 0 0)
 walks = (refl, refl, refl, refl, refl, refl, refl)
+
+classes :
+    (told_no_classes none.Count ≡ coded 30 0 0 0) × (told_no_classes (none.Walk 6 (Empty 1)) ≡ coded 31 7 0 0)
+    × (told_no_classes (none.Walk 6 (Long 1)) ≡ coded 32 7 0 0) × (told_no_classes (none.Walk 6 (Pair (NoVertex 1 5))) ≡ coded 33 7 5 0)
+    × (told_no_classes (none.Walk 6 (Pair (NoEdge 1 0))) ≡ coded 34 7 0 0) × (told_no_classes none.OutOfMemory ≡ coded 5 0 0 0)
+classes = (refl, refl, refl, refl, refl, refl)
 
 bytes :
     (byte_of Homotopic ≡ 1) × (byte_of Different ≡ 2) × (byte_of (Faulty (Empty 2)) ≡ 31) × (byte_of (Faulty (Long 1)) ≡ 32)

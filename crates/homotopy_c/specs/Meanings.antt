@@ -29,11 +29,11 @@ are_distinct (code ∷ codes) = not (list_any (λ other. other == code) codes) &
 -- all of them, as homotopy.h lists them
 abbrev pub all_codes : List ℕ
 all_codes =
-    codes.DONE ∷ codes.HOMOTOPIC ∷ codes.DIFFERENT ∷ codes.ACCEPTED ∷ codes.SHORT_ROOM ∷ codes.NO_MEMORY ∷ codes.MANY_VERTICES
-    ∷ codes.CORNER_COUNT ∷ codes.MANY_SIDES ∷ codes.FEW_CORNERS ∷ codes.CORNER_RANGE ∷ codes.EQUAL_NEIGHBOURS ∷ codes.NO_FACE
-    ∷ codes.EDGE_SIDES ∷ codes.PINCHED ∷ codes.NOT_ORIENTABLE ∷ codes.WALK_COUNT ∷ codes.EMPTY_WALK ∷ codes.LONG_WALK ∷ codes.NO_VERTEX
-    ∷ codes.NO_EDGE ∷ codes.STARTS_DIFFER ∷ codes.ENDS_DIFFER ∷ codes.LONG_CERTIFICATE ∷ codes.NO_HEAD ∷ codes.BAD_LINE
-    ∷ codes.ENDED_EARLY ∷ codes.EXTRA_LINE ∷ codes.LARGE_PEAK ∷ codes.REJECTED_PEAK ∷ codes.REJECTED_MOVE_PLACE
+    codes.DONE ∷ codes.HOMOTOPIC ∷ codes.DIFFERENT ∷ codes.ACCEPTED ∷ codes.SHORT_ROOM ∷ codes.NO_MEMORY ∷ codes.NO_MESH
+    ∷ codes.MANY_VERTICES ∷ codes.CORNER_COUNT ∷ codes.MANY_SIDES ∷ codes.FEW_CORNERS ∷ codes.CORNER_RANGE ∷ codes.EQUAL_NEIGHBOURS
+    ∷ codes.NO_FACE ∷ codes.EDGE_SIDES ∷ codes.PINCHED ∷ codes.NOT_ORIENTABLE ∷ codes.WALK_COUNT ∷ codes.EMPTY_WALK ∷ codes.LONG_WALK
+    ∷ codes.NO_VERTEX ∷ codes.NO_EDGE ∷ codes.STARTS_DIFFER ∷ codes.ENDS_DIFFER ∷ codes.LONG_CERTIFICATE ∷ codes.NO_HEAD
+    ∷ codes.BAD_LINE ∷ codes.ENDED_EARLY ∷ codes.EXTRA_LINE ∷ codes.LARGE_PEAK ∷ codes.REJECTED_PEAK ∷ codes.REJECTED_MOVE_PLACE
     ∷ codes.REJECTED_MOVE_EDGE ∷ codes.REJECTED_MOVE_SPUR ∷ codes.REJECTED_MOVE_FACE ∷ codes.REJECTED_MOVE_PEAK ∷ codes.REJECTED_END
     ∷ codes.REJECTED_SHAPE ∷ codes.REJECTED_DEGREE ∷ codes.REJECTED_PLACE ∷ codes.REJECTED_EDGE ∷ codes.REJECTED_WORD
     ∷ codes.REJECTED_EQUAL ∷ codes.CERTIFY_SIDES ∷ codes.CERTIFY_DARTS ∷ []

@@ -1,6 +1,8 @@
 -- The codes of what is answered, and of what is wrong, with the numbers that belong to them.
-use Rattle.std.specs.Prelude.{ℕ, true, false, [], ◌∷◌}
+use Rattle.std.specs.Prelude.{ℕ, ◌+◌, true, false, [], ◌∷◌, slice_index}
 use Rattle.walk_files.specs.declared.pair.PairFault.TheVariants.{NotTwo, NoVertex, NoEdge, EndsDiffer}
+use Rattle.homotopy_arrays.specs.declared.classes.NoClasses.{NoClasses}
+use Rattle.homotopy_arrays.specs.declared.classes.NoClasses.TheVariants as none
 use Rattle.homotopy_arrays.specs.declared.decide.PairAnswer.{PairAnswer}
 use Rattle.homotopy_arrays.specs.declared.decide.PairAnswer.TheVariants.{Homotopic, Different, Faulty}
 use Rattle.homotopy_arrays.specs.declared.fault.Fault.{Fault}
@@ -20,6 +22,10 @@ done = coded codes.DONE 0 0 0
 -- the caller's array has too little room, and this length is wanted
 abbrev pub short_room : ℕ → Outcome
 short_room wanted = coded codes.SHORT_ROOM wanted 0 0
+
+-- the handle holds no mesh
+abbrev pub no_mesh : Outcome
+no_mesh = coded codes.NO_MESH 0 0 0
 
 -- what is wrong
 abbrev pub told : Fault → Outcome
@@ -55,6 +61,17 @@ told_walks (Pair (NoVertex walk place)) = coded codes.NO_VERTEX walk place 0
 told_walks (Pair (NoEdge walk place)) = coded codes.NO_EDGE walk place 0
 told_walks (Pair (EndsDiffer true)) = coded codes.STARTS_DIFFER 0 0 0
 told_walks (Pair (EndsDiffer false)) = coded codes.ENDS_DIFFER 0 0 0
+
+-- the same of the walk with this number
+abbrev pub told_walk : ℕ → WalkFault → Outcome
+told_walk number fault =
+    record { code = (told_walks fault).code; numbers = number ∷ slice_index (told_walks fault).numbers 1 ∷ 0 ∷ [] }
+
+-- why walks have no classes
+abbrev pub told_no_classes : NoClasses → Outcome
+told_no_classes none.Count = coded codes.WALK_COUNT 0 0 0
+told_no_classes (none.Walk place fault) = told_walk (place + 1) fault
+told_no_classes none.OutOfMemory = coded codes.NO_MEMORY 0 0 0
 
 -- the answer on a pair
 abbrev pub byte_of : PairAnswer → ℕ

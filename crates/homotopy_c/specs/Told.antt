@@ -1,13 +1,15 @@
 -- What calls write where their caller sees it.
-use Rattle.std.specs.Prelude.{◌≡◌, ℕ, ◌/◌, ◌<◌, ◌≤◌, List, ◌++◌, length, drop, map, Result, Ok, Err}
+use Rattle.std.specs.Prelude.{◌≡◌, ℕ, ◌/◌, ◌<◌, ◌≤◌, List, ◌++◌, length, drop, map, Result, Ok, Err, MatchResult}
 use Rattle.std.specs.Global.{Vec}
 use Rattle.surf_model.specs.FaceLists.{FaceList}
+use Rattle.homotopy_arrays.specs.Classes.{AreClassed, IsNoClassesIn}
 use Rattle.homotopy_arrays.specs.Decisions.{AreDecided, IsDecideFault}
 use Rattle.homotopy_arrays.specs.Surfaces.{EndsOn, IsMeasured, IsSurfaceFault}
+use Rattle.homotopy_arrays.specs.declared.classes.NoClasses.{NoClasses}
 use Rattle.homotopy_arrays.specs.declared.decide.PairAnswer.{PairAnswer}
 use Rattle.homotopy_arrays.specs.declared.fault.Fault.{Fault}
 use Rattle.homotopy_arrays.specs.declared.surface.Measured.{Measured}
-use Rattle.homotopy_c.specs.Outcomes.{byte_of, done, short_room, told}
+use Rattle.homotopy_c.specs.Outcomes.{byte_of, done, short_room, told, told_no_classes}
 use Rattle.homotopy_c.specs.declared.outcome.Outcome.{Outcome}
 use Rattle.homotopy_c.specs.declared.surface.SurfaceNumbers.{SurfaceNumbers}
 
@@ -63,3 +65,20 @@ pub record AreDecisionsTold (read : Result FaceList Fault) (sizes vertices old a
 pub record IsDecideCall (read : Result FaceList Fault) (sizes vertices old answers : List ℕ) (outcome : Outcome) : Type 0 where
   pub room : length sizes / 2 ≤ length old → AreDecisionsTold read sizes vertices old answers outcome
   pub short : length old < length sizes / 2 → (answers ≡ old) × (outcome ≡ short_room (length sizes / 2))
+
+-- ---- classes
+
+-- how the question ended is told: a number for each walk; or what is wrong, and nothing else is written
+abbrev pub TellsClasses : Result (Vec ℕ) NoClasses → (old classes : List ℕ) → Outcome → Type 0
+TellsClasses (Ok given) old classes outcome = (classes ≡ in_front given.items old) × (outcome ≡ done)
+TellsClasses (Err fault) old classes outcome = (classes ≡ old) × (outcome ≡ told_no_classes fault)
+
+pub record AreClassesTold (mesh : FaceList) (sizes vertices old classes : List ℕ) (outcome : Outcome) : Type 0 where
+  pub end : Result (Vec ℕ) NoClasses
+  pub right : MatchResult end (λ given. AreClassed mesh sizes vertices given.items) (IsNoClassesIn mesh sizes vertices)
+  pub tells : TellsClasses end old classes outcome
+
+-- where there is too little room for the numbers nothing is looked at, and the length that is wanted is told
+pub record IsClassesCall (mesh : FaceList) (sizes vertices old classes : List ℕ) (outcome : Outcome) : Type 0 where
+  pub room : length sizes ≤ length old → AreClassesTold mesh sizes vertices old classes outcome
+  pub short : length old < length sizes → (classes ≡ old) × (outcome ≡ short_room (length sizes))

@@ -18,6 +18,9 @@ pub const SHORT_ROOM: u8 = 4;
 /// Memory was wanting.
 pub const NO_MEMORY: u8 = 5;
 
+/// The handle holds no mesh.
+pub const NO_MESH: u8 = 6;
+
 /// There are more vertices than a mesh may have.
 pub const MANY_VERTICES: u8 = 10;
 

@@ -1,13 +1,13 @@
 //! Whether walks are homotopic, pair by pair.
-ghost use Rattle.std.specs.Prelude.{◌≡◌, ◌≤◌, length, map};
+ghost use Rattle.std.specs.Prelude.{◌≡◌, ◌≤◌, length, map, IfOk};
 ghost use Rattle.homotopy_arrays.specs.MeshArrays.{mesh_of};
 ghost use Rattle.homotopy_c.specs.Outcomes.{byte_of};
-ghost use Rattle.homotopy_c.specs.Told.{IsDecideCall, in_front};
+ghost use Rattle.homotopy_c.specs.Told.{IsDecideCall, TellsDecisions, in_front};
 
 use crate::codes;
 use crate::outcome::{Outcome, byte_of, coded, told};
 use crate::room::short_room;
-use homotopy_arrays::{MeshArrays, PairAnswer, decide_arrays};
+use homotopy_arrays::{Fault, MeshArrays, PairAnswer, decide_arrays};
 use std::alloc::Global;
 
 /// Whether the two walks of each pair are homotopic on the surface that the arrays are: a byte for each pair, which is the code of its
@@ -38,12 +38,23 @@ pub extern "C" fn homotopy_decide(
         sizes,
         corners,
     };
-    match decide_arrays(alloc, mesh, walk_sizes, walk_vertices) {
+    *outcome = put_decisions(
+        decide_arrays(alloc, mesh, walk_sizes, walk_vertices),
+        answers,
+    );
+}
+
+/// Writes the bytes of decisions in front of an array, or tells what is wrong.
+pub(crate) fn put_decisions(decided: Result<Vec<PairAnswer>, Fault>, room: &mut [u8]) -> Outcome
+    requires { IfOk decided (λ given. length given.items ≤ length room.old) }
+    ensures { TellsDecisions decided room.old room.new result }
+{
+    match decided {
         Ok(given) => {
-            put_answers(&given, answers);
-            *outcome = coded(codes::DONE, 0, 0, 0);
+            put_answers(&given, room);
+            coded(codes::DONE, 0, 0, 0)
         }
-        Err(fault) => *outcome = told(fault),
+        Err(fault) => told(fault),
     }
 }
 

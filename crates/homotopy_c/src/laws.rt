@@ -1,15 +1,20 @@
 //! What the calls tell, said of their definitions. A call of one of these functions does nothing; its contract is the law. Each of
-//! `homotopy_surface`, `homotopy_decide`, `homotopy_certify` and `homotopy_verify` ensures the record that its law takes as a premise;
-//! `Ok mesh` there says that the arrays are a mesh.
-ghost use Rattle.std.specs.Prelude.{◌≡◌, ◌≢◌, ◌⊎◌, ◌↔◌, ◌*◌, ◌+◌, ◌/◌, ◌<◌, ◌≤◌, ℕ, List, length, take, slice_index, IsTrue, Ok};
+//! `homotopy_surface`, `homotopy_decide`, `homotopy_mesh_new`, `homotopy_mesh_decide`, `homotopy_mesh_classes`, `homotopy_certify` and
+//! `homotopy_verify` ensures the record that its law takes as a premise; `Ok mesh` there says that the arrays are a mesh, and `Some mesh`
+//! that the handle holds it.
+ghost use Rattle.std.specs.Prelude.{◌≡◌, ◌≢◌, ◌⊎◌, ◌↔◌, ◌*◌, ◌+◌, ◌/◌, ◌<◌, ◌≤◌, ℕ, List, length, take, slice_index, IsTrue, Option, Some, Result, Ok};
 ghost use Rattle.surf_model.specs.FaceLists.{FaceList, IsFaceList, HasFileSize};
 ghost use Rattle.surf_model.specs.OrientableSurfaces.{IsOrientableSurface};
 ghost use Rattle.commands.specs.Inputs.{SpellsCertificate};
 ghost use Rattle.commands.specs.declared.certificate.Certificate.{Certificate};
 ghost use Rattle.commands.specs.declared.inputs.TheConstants.{MOST_BYTES};
+ghost use Rattle.walk_classes.specs.WalkClasses.{AreClasses, AreInOneClass};
+ghost use Rattle.homotopy_arrays.specs.Classes.{walks_in};
 ghost use Rattle.homotopy_arrays.specs.Pairs.{AreWalks, walk_at};
+ghost use Rattle.homotopy_arrays.specs.declared.fault.Fault.{Fault};
 ghost use Rattle.homotopy_c.specs.Certified.{IsCertifyCall};
 ghost use Rattle.homotopy_c.specs.Judged.{IsVerifyCall};
+ghost use Rattle.homotopy_c.specs.Kept.{IsMeshClassesCall, IsMeshDecideCall, IsMeshNewCall};
 ghost use Rattle.homotopy_c.specs.Meanings.{DoesAnswer, DoesMeasure, IsAccepted, ShowsDifferent, ShowsHomotopic, are_distinct, all_codes};
 ghost use Rattle.homotopy_c.specs.Told.{IsDecideCall, IsSurfaceTold};
 ghost use Rattle.homotopy_c.specs.declared.codes.TheConstants as codes;
@@ -40,6 +45,31 @@ pub fn decide_tells_what_is_homotopic()
         → DoesAnswer mesh (walk_at sizes vertices (2 * k)) (walk_at sizes vertices (2 * k + 1)) (slice_index answers k)) }
     ensures else_nothing { (mesh : FaceList) (sizes vertices old answers : List ℕ) (outcome : Outcome)
         → IsDecideCall (Ok mesh) sizes vertices old answers outcome → outcome.code ≢ codes.DONE → answers ≡ old }
+{}
+
+/// Of the mesh that a handle holds `homotopy_mesh_decide` tells what `homotopy_decide` tells of the arrays that `homotopy_mesh_new` was
+/// handed; where that call does not answer, the handle holds what it held.
+pub fn a_mesh_is_told_as_its_arrays()
+    ensures answers { (read : Result FaceList Fault) (old held : Option FaceList) (made : Outcome) → IsMeshNewCall read old held made
+        → made.code ≡ codes.DONE → (sizes vertices before answers : List ℕ) (outcome : Outcome)
+        → IsMeshDecideCall held sizes vertices before answers outcome → IsDecideCall read sizes vertices before answers outcome }
+    ensures else_same { (read : Result FaceList Fault) (old held : Option FaceList) (made : Outcome) → IsMeshNewCall read old held made
+        → made.code ≢ codes.DONE → held ≡ old }
+{}
+
+/// Of the mesh that a handle holds `homotopy_mesh_classes` writes a number for each walk, which are those of their classes: two are equal
+/// exactly where the walks have common ends and some list of moves leads from the one to the other. Where it does not answer, nothing is
+/// written.
+pub fn classes_tell_what_is_homotopic()
+    ensures answers { (mesh : FaceList) (sizes vertices old classes : List ℕ) (outcome : Outcome)
+        → IsMeshClassesCall (Some mesh) sizes vertices old classes outcome → outcome.code ≡ codes.DONE
+        → IsOrientableSurface mesh × AreClasses mesh (walks_in sizes vertices) (take (length sizes) classes) }
+    ensures alike { (mesh : FaceList) (sizes vertices old classes : List ℕ) (outcome : Outcome)
+        → IsMeshClassesCall (Some mesh) sizes vertices old classes outcome → outcome.code ≡ codes.DONE
+        → (i j : ℕ) → i < length sizes → j < length sizes → (slice_index classes i ≡ slice_index classes j)
+        ↔ AreInOneClass mesh (walk_at sizes vertices i) (walk_at sizes vertices j) }
+    ensures else_nothing { (held : Option FaceList) (sizes vertices old classes : List ℕ) (outcome : Outcome)
+        → IsMeshClassesCall held sizes vertices old classes outcome → outcome.code ≢ codes.DONE → classes ≡ old }
 {}
 
 /// `homotopy_certify` tells `HOMOTOPIC` where some list of moves leads from the first walk to the second, `DIFFERENT` where none does, and

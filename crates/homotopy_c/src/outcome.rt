@@ -1,6 +1,6 @@
 //! How a call ended, as C sees it.
 ghost use Rattle.std.specs.Prelude.{◌≡◌};
-ghost use Rattle.homotopy_c.specs.Outcomes.{byte_of, coded, told, told_walks, walk_code};
+ghost use Rattle.homotopy_c.specs.Outcomes.{byte_of, coded, told, told_walk, told_walks, walk_code};
 
 use crate::codes;
 use homotopy_arrays::{Fault, PairAnswer, WalkFault};
@@ -81,6 +81,17 @@ pub(crate) fn told_walks(fault: WalkFault) -> Outcome
         }
         WalkFault::Pair(PairFault::NotTwo { .. }) => coded(code, 0, 0, 0),
         WalkFault::Pair(PairFault::EndsDiffer { .. }) => coded(code, 0, 0, 0),
+    }
+}
+
+/// The same of the walk with this number.
+pub(crate) fn told_walk(number: u64, fault: WalkFault) -> Outcome
+    ensures { result ≡ told_walk number fault }
+{
+    let told = told_walks(fault);
+    Outcome {
+        code: told.code,
+        numbers: [number, told.numbers[1], 0],
     }
 }
 

@@ -6,14 +6,14 @@ ghost use Rattle.homotopy_c.specs.Told.{IsPut, in_front};
 use crate::codes;
 use crate::outcome::{Outcome, coded};
 
-/// Writes the numbers in front of an array, with this outcome; or tells what length is wanted, where there is too little room.
-pub(crate) fn put_numbers(numbers: &[u32], room: &mut [u32], put: Outcome) -> Outcome
-    ensures { IsPut numbers.now room.old room.new put result }
+/// Writes the items in front of an array, with this outcome; or tells what length is wanted, where there is too little room.
+pub(crate) fn put_items<T: Copy>(items: &[T], room: &mut [T], put: Outcome) -> Outcome
+    ensures { IsPut items.now room.old room.new put result }
 {
-    if numbers.len() > room.len() {
-        return short_room(numbers.len());
+    if items.len() > room.len() {
+        return short_room(items.len());
     }
-    room[..numbers.len()].copy_from_slice(numbers);
+    room[..items.len()].copy_from_slice(items);
     put
 }
 

@@ -5,7 +5,7 @@ ghost use Rattle.homotopy_c.specs.Told.{IsSurfaceTold, numbers_of};
 
 use crate::codes;
 use crate::outcome::{Outcome, coded, told};
-use crate::room::put_numbers;
+use crate::room::put_items;
 use homotopy_arrays::{Measured, MeshArrays, measure_arrays};
 use std::alloc::Global;
 
@@ -46,7 +46,7 @@ pub extern "C" fn homotopy_surface(
     match measure_arrays(alloc, mesh) {
         Ok(measured) => {
             *numbers = numbers_of(&measured);
-            *outcome = put_numbers(&measured.genera, genera, coded(codes::DONE, 0, 0, 0));
+            *outcome = put_items(&measured.genera, genera, coded(codes::DONE, 0, 0, 0));
         }
         Err(fault) => *outcome = told(fault),
     }

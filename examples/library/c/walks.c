@@ -28,6 +28,26 @@ int main(void) {
     if (outcome.code != HOMOTOPY_DONE) return 1;
     for (int pair = 0; pair < 3; pair++) puts(answers[pair] == HOMOTOPY_HOMOTOPIC ? "homotopic" : "different");
 
+    /* The mesh is kept, and asked of one pair after another. */
+    homotopy_mesh kept = HOMOTOPY_EMPTY_MESH;
+    homotopy_mesh_new(7, sizes, 14, corners, 42, &kept, &outcome);
+    if (outcome.code != HOMOTOPY_DONE) return 1;
+    const uint32_t *walks = walk_vertices;
+    for (int pair = 0; pair < 3; pair++) {
+        const size_t entries = walk_sizes[2 * pair] + walk_sizes[2 * pair + 1];
+        homotopy_mesh_decide(&kept, walk_sizes + 2 * pair, 2, walks, entries, answers, 1, &outcome);
+        if (outcome.code != HOMOTOPY_DONE) return 1;
+        printf("kept: %s\n", answers[0] == HOMOTOPY_HOMOTOPIC ? "homotopic" : "different");
+        walks += entries;
+    }
+
+    /* All six walks at once, sorted by their classes: each is told the first walk that it can be moved to. */
+    size_t classes[6];
+    homotopy_mesh_classes(&kept, walk_sizes, 6, walk_vertices, 42, classes, 6, &outcome);
+    if (outcome.code != HOMOTOPY_DONE) return 1;
+    for (int walk = 0; walk < 6; walk++) printf("walk %d: class %zu\n", walk, classes[walk]);
+    homotopy_mesh_free(&kept);
+
     /* A list of two moves leads from 0 1 3 to 0 2 3, each across a face; and no list does that ends early. */
     static const char moves[] = "MOVES 2 2\nf 0 0 0 + 2\nf 0 1 0 + 1\n", fewer[] = "MOVES 1 2\nf 0 0 0 + 2\n";
     homotopy_verify(7, sizes, 14, corners, 42, walk_vertices, 3, walk_vertices + 3, 3, (const uint8_t *)moves, sizeof moves - 1, &outcome);

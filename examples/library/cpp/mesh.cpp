@@ -42,6 +42,24 @@ int main() {
     for (const auto answer : homotopy::decide(mesh, {{both, other}, {long_way, ring}, {ring, {0}}, {{0, 1}, {0, 21, 1}}, {{0, 1}, {0}}}))
         std::cout << (answer == HOMOTOPY_HOMOTOPIC ? "homotopic" : answer == HOMOTOPY_DIFFERENT ? "different" : "no pair") << '\n';
 
+    // The same mesh, kept: a walk that is dragged is asked about again and again.
+    homotopy::KeptMesh kept(mesh);
+    for (std::uint32_t j = 0; j < 3; j++) {
+        homotopy::Walk dragged = {0};
+        for (std::uint32_t k = 1; k <= j; k++) dragged.push_back(at(0, k));
+        for (std::uint32_t i = 1; i <= around; i++) dragged.push_back(at(i, j));
+        for (std::uint32_t k = j; k > 0; k--) dragged.push_back(at(0, k - 1));
+        const bool homotopic = kept.decide({{long_way, dragged}})[0] == HOMOTOPY_HOMOTOPIC;
+        std::cout << "dragged by " << j << ": " << (homotopic ? "homotopic" : "not") << '\n';
+    }
+
+    // Loops at one point, sorted by their classes.
+    homotopy::Walk twice = ring;
+    twice.insert(twice.end(), ring.begin() + 1, ring.end());
+    std::cout << "classes";
+    for (const auto number : kept.classes({both, ring, other, long_way, {0, 1, 0}, {0}, twice})) std::cout << ' ' << number;
+    std::cout << '\n';
+
     const homotopy::Mesh tetrahedron{4, {3, 3, 3, 3}, {0, 1, 2, 0, 3, 1, 0, 2, 3, 1, 3, 2}};
     const auto shown = homotopy::certify(tetrahedron, {0, 1, 2}, {0, 2});
     const auto verdict = homotopy::verify(tetrahedron, {0, 1, 2}, {0, 2}, shown.text);

@@ -17,6 +17,13 @@ pairs = [(row + column[1:], column + row[1:]), (row, column), (row, [0]), ([0, 1
 for answer in homotopy.decide(GRID * GRID, faces, pairs):
     print(answer)
 
+# The torus is kept: a walk is dragged away from the row, and asked about where it is.
+with homotopy.Mesh(GRID * GRID, faces) as torus:
+    for y in range(3):
+        dragged = [at(0, k) for k in range(y)] + [at(x, y) for x in range(GRID + 1)] + [at(0, k) for k in reversed(range(y))]
+        print("dragged by", y, torus.decide([(row, dragged)])[0])
+    print("classes", torus.classes([row + column[1:], row, column, column + row[1:], row + row[-2::-1], [0], row + row[1:]]))
+
 # One face crossed, and the same face the other way.
 for certificate in (b"MOVES 1 2\nf 0 0 0 + 2\n", b"MOVES 1 2\nf 0 0 0 - 2\n"):
     verdict = homotopy.verify(GRID * GRID, faces, [0, 1, GRID + 1], [0, GRID, GRID + 1], certificate)

@@ -72,6 +72,34 @@ const Number *of(const std::vector<Number> &array) {
     throw Refused(outcome);
 }
 
+// Walks in two arrays, walk after walk.
+struct Listed {
+    void put(const Walk &walk) {
+        if (walk.size() > UINT32_MAX) throw std::length_error("a walk is too long");
+        sizes.push_back(static_cast<std::uint32_t>(walk.size()));
+        vertices.insert(vertices.end(), walk.begin(), walk.end());
+    }
+
+    std::vector<std::uint32_t> sizes, vertices;
+};
+
+// Pairs of walks, with room for their answers.
+struct Asked : Listed {
+    explicit Asked(const std::vector<std::pair<Walk, Walk>> &pairs) : answers(pairs.size() + 1) {
+        for (const auto &pair : pairs) put(pair.first), put(pair.second);
+    }
+
+    // What is answered of each pair, where the question is.
+    std::vector<Answer> told(const homotopy_outcome &outcome) const {
+        if (outcome.code != HOMOTOPY_DONE) refuse(outcome);
+        std::vector<Answer> each;
+        for (std::size_t pair = 0; pair < sizes.size() / 2; pair++) each.push_back(static_cast<Answer>(answers[pair]));
+        return each;
+    }
+
+    std::vector<std::uint8_t> answers;
+};
+
 }  // namespace detail
 
 inline Surface surface(const Mesh &mesh) {
@@ -89,22 +117,58 @@ inline Surface surface(const Mesh &mesh) {
 }
 
 inline std::vector<Answer> decide(const Mesh &mesh, const std::vector<std::pair<Walk, Walk>> &pairs) {
-    std::vector<std::uint32_t> sizes, vertices;
-    for (const auto &pair : pairs)
-        for (const Walk *walk : {&pair.first, &pair.second}) {
-            if (walk->size() > UINT32_MAX) throw std::length_error("a walk is too long");
-            sizes.push_back(static_cast<std::uint32_t>(walk->size()));
-            vertices.insert(vertices.end(), walk->begin(), walk->end());
-        }
-    std::vector<std::uint8_t> answers(pairs.size() + 1);
+    detail::Asked asked(pairs);
     homotopy_outcome outcome;
     homotopy_decide(mesh.vertices, detail::of(mesh.sizes), mesh.sizes.size(), detail::of(mesh.corners), mesh.corners.size(),
-                    detail::of(sizes), sizes.size(), detail::of(vertices), vertices.size(), answers.data(), pairs.size(), &outcome);
-    if (outcome.code != HOMOTOPY_DONE) detail::refuse(outcome);
-    std::vector<Answer> told;
-    for (std::size_t pair = 0; pair < pairs.size(); pair++) told.push_back(static_cast<Answer>(answers[pair]));
-    return told;
+                    detail::of(asked.sizes), asked.sizes.size(), detail::of(asked.vertices), asked.vertices.size(), asked.answers.data(),
+                    pairs.size(), &outcome);
+    return asked.told(outcome);
 }
+
+// An orientable closed surface that is kept, so that questions can be asked as they come, by one thread at a time. It is moved, and not
+// copied; of one that was moved from, nothing is asked.
+class KeptMesh {
+public:
+    explicit KeptMesh(const Mesh &mesh) {
+        homotopy_outcome outcome;
+        homotopy_mesh_new(mesh.vertices, detail::of(mesh.sizes), mesh.sizes.size(), detail::of(mesh.corners), mesh.corners.size(), &held,
+                          &outcome);
+        if (outcome.code != HOMOTOPY_DONE) detail::refuse(outcome);
+    }
+
+    KeptMesh(KeptMesh &&other) noexcept { std::swap(held, other.held); }
+
+    KeptMesh &operator=(KeptMesh &&other) noexcept {
+        std::swap(held, other.held);
+        return *this;
+    }
+
+    ~KeptMesh() { homotopy_mesh_free(&held); }
+
+    std::vector<Answer> decide(const std::vector<std::pair<Walk, Walk>> &pairs) {
+        detail::Asked asked(pairs);
+        homotopy_outcome outcome;
+        homotopy_mesh_decide(&held, detail::of(asked.sizes), asked.sizes.size(), detail::of(asked.vertices), asked.vertices.size(),
+                             asked.answers.data(), pairs.size(), &outcome);
+        return asked.told(outcome);
+    }
+
+    // For each walk the place of the first one with the same ends that is homotopic to it. Refused where a walk is none of the surface.
+    std::vector<std::size_t> classes(const std::vector<Walk> &walks) {
+        detail::Listed listed;
+        for (const Walk &walk : walks) listed.put(walk);
+        std::vector<std::size_t> each(walks.size() + 1);
+        homotopy_outcome outcome;
+        homotopy_mesh_classes(&held, detail::of(listed.sizes), listed.sizes.size(), detail::of(listed.vertices), listed.vertices.size(),
+                              each.data(), walks.size(), &outcome);
+        if (outcome.code != HOMOTOPY_DONE) detail::refuse(outcome);
+        each.pop_back();
+        return each;
+    }
+
+private:
+    homotopy_mesh held = HOMOTOPY_EMPTY_MESH;
+};
 
 inline Certificate certify(const Mesh &mesh, const Walk &first, const Walk &second) {
     std::string text(65536, ' ');

@@ -90,6 +90,12 @@ struct Outcome {
     numbers: [u64; 3],
 }
 
+/// What a mesh is kept by: null where there is none.
+#[repr(C)]
+struct Handle {
+    kept: *mut std::ffi::c_void,
+}
+
 #[repr(C)]
 #[derive(Default)]
 struct Numbers {
@@ -110,6 +116,21 @@ extern "C" {
         walk_sizes: *const u32, walk_count: usize, walk_vertices: *const u32, walk_vertex_count: usize,
         answers: *mut u8, answer_room: usize, outcome: *mut Outcome,
     );
+    fn homotopy_mesh_new(
+        vertices: u32, sizes: *const u32, face_count: usize, corners: *const u32, corner_count: usize,
+        mesh: *mut Handle, outcome: *mut Outcome,
+    );
+    fn homotopy_mesh_decide(
+        mesh: *mut Handle,
+        walk_sizes: *const u32, walk_count: usize, walk_vertices: *const u32, walk_vertex_count: usize,
+        answers: *mut u8, answer_room: usize, outcome: *mut Outcome,
+    );
+    fn homotopy_mesh_classes(
+        mesh: *mut Handle,
+        walk_sizes: *const u32, walk_count: usize, walk_vertices: *const u32, walk_vertex_count: usize,
+        classes: *mut usize, class_room: usize, outcome: *mut Outcome,
+    );
+    fn homotopy_mesh_free(mesh: *mut Handle);
     fn homotopy_certify(
         vertices: u32, sizes: *const u32, face_count: usize, corners: *const u32, corner_count: usize,
         first: *const u32, first_count: usize, second: *const u32, second_count: usize,
@@ -164,19 +185,30 @@ impl Mesh<'_> {
 
     /// The answer on each pair of walks, on an orientable closed surface.
     pub fn decide(&self, pairs: &[(&[u32], &[u32])]) -> Result<Vec<Answer>, Refused> {
-        let walks = || pairs.iter().flat_map(|pair| [pair.0, pair.1]);
-        let sizes: Vec<u32> = walks().map(|walk| u32::try_from(walk.len()).unwrap_or(u32::MAX)).collect();
-        let vertices: Vec<u32> = walks().flatten().copied().collect();
-        let (mut answers, mut outcome) = (vec![0u8; pairs.len()], Outcome::default());
+        let mut asked = Asked::of(pairs);
         // SAFETY: as above.
         unsafe {
             homotopy_decide(
                 self.vertices, self.sizes.as_ptr(), self.sizes.len(), self.corners.as_ptr(), self.corners.len(),
-                sizes.as_ptr(), sizes.len(), vertices.as_ptr(), vertices.len(), answers.as_mut_ptr(), answers.len(), &mut outcome,
+                asked.sizes.as_ptr(), asked.sizes.len(), asked.vertices.as_ptr(), asked.vertices.len(),
+                asked.answers.as_mut_ptr(), asked.answers.len(), &mut asked.outcome,
+            );
+        }
+        asked.told()
+    }
+
+    /// Keeps an orientable closed surface, so that questions can be asked as they come.
+    pub fn keep(&self) -> Result<KeptMesh, Refused> {
+        let (mut kept, mut outcome) = (KeptMesh(Handle { kept: std::ptr::null_mut() }), Outcome::default());
+        // SAFETY: as above; the handle is empty.
+        unsafe {
+            homotopy_mesh_new(
+                self.vertices, self.sizes.as_ptr(), self.sizes.len(), self.corners.as_ptr(), self.corners.len(),
+                &mut kept.0, &mut outcome,
             );
         }
         match outcome.code {
-            DONE => Ok(answers.into_iter().map(answer_of).collect()),
+            DONE => Ok(kept),
             _ => Err(outcome.refused()),
         }
     }
@@ -216,6 +248,84 @@ impl Mesh<'_> {
             ACCEPTED => Ok(Verdict::Accepted),
             code if REJECTED.contains(&code) => Ok(Verdict::Rejected(told(code, &outcome.numbers))),
             _ => Err(outcome.refused()),
+        }
+    }
+}
+
+/// An orientable closed surface that is kept. Another thread may have it; it is asked by one at a time.
+pub struct KeptMesh(Handle);
+
+// SAFETY: the library has a proof that what it keeps may be asked by another thread, and given back there.
+unsafe impl Send for KeptMesh {}
+
+impl KeptMesh {
+    /// The answer on each pair of walks, as `Mesh::decide` gives it.
+    pub fn decide(&mut self, pairs: &[(&[u32], &[u32])]) -> Result<Vec<Answer>, Refused> {
+        let mut asked = Asked::of(pairs);
+        // SAFETY: as above; the handle was changed by the library alone, and is this value's.
+        unsafe {
+            homotopy_mesh_decide(
+                &mut self.0, asked.sizes.as_ptr(), asked.sizes.len(), asked.vertices.as_ptr(), asked.vertices.len(),
+                asked.answers.as_mut_ptr(), asked.answers.len(), &mut asked.outcome,
+            );
+        }
+        asked.told()
+    }
+
+    /// For each walk the place of the first one with the same ends that is homotopic to it.
+    pub fn classes(&mut self, walks: &[&[u32]]) -> Result<Vec<usize>, Refused> {
+        let (sizes, vertices) = listed(walks.iter().copied());
+        let (mut classes, mut outcome) = (vec![0; walks.len()], Outcome::default());
+        // SAFETY: as above.
+        unsafe {
+            homotopy_mesh_classes(
+                &mut self.0, sizes.as_ptr(), sizes.len(), vertices.as_ptr(), vertices.len(),
+                classes.as_mut_ptr(), classes.len(), &mut outcome,
+            );
+        }
+        match outcome.code {
+            DONE => Ok(classes),
+            _ => Err(outcome.refused()),
+        }
+    }
+}
+
+impl Drop for KeptMesh {
+    fn drop(&mut self) {
+        // SAFETY: the handle is this value's, and is used for the last time.
+        unsafe { homotopy_mesh_free(&mut self.0) }
+    }
+}
+
+/// The sizes of walks, and their vertices, walk after walk.
+fn listed<'a>(walks: impl Iterator<Item = &'a [u32]>) -> (Vec<u32>, Vec<u32>) {
+    let (mut sizes, mut vertices) = (Vec::new(), Vec::new());
+    for walk in walks {
+        sizes.push(u32::try_from(walk.len()).unwrap_or(u32::MAX));
+        vertices.extend_from_slice(walk);
+    }
+    (sizes, vertices)
+}
+
+/// Pairs of walks in two arrays, with room for their answers and for the outcome.
+struct Asked {
+    sizes: Vec<u32>,
+    vertices: Vec<u32>,
+    answers: Vec<u8>,
+    outcome: Outcome,
+}
+
+impl Asked {
+    fn of(pairs: &[(&[u32], &[u32])]) -> Asked {
+        let (sizes, vertices) = listed(pairs.iter().flat_map(|pair| [pair.0, pair.1]));
+        Asked { sizes, vertices, answers: vec![0; pairs.len()], outcome: Outcome::default() }
+    }
+
+    /// What is answered of each pair, where the question is.
+    fn told(self) -> Result<Vec<Answer>, Refused> {
+        match self.outcome.code {
+            DONE => Ok(self.answers.into_iter().map(answer_of).collect()),
+            _ => Err(self.outcome.refused()),
         }
     }
 }

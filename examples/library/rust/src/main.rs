@@ -6,6 +6,12 @@ fn main() -> Result<(), homotopy::Refused> {
     let tetrahedron = Mesh { vertices: 4, sizes: &[3; 4], corners: &corners };
     println!("{:?}", tetrahedron.surface()?);
     println!("{:?}", tetrahedron.decide(&[(&[0, 1, 2], &[0, 2]), (&[0, 1], &[0]), (&[], &[0])])?);
+    let mut kept = tetrahedron.keep()?;
+    for third in 2..4 {
+        println!("{:?}", kept.decide(&[(&[0, 1, third], &[0, third])])?);
+    }
+    println!("{:?}", kept.classes(&[&[0, 1], &[1, 0], &[0, 2, 1], &[0], &[0, 3, 1]])?);
+    println!("{}", kept.classes(&[&[0, 1], &[0, 0]]).unwrap_err());
     match tetrahedron.certify(&[0, 1, 2], &[0, 2])? {
         Certificate::Moves(text) => println!("{:?}", tetrahedron.verify(&[0, 1, 2], &[0, 2], &text)?),
         Certificate::Denial(_) => println!("different"),
@@ -15,6 +21,7 @@ fn main() -> Result<(), homotopy::Refused> {
     println!("{}", tetrahedron.certify(&[0, 1, 1], &[0, 1]).unwrap_err());
     let open = Mesh { vertices: 4, sizes: &[3; 3], corners: &corners[..9] };
     println!("{}", open.surface().unwrap_err());
+    println!("{}", open.keep().err().unwrap());
     let none = Mesh { vertices: 0, sizes: &[], corners: &[] };
     println!("{}", none.surface().unwrap_err());
     Ok(())

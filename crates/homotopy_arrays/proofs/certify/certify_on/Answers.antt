@@ -1,5 +1,4 @@
-use Rattle.std.proofs.Common.{◌≡◌, ◌⊎◌, List, ℕ, arith, refl, sym, subst, inl, inr}
-use Rattle.std.specs.Prelude.{MatchResult}
+use Rattle.homotopy_arrays.proofs.Common.{◌≡◌, ◌⊎◌, List, ℕ, arith, refl, sym, subst, inl, inr, MatchResult}
 use Rattle.homotopy_arrays.specs.Certifications.{IsCertified, IsLimitFault, no_memory}
 use Rattle.homotopy_arrays.specs.CheckedPairs.{IsChecked}
 use Rattle.homotopy_arrays.specs.Pairs.{AreWalks}

@@ -1,4 +1,4 @@
-use Rattle.std.proofs.Common.{sym, ◌∙◌}
+use Rattle.homotopy_arrays.proofs.Common.{sym, ◌∙◌}
 use Rattle.homotopy_arrays.proofs.CertificationLemmas.{found, within}
 use Rattle.homotopy_arrays.proofs.certify.certify_walks.Goals as goal
 

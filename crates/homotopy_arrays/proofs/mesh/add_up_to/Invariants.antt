@@ -1,4 +1,4 @@
-use Rattle.std.proofs.Common.{◌≡◌, ◌+◌, sum, take}
+use Rattle.homotopy_arrays.proofs.Common.{◌≡◌, ◌+◌, sum, take}
 use Rattle.homotopy_arrays.proofs.mesh.add_up_to.Given as goal
 
 -- the sizes so far, and what is left

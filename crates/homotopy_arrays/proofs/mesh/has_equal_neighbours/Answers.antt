@@ -1,6 +1,4 @@
-use Rattle.std.proofs.Common.{ℕ, get_or, sym, ap, arith, ◌∙◌}
-use Rattle.std.proofs.lemmas.Bool.{eq-eqb, ne_eqb}
-use Rattle.off_reader.proofs.RingLemmas.{equal_found, differ_more, differ_all}
+use Rattle.homotopy_arrays.proofs.Common.{equal_found, differ_more, differ_all, ℕ, get_or, sym, ap, arith, ◌∙◌, eq-eqb, ne_eqb}
 use Rattle.homotopy_arrays.proofs.mesh.has_equal_neighbours.Goals as goal
 
 pub returns-then-face-corner : goal.returns-then-face-corner

@@ -1,4 +1,4 @@
-use Rattle.off_reader.proofs.RingLemmas.{DifferTo}
+use Rattle.homotopy_arrays.proofs.Common.{DifferTo}
 use Rattle.homotopy_arrays.proofs.mesh.has_equal_neighbours.Given as goal
 
 -- no corner so far is the next one

@@ -1,7 +1,4 @@
-use Rattle.std.proofs.Common.{ℕ, ◌+◌, ◌-◌, take, drop, get_or, arith, sym, ◌∙◌, ap, inl, inr}
-use Rattle.std.proofs.lemmas.Bool.{eqb-true}
-use Rattle.std.proofs.lemmas.Result.{err_from_is_err_and}
-use Rattle.std.specs.Prelude.{Ok, Err}
+use Rattle.homotopy_arrays.proofs.Common.{ℕ, ◌+◌, ◌-◌, take, drop, get_or, arith, sym, ◌∙◌, ap, inl, inr, eqb-true, err_from_is_err_and, Ok, Err}
 use Rattle.homotopy_arrays.proofs.MeshLemmas.{many_vertices, other_count, many_sides, face_end, one_face, counts_good, bad_face, all_faces}
 use Rattle.homotopy_arrays.proofs.mesh.mesh_of_arrays.Goals as goal
 

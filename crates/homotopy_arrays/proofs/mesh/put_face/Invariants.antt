@@ -1,4 +1,4 @@
-use Rattle.std.proofs.Common.{◌≡◌, take}
+use Rattle.homotopy_arrays.proofs.Common.{◌≡◌, take}
 use Rattle.homotopy_arrays.proofs.mesh.put_face.Given as goal
 
 -- the corners so far

@@ -1,6 +1,4 @@
-use Rattle.std.proofs.Common.{◌≡◌, List, ℕ, [], ◌∷◌, refl, sym, ap, ap₂, subst, false, ◌∙◌}
-use Rattle.std.proofs.lemmas.Bool.{both_ways}
-use Rattle.walk_files.specs.Pairs.{IsPair, pair_fault}
+use Rattle.homotopy_arrays.proofs.Common.{◌≡◌, List, ℕ, [], ◌∷◌, refl, sym, ap, ap₂, subst, false, ◌∙◌, both_ways, IsPair, pair_fault}
 use Rattle.walk_files.specs.WalkLists.{WalkText}
 use Rattle.homotopy_arrays.proofs.PairLemmas.{first_length, second_length, no_pair, walks_of_pair, length_good}
 use Rattle.homotopy_arrays.proofs.pair.check_walks.Goals as goal

@@ -1,4 +1,4 @@
-use Rattle.std.proofs.Common.{◌≡◌, take}
+use Rattle.homotopy_arrays.proofs.Common.{◌≡◌, take}
 use Rattle.homotopy_arrays.proofs.pair.walk_of.Given as goal
 
 -- the vertices so far

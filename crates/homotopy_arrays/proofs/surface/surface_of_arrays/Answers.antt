@@ -1,6 +1,4 @@
-use Rattle.std.proofs.Common.{◌≡◌, inl, inr}
-use Rattle.std.specs.Prelude.{Ok}
-use Rattle.std.proofs.lemmas.Result.{err_from_is_err_and}
+use Rattle.homotopy_arrays.proofs.Common.{◌≡◌, inl, inr, err_from_is_err_and, Ok}
 use Rattle.homotopy_arrays.proofs.EndLemmas.{none_ends}
 use Rattle.homotopy_arrays.specs.MeshArrays.{mesh_in}
 use Rattle.homotopy_arrays.proofs.surface.surface_of_arrays.Goals as goal

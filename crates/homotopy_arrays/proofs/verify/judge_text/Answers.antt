@@ -1,7 +1,5 @@
-use Rattle.std.proofs.Common.{◌≤◌, sym, subst, ℕ}
-use Rattle.std.proofs.lemmas.Result.{err_from_is_err_and}
+use Rattle.homotopy_arrays.proofs.Common.{sym, err_from_is_err_and}
 use Rattle.walk_files.specs.declared.certificate.CertHead.TheVariants as heads
-use Rattle.walk_files.specs.declared.limits.TheConstants.{MOST_PEAK}
 use Rattle.homotopy_arrays.proofs.CertificateLemmas.{head_within}
 use Rattle.homotopy_arrays.proofs.JudgementLemmas.{denial_judged, denial_wrong, head_faulty, head_is, moves_faulty, moves_judged}
 use Rattle.homotopy_arrays.proofs.verify.judge_text.Goals as goal
@@ -11,28 +9,27 @@ returns-in_err-reader c =
     let p = err_from_is_err_and c.from_residual.result c.from_residual.ensures.1 in
     rw p.1 (head_faulty c.args.certificate.now c.in_err-reader.field-0.0 p.0 c.in_err-reader.ensures.started p.2)
 
-pub returns-in_err-list-in-Moves : goal.returns-in_err-list-in-Moves
-returns-in_err-list-in-Moves c =
+pub judge_moves-requires-clause-peak : goal.judge_moves-requires-clause-peak
+judge_moves-requires-clause-peak c =
     let text = c.args.certificate.now in
     let reader = c.in_ok-reader.reader in
-    let p = err_from_is_err_and c.from_residual-in_err-list-in-Moves.result c.from_residual-in_err-list-in-Moves.ensures.1 in
-    rw (p.1, p.2)
-    (moves_faulty text reader c.in-Moves.count c.in-Moves.peak c.in_err-list-in-Moves.field-0.0 c.in_ok-reader.ensures.started
-    (sym c.in-Moves.ensures) c.in_err-list-in-Moves.ensures)
+    head_within text c.in-Moves.count c.in-Moves.peak
+    (head_is text reader (heads.Moves c.in-Moves.count c.in-Moves.peak) c.in_ok-reader.ensures.started (sym c.in-Moves.ensures))
 
-pub check_moves-requires-clause-peak : goal.check_moves-requires-clause-peak
-check_moves-requires-clause-peak c =
+pub returns-in_err-verdict-in-Moves : goal.returns-in_err-verdict-in-Moves
+returns-in_err-verdict-in-Moves c =
     let text = c.args.certificate.now in
     let reader = c.in_ok-reader.reader in
-    subst (λ (p : ℕ). p ≤ MOST_PEAK) (sym c.in_ok-list-in-Moves.ensures.1)
-    (head_within text c.in-Moves.count c.in-Moves.peak
-    (head_is text reader (heads.Moves c.in-Moves.count c.in-Moves.peak) c.in_ok-reader.ensures.started (sym c.in-Moves.ensures)))
+    let p = err_from_is_err_and c.from_residual-in_err-verdict-in-Moves.result c.from_residual-in_err-verdict-in-Moves.ensures.1 in
+    rw (p.1, p.2)
+    (moves_faulty text reader c.in-Moves.count c.in-Moves.peak c.in_err-verdict-in-Moves.field-0.0 c.in_ok-reader.ensures.started
+    (sym c.in-Moves.ensures) c.in_err-verdict-in-Moves.ensures)
 
 pub returns-in_ok-verdict-in-Moves : goal.returns-in_ok-verdict-in-Moves
 returns-in_ok-verdict-in-Moves c =
     moves_judged c.args.on.now.faces.now c.args.on.now.first.now c.args.on.now.second.now c.args.certificate.now c.in_ok-reader.reader
-    c.in-Moves.count c.in-Moves.peak c.in_ok-list-in-Moves.list c.in_ok-verdict-in-Moves.verdict c.in_ok-reader.ensures.started
-    (sym c.in-Moves.ensures) c.in_ok-list-in-Moves.ensures.0 c.in_ok-list-in-Moves.ensures.1 c.in_ok-verdict-in-Moves.ensures.verdict
+    c.in-Moves.count c.in-Moves.peak c.in_ok-verdict-in-Moves.verdict c.in_ok-reader.ensures.started (sym c.in-Moves.ensures)
+    c.in_ok-verdict-in-Moves.ensures
 
 pub returns-in_err-denial-in-Labels : goal.returns-in_err-denial-in-Labels
 returns-in_err-denial-in-Labels c =

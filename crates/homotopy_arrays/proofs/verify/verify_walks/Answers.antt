@@ -1,6 +1,4 @@
-use Rattle.std.proofs.Common.{◌≡◌, List, ℕ, arith, refl, sym, subst, inl, inr}
-use Rattle.std.specs.Prelude.{MatchResult}
-use Rattle.surf_model.specs.Walks.{IsWalk}
+use Rattle.homotopy_arrays.proofs.Common.{◌≡◌, List, ℕ, arith, refl, sym, subst, inl, inr, MatchResult, IsWalk}
 use Rattle.homotopy_arrays.specs.CheckedPairs.{IsChecked}
 use Rattle.homotopy_arrays.specs.Judgements.{IsFaultOfText, JudgesText}
 use Rattle.homotopy_arrays.specs.declared.pair.Checked.TheVariants.{Pair, Faulty}

@@ -1,5 +1,4 @@
-use Rattle.std.proofs.Common.{arith}
-use Rattle.homotopy_arrays.specs.declared.decide.PairAnswer.TheVariants.{Homotopic}
+use Rattle.homotopy_c.proofs.Common.{Homotopic, arith}
 use Rattle.homotopy_c.specs.Outcomes.{byte_of}
 use Rattle.homotopy_c.proofs.RoomLemmas.{one_put}
 use Rattle.homotopy_c.proofs.decide.put_answers.Goals as goal

@@ -1,5 +1,5 @@
-use Rattle.std.proofs.Common.{◌≡◌, ◌++◌, take, drop}
-use Rattle.std.specs.Prelude.{map}
+use Rattle.homotopy_c.proofs.Common.{◌≡◌, ◌++◌, take, map}
+use Rattle.std.proofs.Common.{drop}
 use Rattle.homotopy_c.specs.Outcomes.{byte_of}
 use Rattle.homotopy_c.proofs.decide.put_answers.Given as goal
 

@@ -1,0 +1,13 @@
+use Rattle.homotopy_arrays.proofs.Common.{◌≡◌, ◌<◌, ℕ, sum, take, None}
+use Rattle.homotopy_arrays.specs.Classes.{first_walks}
+use Rattle.homotopy_arrays.specs.Pairs.{length_fault, walk_at}
+use Rattle.homotopy_arrays.proofs.classes.cut.Given as goal
+
+-- the walks so far
+abbrev pub invariant-loop-place : goal.invariant-loop-place
+invariant-loop-place l =
+    record {
+      start : l.at ≡ sum (take l.place l.sizes);
+      walks : l.walks.items ≡ first_walks l.sizes l.vertices l.place;
+      good : (k : ℕ) → k < l.place → length_fault 1 (walk_at l.sizes l.vertices k) ≡ None;
+    }

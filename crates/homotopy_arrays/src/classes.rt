@@ -1,0 +1,94 @@
+//! The classes of walks that lie in arrays.
+ghost use Rattle.std.specs.Prelude.{◌≡◌, length, sum, IfOk, MatchResult};
+ghost use Rattle.component_deciding.specs.WordFinders.{mesh_of_finder};
+ghost use Rattle.homotopy_arrays.specs.Classes.{AreClassesIn, AreCut, IsFirstNone, IsNoClassesIn};
+ghost use Rattle.homotopy_arrays.specs.declared.classes.NoClasses.TheVariants.{OutOfMemory};
+
+use crate::pair::{WalkFault, fault_of, length_fault, slice_at, walk_of};
+use component_deciding::WordFinder;
+use std::alloc::{AllocError, Global};
+use surf_model::Walk;
+use walk_classes::{ClassFault, classes_by};
+
+/// Why walks that lie in arrays have no classes.
+#[derive(Clone, Copy, Debug, PartialEq, Eq)]
+pub enum NoClasses {
+    /// The sizes of the walks together are not the number of their vertices.
+    Count,
+    /// The first list, by its place, that is no walk of the surface; and what is first wrong with it, as walk 1.
+    Walk { place: usize, fault: WalkFault },
+    /// There is no memory for the classes.
+    OutOfMemory,
+}
+
+impl From<AllocError> for NoClasses {
+    ghost from_gives = { λ _ fault. fault ≡ OutOfMemory };
+
+    fn from(_: AllocError) -> NoClasses {
+        NoClasses::OutOfMemory
+    }
+}
+
+/// The number of the class of each walk, on the surface that a finder has; or the first list that is no walk.
+pub(crate) fn classes_in(
+    alloc: Global,
+    finder: &mut WordFinder,
+    sizes: &[u32],
+    vertices: &[u32],
+) -> Result<Vec<usize>, NoClasses>
+    requires { sum sizes.now ≡ length vertices.now }
+    ensures same { mesh_of_finder finder.new ≡ mesh_of_finder finder.old }
+    ensures ends { MatchResult result (λ given. AreClassesIn (mesh_of_finder finder.old) sizes.now vertices.now given.items)
+        (IsNoClassesIn (mesh_of_finder finder.old) sizes.now vertices.now) }
+{
+    let walks = cut(alloc, sizes, vertices)?;
+    match classes_by(alloc, finder, &walks) {
+        Ok(given) => {
+            if walks.len() == sizes.len() {
+                return Ok(given);
+            }
+            Err(told_at(alloc, finder, sizes, vertices, walks.len()))
+        }
+        Err(ClassFault::NoWalk { place }) => Err(told_at(alloc, finder, sizes, vertices, place)),
+        Err(ClassFault::OutOfMemory) => Err(NoClasses::OutOfMemory),
+    }
+}
+
+/// The first list that is no walk, which is at this place, with what is first wrong with it.
+fn told_at(
+    alloc: Global,
+    finder: &WordFinder,
+    sizes: &[u32],
+    vertices: &[u32],
+    place: usize,
+) -> NoClasses
+    requires sizes { sum sizes.now ≡ length vertices.now }
+    requires none { IsFirstNone (mesh_of_finder finder.now) sizes.now vertices.now place }
+    ensures { IsNoClassesIn (mesh_of_finder finder.now) sizes.now vertices.now result }
+{
+    let list = slice_at(sizes, vertices, place);
+    match fault_of(alloc, finder, list, list) {
+        Ok(fault) => NoClasses::Walk { place, fault },
+        Err(_) => NoClasses::OutOfMemory,
+    }
+}
+
+/// The walks, up to the first that has no vertex, or too many.
+fn cut(alloc: Global, sizes: &[u32], vertices: &[u32]) -> Result<Vec<Walk>, AllocError>
+    requires { sum sizes.now ≡ length vertices.now }
+    ensures { IfOk result (λ walks. AreCut sizes.now vertices.now walks.items) }
+{
+    let mut walks = Vec::with_capacity(alloc, sizes.len())?;
+    let mut at = 0;
+    for place in 0..sizes.len() {
+        let end = at + sizes[place] as usize;
+        let list = &vertices[at..end];
+        if let Some(_fault) = length_fault(1, list) {
+            return Ok(walks);
+        }
+        let walk = walk_of(alloc, list)?;
+        walks.push(walk)?;
+        at = end;
+    }
+    Ok(walks)
+}

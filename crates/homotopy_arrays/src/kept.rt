@@ -1,0 +1,95 @@
+//! Meshes that are kept, of which questions are asked as they come.
+ghost use Rattle.std.specs.Prelude.{◌≡◌, MatchResult, Ok};
+ghost use Rattle.homotopy_arrays.specs.Classes.{AreClassed, IsNoClassesIn};
+ghost use Rattle.homotopy_arrays.specs.Decisions.{AreDecided, IsDecideFault, IsKept};
+ghost use Rattle.homotopy_arrays.specs.MeshArrays.{mesh_in};
+ghost use Rattle.homotopy_arrays.specs.Surfaces.{EndsOn, IsSurfaceFault};
+
+use crate::answering::answer_all;
+use crate::classes::{NoClasses, classes_in};
+use crate::decide::PairAnswer;
+use crate::fault::Fault;
+use crate::mesh::{MeshArrays, add_up_to};
+use crate::pair::are_pairs;
+use crate::surface::surface_of_arrays;
+use component_deciding::WordFinder;
+use std::alloc::Global;
+use std::marker::Model;
+
+/// An orientable closed surface with what questions about its walks need. Contracts see its mesh.
+#[derive(Drop)]
+pub struct KeptMesh {
+    alloc: Global,
+    finder: WordFinder,
+}
+
+impl Model for KeptMesh {
+    ghost use Rattle.component_deciding.specs.WordFinders.{mesh_of_finder};
+    ghost use Rattle.surf_model.specs.FaceLists.{FaceList};
+    ghost use Rattle.surf_model.specs.OrientableSurfaces.{IsOrientableSurface};
+
+    ghost Value = { FaceList };
+
+    ghost view = { λ a. mesh_of_finder a.finder };
+
+    ghost invariant = { λ a. IsOrientableSurface (mesh_of_finder a.finder) };
+}
+
+impl KeptMesh {
+    /// The orientable closed surface that the arrays are, or what is first wrong. It takes the time and the memory of one question, and 32
+    /// bytes an edge beside them where the surface is in one piece. Of several pieces each is labelled where a walk first lies in it, and
+    /// its labels are kept.
+    pub fn of(alloc: Global, mesh: MeshArrays<'_>) -> Result<KeptMesh, Fault>
+        ensures { EndsOn (mesh_in mesh.entry) IsKept IsSurfaceFault result }
+    {
+        KeptMesh::for_darts(alloc, mesh, u64::MAX)
+    }
+
+    /// The same for one question, about walks of so many darts: no more is kept than it needs.
+    pub(crate) fn for_darts(
+        alloc: Global,
+        mesh: MeshArrays<'_>,
+        darts: u64,
+    ) -> Result<KeptMesh, Fault>
+        ensures { EndsOn (mesh_in mesh.entry) IsKept IsSurfaceFault result }
+    {
+        let surface = surface_of_arrays(alloc, mesh)?;
+        let finder = WordFinder::of(alloc, surface, darts)?;
+        Ok(KeptMesh { alloc, finder })
+    }
+
+    /// Whether the walks of each pair are homotopic, as `decide_arrays` tells of the arrays of this mesh.
+    pub fn decide(
+        &mut self,
+        walk_sizes: &[u32],
+        walk_vertices: &[u32],
+    ) -> Result<Vec<PairAnswer>, Fault>
+        ensures same { self.new ≡ self.old }
+        ensures ends { EndsOn (Ok self.old) (λ mesh given. AreDecided walk_sizes.now walk_vertices.now mesh given.items)
+            (IsDecideFault walk_sizes.now walk_vertices.now) result }
+    {
+        let alloc = self.alloc;
+        if !are_pairs(walk_sizes, walk_vertices) {
+            return Err(Fault::WalkCount);
+        }
+        Ok(answer_all(alloc, &mut self.finder, walk_sizes, walk_vertices)?)
+    }
+
+    /// For each walk the number of its class: the least place of a walk with the same ends that is homotopic to it. Or the first list that
+    /// is no walk, and what is first wrong with it.
+    pub fn classes(
+        &mut self,
+        walk_sizes: &[u32],
+        walk_vertices: &[u32],
+    ) -> Result<Vec<usize>, NoClasses>
+        ensures same { self.new ≡ self.old }
+        ensures ends { MatchResult result (λ given. AreClassed self.old walk_sizes.now walk_vertices.now given.items)
+            (IsNoClassesIn self.old walk_sizes.now walk_vertices.now) }
+    {
+        let alloc = self.alloc;
+        if !add_up_to(walk_sizes, walk_vertices.len()) {
+            return Err(NoClasses::Count);
+        }
+        classes_in(alloc, &mut self.finder, walk_sizes, walk_vertices)
+    }
+}

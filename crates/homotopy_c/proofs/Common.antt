@@ -1,0 +1,52 @@
+-- What proofs of this crate cite of others, passed on from one place (by tools/imports). Declares nothing.
+pub use Rattle.core.proofs.alloc.Calls.{Al, Goes-blank, handle_tells}
+pub use Rattle.core.proofs.atomic.Steps.{fm}
+pub use Rattle.core.proofs.cell.Inside.{Good, one}
+pub use Rattle.homotopy_arrays.specs.Pairs.{AreWalks, IsAnswer, walk_at}
+pub use Rattle.homotopy_arrays.specs.contracts.kept.KeptMesh.{the_row}
+pub use Rattle.homotopy_arrays.specs.declared.certify.CertifyFault.{CertifyFault}
+pub use Rattle.homotopy_arrays.specs.declared.decide.PairAnswer.TheVariants.{Different, Faulty, Homotopic}
+pub use Rattle.homotopy_arrays.specs.declared.fault.Fault.{Fault}
+pub use Rattle.homotopy_arrays.specs.declared.verify.VerifyFault.{VerifyFault}
+pub use Rattle.std.proofs.Common.{List, ap, append_assoc, ap₂, arith, false, get_or, inl, inr, length, length-take-le, lit<, refl, set, subst, sym, take, true, ℕ, [], ◌*◌, ◌++◌, ◌+◌, ◌/◌, ◌<◌, ◌^◌, ◌↔◌, ◌∙◌, ◌∷◌, ◌≡◌, ◌≢◌, ◌≤◌, ◌⊎◌}
+pub use Rattle.std.proofs.lemmas.Bool.{cases_lt}
+pub use Rattle.std.proofs.lemmas.List.{drop_more, get_or-map, get_or_append_left, length-map, map-append, set_at, take_at, take_more}
+pub use Rattle.std.proofs.raw_atomic.Walks.{leaves, proved_at}
+pub use Rattle.std.specs.Global.{Vec}
+pub use Rattle.std.specs.Prelude.{Err, MatchResult, None, Ok, Option, Result, Some, map}
+pub use Rattle.std.specs.contracts.impls.GlobalAllocator.TheImpl.{ghosts}
+pub use Rattle.std.specs.declared.alloc.Global.{Global}
+pub use Rattle.std_alloc.proofs.BoxSteps.Steps.{box_in, box_out}
+pub use Rattle.std_alloc.proofs.ResultValues.{and_tt}
+pub use Rattle.std_alloc.specs.Box.Ownership.{box_owns}
+pub use Rattle.surf_model.specs.FaceLists.{FaceList, HasFileSize, IsFaceList}
+pub use Rattle.surf_model.specs.OrientableSurfaces.{IsOrientableSurface}
+pub use base.Fml.{Fml, fex, flft, fsep, ftrue}
+pub use base.Logic.{SProp, emp, ent, fst∗, guard, guard_i, id⊢, never, snd∗, via}
+pub use contract.Monad.{fact, fact_i, fact_use}
+pub use contract.Running.{tables}
+pub use denote.Builtin.{RawPtr}
+pub use denote.Exit.{no, yes}
+pub use denote.Memory.{lone}
+pub use denote.Param.{bounded, layout, param}
+pub use denote.Param.Laws.{Laws, param_laws}
+pub use denote.RattleType.{RattleType, Valss, owns}
+pub use denote.RawPtr.{Ptr, Testable, block_ptr, in_a_block, lies_at, null_ptr, ptr_val, tests_null}
+pub use denote.Signature.{plain, type_at, types_at}
+pub use denote.Steps.{heard, nothing, only}
+pub use denote.Struct.Owning.{fields, shape, to}
+pub use denote.Struct.Struct.{Struct, exits_of, within}
+pub use denote.Triple.Call.{calls_at, calls_at_last}
+pub use denote.Triple.Entry.{alive}
+pub use denote.Triple.Spec.{triple_of}
+pub use denote.Triple.Walked.{Goes-dropped, Stays, stay_dropped, walk_of}
+pub use mir.MapTy.{inst_fn}
+pub use mir.Syntax.{Fn, a_type, dcons, dnil, impl, tcons, tnil, ty_ptr, ty_struct}
+pub use mir.Val.{Val, WT, has_ty, of_list, vcons, vnil, vptr, vstruct}
+pub use prog.Wp.{Env, WpFn}
+pub use seplogic.Ra.Ura.{Ura}
+pub use types.ByLocal.{alloc_all, env, free_all, get, get_in, lands_as, lands_last, look_at, pass_all, sets}
+pub use types.Kit.{Goal, Item, Seq, Step, at_ret, await, by, drop, feq_i, feq_l, fjoin, fpack, fpick, fsplit, given, join, keep, later, learn, move, pick, qed, raw, rewrite, some, split, split3, step, suffices, use0, use1, !, ‵, ◌$◌, ◌∵◌, ◌⊛◌}
+pub use types.Logic.{Logic, sem}
+pub use types.Part.{agg, sub, whole}
+pub use types.Run.{and_then, bin, blocks, branches, enter, exec, first, fld, lit, no_more, of_opd, returns, returns_within, skips, stop}

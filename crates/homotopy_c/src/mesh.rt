@@ -1,0 +1,105 @@
+//! A mesh that is kept from call to call.
+ghost use Rattle.std.specs.Prelude.{◌≡◌, None, Ok, IfOk};
+ghost use Rattle.homotopy_arrays.specs.Decisions.{IsKept};
+ghost use Rattle.homotopy_arrays.specs.MeshArrays.{mesh_in, mesh_of};
+ghost use Rattle.homotopy_arrays.specs.Surfaces.{EndsOn, IsSurfaceFault};
+ghost use Rattle.homotopy_c.specs.Kept.{IsMeshDecideCall, IsMeshNewCall};
+ghost use Rattle.homotopy_c.specs.Told.{IsDecideCall};
+
+use crate::codes;
+use crate::decide::put_decisions;
+use crate::handle::MeshHandle;
+use crate::outcome::{Outcome, coded, told};
+use crate::room::short_room;
+use homotopy_arrays::{Fault, KeptMesh, MeshArrays};
+use std::alloc::{AllocError, Global};
+use std::mem::replace;
+
+/// Keeps the orientable closed surface that the arrays are. What the handle held before is given back then; where the call ends with
+/// another code than `DONE`, it still holds that.
+#[unsafe(no_mangle)]
+pub extern "C" fn homotopy_mesh_new(
+    alloc: Global,
+    vertices: u32,
+    sizes: &[u32],
+    corners: &[u32],
+    mesh: &mut MeshHandle,
+    outcome: &mut Outcome,
+)
+    ensures { IsMeshNewCall (mesh_of vertices sizes.now corners.now) mesh.old.kept mesh.new.kept outcome.new }
+{
+    let arrays = MeshArrays {
+        vertices,
+        sizes,
+        corners,
+    };
+    match keep(alloc, arrays) {
+        Ok(kept) => {
+            drop(replace(mesh, MeshHandle::of(kept)).into_kept(alloc));
+            *outcome = coded(codes::DONE, 0, 0, 0);
+        }
+        Err(fault) => *outcome = told(fault),
+    }
+}
+
+/// Whether the two walks of each pair are homotopic on the mesh that the handle holds, as `homotopy_decide` tells of its arrays.
+#[unsafe(no_mangle)]
+pub extern "C" fn homotopy_mesh_decide(
+    alloc: Global,
+    mesh: &mut MeshHandle,
+    walk_sizes: &[u32],
+    walk_vertices: &[u32],
+    answers: &mut [u8],
+    outcome: &mut Outcome,
+)
+    ensures same { mesh.new.kept ≡ mesh.old.kept }
+    ensures told { IsMeshDecideCall mesh.old.kept walk_sizes.now walk_vertices.now answers.old answers.new outcome.new }
+{
+    match replace(mesh, MeshHandle::none()).into_kept(alloc) {
+        None => *outcome = coded(codes::NO_MESH, 0, 0, 0),
+        Some(mut kept) => {
+            *outcome = decide_kept(&mut kept, walk_sizes, walk_vertices, answers);
+            *mesh = MeshHandle::of(kept);
+        }
+    }
+}
+
+/// Gives back the mesh that the handle holds, if any. It holds none then.
+#[unsafe(no_mangle)]
+pub extern "C" fn homotopy_mesh_free(alloc: Global, mesh: &mut MeshHandle)
+    ensures { mesh.new.kept ≡ None }
+{
+    drop(replace(mesh, MeshHandle::none()).into_kept(alloc));
+}
+
+/// The orientable closed surface that the arrays are, on the heap; or what is first wrong.
+fn keep(alloc: Global, arrays: MeshArrays<'_>) -> Result<Box<KeptMesh>, Fault>
+    ensures { EndsOn (mesh_in arrays.entry) (λ mesh kept. IsKept mesh kept.value) IsSurfaceFault result }
+{
+    let kept = KeptMesh::of(alloc, arrays)?;
+    Ok(on_heap(alloc, kept)?)
+}
+
+/// A mesh on the heap.
+fn on_heap(alloc: Global, kept: KeptMesh) -> Result<Box<KeptMesh>, AllocError>
+    ensures { IfOk result (λ there. there.value ≡ kept) }
+{
+    Ok(Box::new(alloc, kept)?)
+}
+
+/// Whether the two walks of each pair are homotopic on the mesh that is kept.
+fn decide_kept(
+    kept: &mut KeptMesh,
+    walk_sizes: &[u32],
+    walk_vertices: &[u32],
+    answers: &mut [u8],
+) -> Outcome
+    ensures same { kept.new ≡ kept.old }
+    ensures told { IsDecideCall (Ok kept.old) walk_sizes.now walk_vertices.now answers.old answers.new result }
+{
+    let wanted = walk_sizes.len() / 2;
+    if answers.len() < wanted {
+        return short_room(wanted);
+    }
+    put_decisions(kept.decide(walk_sizes, walk_vertices), answers)
+}
