@@ -1,7 +1,8 @@
 """Walks in classes: which of them are homotopic, by asking the program of pairs.
 
-No call of the library groups walks yet. So each class is found by one question: the first walk that is left, beside each other one with the
-same ends. The program answers each pair, and that homotopy is an equivalence is used here, and not proved.
+The program has no command for classes (the library has a call, of a mesh that is kept). So each class is found by one question: the first
+walk that is left, beside each other one with the same ends. The program answers each pair, and that homotopy is an equivalence is used
+here, and not proved.
 """
 import re
 

@@ -7,9 +7,10 @@ import subprocess
 import sys
 import traceback
 
-from . import __version__, program, words
+from . import __version__, covers, doubles, program, words
 from .classes import Refused as ClassesRefused
 from .classes import classes_of
+from .doubles import Double
 from .meshes import mesh_of
 from .program import HERE, REPOSITORY, Fault, Files, check_file
 
@@ -87,7 +88,11 @@ def surface(asked, files):
 
 def decide(asked, files):
     mesh, walks = mesh_of(asked.mesh, files), files.taken(asked.walks)
-    result = Result(asked, program.ask("decide-open" if asked.open else "decide", mesh.path, walks), mesh, walks)
+    if asked.any:
+        ended = covers.decided(mesh, walks, files)
+    else:
+        ended = doubles.decided(mesh, walks, files) if asked.open else program.ask("decide", mesh.path, walks)
+    result = Result(asked, ended, mesh, walks)
     if not result.refused:
         result.more = {"answers": result.lines}
         if len(result.lines) == 1:
@@ -99,15 +104,16 @@ def decide(asked, files):
 
 def loops(asked, files):
     mesh, walks = mesh_of(asked.mesh, files), files.taken(asked.walks)
-    result = Result(asked, program.ask("loops", mesh.path, walks), mesh, walks)
+    ended = Double(mesh, files).ask("loops", walks) if asked.open else program.ask("loops", mesh.path, walks)
+    result = Result(asked, ended, mesh, walks)
     result.says = result.says or SAYS[result.lines[0]]
     return result
 
 
-def with_certificate(command):
+def with_certificate(answer_of):
     def ask(asked, files):
         mesh, walks = mesh_of(asked.mesh, files), files.taken(asked.walks)
-        result = Result(asked, program.ask(command(asked), mesh.path, walks), mesh, walks)
+        result = Result(asked, answer_of(asked, mesh, walks, files), mesh, walks)
         if not result.refused:
             result.says = SAYS[result.lines[0]]
             result.certificate = "".join(line + "\n" for line in result.lines)
@@ -115,8 +121,9 @@ def with_certificate(command):
     return ask
 
 
-certify = with_certificate(lambda asked: "certify-open" if asked.open else "certify")
-homology = with_certificate(lambda asked: "homology")
+certify = with_certificate(lambda asked, mesh, walks, files: program.ask("certify-open" if asked.open else "certify", mesh.path, walks))
+homology = with_certificate(lambda asked, mesh, walks, files: Double(mesh, files).homology(walks) if asked.open else
+                            program.ask("homology", mesh.path, walks))
 
 
 def is_of_homology(path):
@@ -249,8 +256,11 @@ def add_words(command, name):
         command.add_argument("--title", help="the line at the head of the page")
     if name in ("certify", "homology"):
         command.add_argument("-o", "--output", metavar="FILE", help="the certificate goes to this file, and not to standard output")
-    if name in ("decide", "certify"):
-        command.add_argument("--open", action="store_true", help="the mesh has a boundary")
+    if name in ("decide", "certify", "loops", "homology"):
+        kinds = command.add_mutually_exclusive_group()
+        kinds.add_argument("--open", action="store_true", help="the mesh has a boundary")
+        if name == "decide":
+            kinds.add_argument("--any", action="store_true", help="the mesh may have a boundary, or none, and need not be orientable")
     command.add_argument("--json", action="store_true", help="print one JSON object")
 
 

@@ -62,14 +62,25 @@ def rows_of(path):
                 yield row
 
 
-def face_rows(mesh):
-    """The words of each face of a mesh that the program has read, and so found in order: how many corners, and then the corners."""
-    rows = rows_of(mesh.path)
+def counts_in(rows):
+    """How many vertices and faces a mesh has, by its first rows, which are taken."""
     words = next(rows).split()
     keyword = re.fullmatch("(?:ST|C|N|4|n)*OFF(.*)", words[0])
     if keyword:
         words[:1] = [keyword[1]] if keyword[1] else []
     vertices, faces = map(value, (words or next(rows).split())[:2])
+    return vertices, faces
+
+
+def counts_of(mesh):
+    """How many vertices and faces a mesh has that the program has read."""
+    return counts_in(rows_of(mesh.path))
+
+
+def face_rows(mesh):
+    """The words of each face of a mesh that the program has read, and so found in order: how many corners, and then the corners."""
+    rows = rows_of(mesh.path)
+    vertices, faces = counts_in(rows)
     for row in itertools.islice(rows, vertices, vertices + faces):
         yield row.split()
 

@@ -21,16 +21,16 @@ class Fault(Exception):
         super().__init__(message)
 
 
-def program_path():
-    """The program homotopy_cli: which the variable HOMOTOPY_CLI names, or else of this package, on the PATH, or of the repository."""
-    named = os.environ.get("HOMOTOPY_CLI")
-    built = os.path.join(REPOSITORY, "crates", "homotopy_cli", "out", "homotopy_cli")
-    places = [named] if named else [os.path.join(HERE, "homotopy_cli"), "homotopy_cli", built]
+def program_path(name="homotopy_cli"):
+    """A program: which the variable HOMOTOPY_CLI (or MESH_DOUBLE) names, or else of this package, on the PATH, or of the repository."""
+    variable = name.upper()
+    named = os.environ.get(variable)
+    places = [named] if named else [os.path.join(HERE, name), name, os.path.join(REPOSITORY, "crates", name, "out", name)]
     for place in places:
         found = shutil.which(place)
         if found:
             return found
-    raise Fault("the program %s is not there: install homotopy-tester, or let HOMOTOPY_CLI name it" % (named or "homotopy_cli"), 3)
+    raise Fault("the program %s is not there: install homotopy-tester, or let %s name it" % (named or name, variable), 3)
 
 
 def is_text(name):
@@ -92,10 +92,20 @@ class Files:
 
 
 def ask(command, *words):
-    """Runs the program, and tells on a terminal that it is at work, where that takes longer than a second."""
+    """Asks homotopy_cli."""
+    return run([program_path(), command], command, words)
+
+
+def ask_of(name, *words):
+    """Asks a program that has no commands."""
+    return run([program_path(name)], name, words)
+
+
+def run(asked, what, words):
+    """Runs a program, and tells on a terminal that it is at work, where that takes longer than a second."""
     with tempfile.TemporaryFile() as printed:
-        process = subprocess.Popen([program_path(), command, *words], stdin=subprocess.DEVNULL, stdout=printed)
-        watch(process, command)
+        process = subprocess.Popen([*asked, *words], stdin=subprocess.DEVNULL, stdout=printed)
+        watch(process, what)
         printed.seek(0)
         text = printed.read().decode("ascii", "replace")
     if process.returncode == 3:

@@ -6,19 +6,36 @@ from .program import Fault
 
 Line = namedtuple("Line", "number text")
 
+# The most vertices of a walk that the program reads.
+MOST_VERTICES = 1_000_001
+
 
 def value(word):
     """The value of digits, however many zeros stand before them. Of a longer number 21 digits are enough: they are past every limit."""
     return int(word.lstrip("0")[:21] or "0")
 
 
-def lines_of(path):
-    """The lines of walks, without comments, blank lines and the header."""
+def rows_of(path):
+    """The lines of a walk file that have words, without comments."""
     with open(path, "rb") as file:
         text = file.read().decode("latin-1")
     rows = [Line(number, row.split("#")[0].strip()) for number, row in enumerate(text.replace("\xef\xbb\xbf", "", 1).split("\n"), 1)]
-    rows = [row for row in rows if row.text]
-    return rows[1:] if rows and rows[0].text.split() == ["WALKS", "2"] else rows
+    return [row for row in rows if row.text]
+
+
+def has_header(rows):
+    return bool(rows) and rows[0].text.split() == ["WALKS", "2"]
+
+
+def is_of_version_2(path):
+    """Whether a walk file has the header of many pairs."""
+    return has_header(rows_of(path))
+
+
+def lines_of(path):
+    """The lines of walks, without comments, blank lines and the header."""
+    rows = rows_of(path)
+    return rows[1:] if has_header(rows) else rows
 
 
 def ends_of(line):

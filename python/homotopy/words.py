@@ -40,6 +40,10 @@ SENTENCES = {
     "refused: surface components {0}": "the surface has {0} pieces, and their numbers are told of at most 1,024",
     "refused: open sides {0}": "the mesh has {0} sides, and on a mesh with boundary 16,384 are the most",
     "refused: open darts {0}": "the walks have {0} darts together, and on a mesh with boundary 512 are the most",
+    "refused: double vertices": "the double of the mesh has more than 1,000,000 vertices",
+    "refused: double sides": "the double of the mesh has more than 4,000,000 sides",
+    "refused: cover vertices": "the orientation cover of the mesh has more than 1,000,000 vertices",
+    "refused: cover sides": "the orientation cover of the mesh has more than 4,000,000 sides",
     "rejected: face {0}": "at face {0}: a chain lists a face that is not there, or a cocycle does not add up to 0 round it",
     "rejected: zero": "the cocycle separates nothing",
 }
@@ -66,7 +70,7 @@ OF_HOMOLOGY = {
     "rejected: edge {0} {1}": "at the edge {0} {1} the boundary of the chain is not the difference of the walks, or it is no edge",
 }
 
-ONE_SIDE = "the mesh has a boundary there: `homotopy decide --open` takes such a mesh"
+ONE_SIDE = "the mesh has a boundary there: `homotopy decide --open` takes such a mesh, and `homotopy decide --any` a surface of any kind"
 MANY_SIDES = "at each edge two faces may meet, and not more"
 
 
@@ -116,7 +120,7 @@ def pinched(numbers, _rest, mesh, _walks):
 
 def not_orientable(_numbers, rest, _mesh, _walks):
     faces = [int(number) for number in rest.split()[::3]]
-    return Told("the mesh is not orientable: the faces %s make a Moebius band" % several(faces), "orientable surfaces alone are decided")
+    return Told("the mesh is not orientable: the faces %s make a Moebius band" % several(faces), "`homotopy decide --any` takes such a mesh")
 
 
 def no_vertex(numbers, _rest, mesh, walks):

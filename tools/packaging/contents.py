@@ -12,12 +12,22 @@ from trees import File, below, file_of, gz_of
 TOP = os.path.dirname(os.path.dirname(os.path.dirname(os.path.realpath(__file__))))
 FILES = os.path.join(TOP, "tools/packaging/files")
 PROGRAM = "crates/homotopy_cli/out/homotopy_cli"
+# Programs that write meshes: what each does, its words, and the page that draws it.
+MAKERS = {
+    "mesh_double": ("write the double of a mesh with boundary", "FILE", "docs/OPEN-SURFACES.md"),
+    "mesh_cover": ("write the orientation cover of a closed mesh, and lifts of walks", "FILE [WALKS]", "docs/COVERS.md"),
+}
 LIBRARIES = "crates/homotopy_c/out"
 DOC = "share/doc/homotopy-tester"
 
 
 def path_of(name):
     return os.path.join(TOP, name)
+
+
+def built(name):
+    """A program of the repository, by its name."""
+    return "crates/%s/out/%s" % (name, name)
 
 
 def text_of(name):
@@ -67,14 +77,19 @@ def manual_page(data):
 
 
 def command_tree():
-    """The proved program, with its manual, completion, pages and examples."""
+    """The proved programs, with their manual, completion, pages and examples."""
     known = {name: text_of(name) for name in ("docs/COMMANDS.md", "docs/FORMATS.md", "examples/README.md")}
+    makers = {"bin/" + name: file_of(path_of(built(name)), True) for name in MAKERS}
+    for name, (says, words, page) in MAKERS.items():
+        told = manual.maker_page(version(), name, says, words, known["docs/COMMANDS.md"], text_of(page))
+        makers["share/man/man1/%s.1.gz" % name] = manual_page(told)
     return {
         "bin/homotopy_cli": file_of(path_of(PROGRAM), True),
         "share/man/man1/homotopy_cli.1.gz": manual_page(manual.program_page(version(), known)),
         "share/man/man5/homotopy_files.5.gz": manual_page(manual.files_page(version(), known)),
         "share/bash-completion/completions/homotopy_cli": filled("completion.bash", name="homotopy_cli"),
         "share/zsh/vendor-completions/_homotopy_cli": filled("completion.zsh", name="homotopy_cli"),
+        **makers,
         **below(pages(), DOC),
     }
 

@@ -53,8 +53,10 @@ def copyright_of(kit):
 
 
 # Why lintian is to pass over what it would refuse.
-OVERRIDES = {"homotopy-tester": """# The program is byte for byte the one that the gate built, so that its checksum can be compared.
+OVERRIDES = {"homotopy-tester": """# The programs are byte for byte those that the gate built, so that their checksums can be compared.
 homotopy-tester: unstripped-binary-or-object [usr/bin/homotopy_cli]
+homotopy-tester: unstripped-binary-or-object [usr/bin/mesh_cover]
+homotopy-tester: unstripped-binary-or-object [usr/bin/mesh_double]
 """}
 
 
@@ -88,7 +90,7 @@ def packages(glibc, kit, releases):
     made = {
         "homotopy-tester": package("homotopy-tester", contents.command_tree(), control(
             "homotopy-tester", "math", c_library, "decide whether walks on polygon meshes are homotopic",
-            " This package has the program homotopy_cli, its manual, the pages, examples\n and films.\n",
+            " This package has the programs homotopy_cli, mesh_double and mesh_cover, their\n manual, the pages, examples and films.\n",
             "Suggests: python3-homotopy\n"), kit, releases),
         "libhomotopy-dev": package("libhomotopy-dev", library, control(
             "libhomotopy-dev", "libdevel", c_library, "library for walks on polygon meshes (development)",

@@ -127,8 +127,8 @@ def synopsis_of(commands):
 
 
 def example_of(examples, name):
-    """The first example of a command, with what it prints, from the page of examples, where each is run."""
-    found = re.search(r"(?:^    (?!\$).*\n)*^    (\$ (?:[^\n|]*\| )?homotopy_cli %s .*\n(?:^    (?!\$).*\n)*)" % name, examples, re.M)
+    """The first example of a command on a mesh as it is, with what it prints, from the page of examples, where each is run."""
+    found = re.search(r"(?:^    (?!\$).*\n)*^    (\$ (?:(?!mesh_)[^\n|]*\| )?homotopy_cli %s .*\n(?:^    (?!\$).*\n)*)" % name, examples, re.M)
     return [line[4:] if line.startswith("    ") else line for line in found[1].rstrip("\n").split("\n")]
 
 
@@ -164,6 +164,10 @@ def refusals_of_all(formats):
     return told.split("\n")
 
 
+def statuses(commands):
+    return [".SH EXIT STATUS"] + table([row for row in section_of(commands, "Statuses").split("\n") if row.startswith("|")])
+
+
 def program_page(version, pages):
     commands, formats, examples = pages["docs/COMMANDS.md"], pages["docs/FORMATS.md"], pages["examples/README.md"]
     body = [".SH SYNOPSIS"]
@@ -176,13 +180,23 @@ def program_page(version, pages):
     for name, words, says in synopsis_of(commands):
         body += [".SS " + escaped(words), inline(says[0].upper() + says[1:] + ".")]
         body += table(printed_by(formats, name)) + [".PP", "Example:"] + code(example_of(examples, name))
-    body += [".SH EXIT STATUS"] + table([row for row in section_of(commands, "Statuses").split("\n") if row.startswith("|")])
-    body += [".SH REFUSALS", "Beside those of each command there are these, with the status 2:"] + table(refusals_of_all(formats))
+    body += statuses(commands) + [".SH REFUSALS", "Beside those of each command there are these, with the status 2:"] + table(refusals_of_all(formats))
     body += [".PP", ".BR homotopy_files (5)", "names each fault of a file, and has the limits."]
     body += [".SH VERSION", "The words of the program are fixed, and it has no word for its version: this page is of version %s, and" % version,
              ".B homotopy \\-\\-version", "tells that of the command beside it.",
-             ".SH SEE ALSO", ".BR homotopy (1),", ".BR homotopy_files (5)"]
+             ".SH SEE ALSO", ".BR mesh_double (1),", ".BR mesh_cover (1),", ".BR homotopy (1),", ".BR homotopy_files (5)"]
     return headed("homotopy_cli", 1, version, "decide whether walks on polygon meshes are homotopic", body)
+
+
+def maker_page(version, name, says, words, commands, page):
+    """A program that writes a mesh: from what the page of commands says of it, and its first example on the page that draws it."""
+    told = re.search(r"^`%s` is .*?\)\. (It writes .*?)\n\n" % name, commands, re.M | re.S)[1].replace("statuses above", "statuses below")
+    example = re.search(r"^(    \$ %s .*\n(?:    .*\n)*)" % name, page, re.M)[1]
+    body = [".SH SYNOPSIS", ".B " + name, words, ".SH DESCRIPTION", inline(" ".join(told.split())), ".PP",
+            "The pages in docs/ beside the examples draw why, and CLAIMS.md there says what is proved.", ".PP", "Example:"]
+    body += code([line[4:] for line in example.rstrip("\n").split("\n")]) + statuses(commands)
+    body += [".SH SEE ALSO", ".BR homotopy_cli (1),", ".BR homotopy_files (5)"]
+    return headed(name, 1, version, says, body)
 
 
 def files_page(version, pages):
@@ -206,7 +220,8 @@ def command_page(version, parser):
                 body += [".TP", "\\fB%s\\fR" % escaped(shown), escaped(action.help % vars(action) if "%" in action.help else action.help)]
         body += [".PP", "Example:"] + code(["$ " + command.epilog.split("\n")[1].strip()])
     body += [".SH EXIT STATUS"] + page_body(parser.epilog.replace("status:\n  ", ""), 9)
-    body += [".SH ENVIRONMENT", ".TP", "\\fBHOMOTOPY_CLI\\fR", "the program that is asked", ".TP", "\\fBLIBHOMOTOPY\\fR",
+    body += [".SH ENVIRONMENT", ".TP", "\\fBHOMOTOPY_CLI\\fR", "the program that is asked", ".TP", "\\fBMESH_DOUBLE\\fR",
+             "the program that writes the double of a mesh with boundary", ".TP", "\\fBLIBHOMOTOPY\\fR",
              "the shared library of the Python module", ".TP", "\\fBNO_COLOR\\fR", "where it is set, no colours are used on a terminal",
              ".SH SEE ALSO", ".BR homotopy_cli (1),", ".BR homotopy_files (5)"]
     return headed("homotopy", 1, version, "ask whether walks on polygon meshes are homotopic", body)

@@ -22,7 +22,8 @@ def wheel(glibc):
     tag = "py3-none-manylinux_%s_x86_64" % glibc.replace(".", "_")
     name = "homotopy-%s" % contents.version()
     about = name + ".dist-info/"
-    tree = {**contents.module_tree(), **contents.shared_library(), "homotopy/homotopy_cli": file_of(contents.path_of(contents.PROGRAM), True),
+    programs = {"homotopy/" + program: file_of(contents.path_of(contents.built(program)), True) for program in ("homotopy_cli", *contents.MAKERS)}
+    tree = {**contents.module_tree(), **contents.shared_library(), **programs,
             about + "METADATA": File((METADATA % contents.version()).encode("utf-8")),
             about + "WHEEL": File(("Wheel-Version: 1.0\nGenerator: tools/package\nRoot-Is-Purelib: false\nTag: %s\n" % tag).encode("ascii")),
             about + "entry_points.txt": File(b"[console_scripts]\nhomotopy = homotopy.command:main\n")}
