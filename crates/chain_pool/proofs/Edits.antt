@@ -1,7 +1,5 @@
 -- The edits of one chain at its place: a step on, a step back, an entry more, an entry less.
-use Rattle.std.proofs.Common.{◌≡◌, ◌≢◌, ℕ, ◌+◌, ◌-◌, ◌<◌, List, ◌∷◌, length, set, count_by, is_some, Option, Some, None, refl, sym, ap, subst, ◌∙◌, inl, inr, arith}
-use Rattle.std.proofs.lemmas.Bool.{cases_eq}
-use Rattle.std.proofs.lemmas.List.{get_or-set_other}
+use Rattle.chain_pool.proofs.Common.{◌≡◌, ◌≢◌, ℕ, ◌+◌, ◌-◌, ◌<◌, List, ◌∷◌, length, set, count_by, is_some, Option, Some, None, refl, sym, ap, subst, ◌∙◌, inl, inr, arith, cases_eq, get_or-set_other}
 use Rattle.chain_pool.specs.Chains.{under, IsEdit, cells_in}
 use Rattle.chain_pool.specs.Memory.{Parted, Owner, Free, Left, Right, memory_of, joined_lists, parted_under, chains_of, stack_of, left_of, right_of, IsSound, advanced, retreated, pushed, cut_here}
 use Rattle.chain_pool.specs.declared.cells.Cell.{Cell}

@@ -1,7 +1,5 @@
 -- The way to a place: the two stacks of a chain are kept at hand, and its head is written at the end.
-use Rattle.std.proofs.Common.{◌≡◌, ◌≢◌, ℕ, ◌+◌, ◌-◌, ◌<◌, ◌^◌, List, length, set, Option, Some, None, refl, sym, ap, subst, ◌∙◌, arith, inl, inr}
-use Rattle.std.proofs.lemmas.Bool.{cases_eq}
-use Rattle.std.proofs.lemmas.List.{get_or-set_same, get_or-set_other, length-set, length-map, ext_get_or, set-set, set_comm}
+use Rattle.chain_pool.proofs.Common.{◌≡◌, ◌≢◌, ℕ, ◌+◌, ◌-◌, ◌<◌, ◌^◌, List, length, set, Option, Some, None, refl, sym, ap, subst, ◌∙◌, arith, inl, inr, cases_eq, get_or-set_same, get_or-set_other, length-set, length-map, ext_get_or, set-set, set_comm}
 use Rattle.chain_pool.specs.Chains.{under, IsUnder, IsEdit}
 use Rattle.chain_pool.specs.Memory.{Parted, PartedChains, joined, parted_under, parted_at, chains_of, IsSound, IsEntry, advanced, retreated}
 use Rattle.chain_pool.specs.declared.cells.Cell.{Cell}

@@ -1,7 +1,5 @@
 -- A cell more for the free ones, a chain that starts and a chain that goes.
-use Rattle.std.proofs.Common.{◌≡◌, ◌≢◌, ℕ, ◌+◌, ◌-◌, ◌<◌, List, [], set, count_by, is_some, Option, Some, None, refl, sym, ap, ◌∙◌, inl, inr, arith}
-use Rattle.std.proofs.lemmas.Bool.{cases_eq}
-use Rattle.std.proofs.lemmas.List.{get_or-set_same, get_or-set_other}
+use Rattle.chain_pool.proofs.Common.{◌≡◌, ◌≢◌, ℕ, ◌+◌, ◌-◌, ◌<◌, List, [], set, count_by, is_some, Option, Some, None, refl, sym, ap, ◌∙◌, inl, inr, arith, cases_eq, get_or-set_same, get_or-set_other}
 use Rattle.chain_pool.specs.Chains.{under, IsEdit, IsAlike, cells_of}
 use Rattle.chain_pool.specs.Memory.{Parted, Left, Right, memory_of, joined_option, chains_of, left_of, right_of, no_cells, IsSound, values}
 use Rattle.chain_pool.specs.declared.cells.Cell.{Cell}

@@ -1,6 +1,5 @@
 -- What is under names: in a list that was mapped, and how many cells all chains have.
-use Rattle.std.proofs.Common.{◌≡◌, ◌≢◌, ℕ, zero, suc, ◌+◌, ◌≤◌, List, [], ◌∷◌, map, Option, None, refl, sym, ap, arith}
-use Rattle.std.proofs.lemmas.List.Sums.{sum_by-cons}
+use Rattle.chain_pool.proofs.Common.{◌≡◌, ◌≢◌, ℕ, zero, suc, ◌+◌, ◌≤◌, List, [], ◌∷◌, map, Option, None, refl, sym, ap, arith, sum_by-cons}
 use Rattle.chain_pool.specs.Chains.{under, IsEdit, IsAlike, cells_of, cells_in}
 
 pub under-map : {A B : Type 0} (f : Option A → Option B) → f None ≡ None → (xs : List (Option A)) (k : ℕ)

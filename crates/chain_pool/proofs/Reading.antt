@@ -1,6 +1,5 @@
 -- Stacks of cells that are only read.
-use Rattle.std.proofs.Common.{◌≡◌, ℕ, zero, suc, ◌-◌, ◌<◌, List, [], ◌∷◌, length, get_or, drop, Option, Some, None, refl, sym, ap, subst, ◌∙◌, arith}
-use Rattle.std.specs.Prelude.{MatchOption, IsSome}
+use Rattle.chain_pool.proofs.Common.{◌≡◌, ℕ, zero, suc, ◌-◌, ◌<◌, List, [], ◌∷◌, length, get_or, drop, Option, Some, None, refl, sym, ap, subst, ◌∙◌, arith, MatchOption, IsSome}
 use Rattle.chain_pool.specs.Chains.{under}
 use Rattle.chain_pool.specs.Memory.{Memory, Owner, Owners, Left, Right, memory_of, values, IsOwned, IsStack, IsSound, IsEntry, left_of, right_of}
 use Rattle.chain_pool.specs.declared.cells.Cell.{Cell}

@@ -1,6 +1,5 @@
 -- What all stacks are after one cell becomes free, or one free cell a head.
-use Rattle.std.proofs.Common.{◌≡◌, ◌≢◌, ℕ, suc, ◌+◌, ◌-◌, ◌<◌, [], Option, Some, refl, sym, ap, subst, ◌∙◌, inl, inr, arith}
-use Rattle.std.proofs.lemmas.Bool.{cases_eq}
+use Rattle.chain_pool.proofs.Common.{◌≡◌, ◌≢◌, ℕ, suc, ◌+◌, ◌-◌, ◌<◌, [], Option, Some, refl, sym, ap, subst, ◌∙◌, inl, inr, arith, cases_eq}
 use Rattle.chain_pool.specs.Memory.{Memory, Owner, Owners, Free, Left, Right, values, IsOwned, AreOwned, left_of, right_of, no_cells}
 use Rattle.chain_pool.specs.declared.cells.Cell.{Cell}
 use Rattle.chain_pool.specs.declared.cells.Cell.TheVariants.{Head, Entry}

@@ -1,6 +1,5 @@
 -- Stacks of cells: what a stack keeps while other cells change.
-use Rattle.std.proofs.Common.{◌≡◌, ◌≢◌, ◌⊎◌, ℕ, zero, suc, ◌-◌, ◌<◌, cond, eqb, List, [], ◌∷◌, length, Some, refl, sym, ap, subst, ◌∙◌, inl, inr, arith}
-use Rattle.std.proofs.lemmas.Bool.{cases_eq}
+use Rattle.chain_pool.proofs.Common.{◌≡◌, ◌≢◌, ◌⊎◌, ℕ, zero, suc, ◌-◌, ◌<◌, cond, eqb, List, [], ◌∷◌, length, Some, refl, sym, ap, subst, ◌∙◌, inl, inr, arith, cases_eq}
 use Rattle.chain_pool.specs.Memory.{Memory, Owner, Owners, Free, Left, Right, values, IsOwned}
 use Rattle.chain_pool.specs.declared.cells.Cell.TheVariants.{Entry}
 

@@ -1,5 +1,5 @@
 -- What a change of one or two cells does to all stacks.
-use Rattle.std.proofs.Common.{◌≡◌, ◌≢◌, ℕ, suc, ◌+◌, ◌-◌, ◌<◌, List, ◌∷◌, Some, sym, ap, subst, ◌∙◌, inl, inr, arith}
+use Rattle.chain_pool.proofs.Common.{◌≡◌, ◌≢◌, ℕ, suc, ◌+◌, ◌-◌, ◌<◌, List, ◌∷◌, Some, sym, ap, subst, ◌∙◌, inl, inr, arith}
 use Rattle.chain_pool.specs.Memory.{Memory, Owner, Owners, values, IsOwned, AreOwned, stack_of}
 use Rattle.chain_pool.specs.declared.cells.Cell.TheVariants.{Entry}
 use Rattle.chain_pool.specs.declared.cells.Stack.{Stack}

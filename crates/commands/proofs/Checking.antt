@@ -1,7 +1,5 @@
 -- How checks that follow one another end.
-use Rattle.std.proofs.Common.{◌≡◌, ◌⊎◌, inl, inr, ℕ, ◌+◌, ◌<◌, List, length, refl, ap, ◌∙◌, subst, arith}
-use Rattle.std.specs.Prelude.{Option, Some, None, IfSome, Result, Ok, Err, replicate}
-use Rattle.std.proofs.lemmas.List.{length-replicate}
+use Rattle.commands.proofs.Common.{◌≡◌, ◌⊎◌, inl, inr, ℕ, ◌+◌, ◌<◌, List, length, refl, ap, ◌∙◌, subst, arith, length-replicate, Option, Some, None, IfSome, Result, Ok, Err, replicate}
 use Rattle.commands.specs.Answers.{Texts, NoText, IsText}
 use Rattle.commands.specs.Checks.{Check, Refuse, Pass, Passes, meant, ◌>>=◌}
 use Rattle.commands.specs.Stops.{Ends, Stops, Tells, bytes_of}

@@ -1,14 +1,7 @@
 -- How the decision on two walks ends, and what it leaves to be answered.
-use Rattle.std.proofs.Common.{◌≡◌, ◌⊎◌, inl, inr, ℕ, List, [], get_or, refl, sym, ap, ◌∙◌, subst}
-use Rattle.std.specs.Prelude.{◌↔◌, Option, Some, slice_get}
-use Rattle.std.proofs.lemmas.Option.{get_or_from_slice_get}
-use Rattle.surf_io.specs.Files.{Files}
-use Rattle.surf_model.specs.FaceLists.{FaceList}
-use Rattle.surf_model.specs.Walks.{IsWalk, HaveCommonEnds, AreWalkPair}
+use Rattle.commands.proofs.Common.{◌≡◌, ◌⊎◌, inl, inr, ℕ, List, [], get_or, refl, sym, ap, ◌∙◌, subst, get_or_from_slice_get, ◌↔◌, Option, Some, slice_get, Files, FaceList, AreWalkPair, Homotopic, Different, IsPair}
 use Rattle.surf_model.specs.Moves as moves
-use Rattle.walk_files.specs.Pairs.{IsPair}
 use Rattle.surf_model.specs.declared.decisions.Answer as deciding
-use Rattle.surf_model.specs.declared.decisions.Answer.TheVariants.{Homotopic, Different}
 use Rattle.commands.proofs.RightAnswers.{IsRightLine, right_line}
 use Rattle.commands.proofs.Sound.{IsSound, IsYesOrNo, one_right, sound-decided_by}
 use Rattle.commands.specs.Answers.{Texts}
@@ -77,11 +70,7 @@ pub walks_of_pair : (mesh : FaceList) (walks : List (List ℕ)) (a b : List ℕ)
 walks_of_pair mesh walks a b p f g =
     let one : p.first ≡ a = sym (ap (λ (w : List (List ℕ)). get_or w 0 []) p.two) ∙ get_or_from_slice_get walks 0 a [] f in
     let other : p.second ≡ b = sym (ap (λ (w : List (List ℕ)). get_or w 1 []) p.two) ∙ get_or_from_slice_get walks 1 b [] g in
-    record {
-      first_walk = subst (IsWalk mesh) one p.first_walk;
-      second_walk = subst (IsWalk mesh) other p.second_walk;
-      ends = subst (λ (w : List ℕ). HaveCommonEnds w b) one (subst (HaveCommonEnds p.first) other p.ends);
-    }
+    subst (λ (w : List ℕ). AreWalkPair mesh w b) one (subst (AreWalkPair mesh p.first) other p.are)
 
 -- what holds of the two walks that were read holds of those at the places of their list
 pub at_places : (P : List ℕ → List ℕ → Type 0) (pair : List (List ℕ)) (first second : List ℕ) → slice_get pair 0 ≡ Some first

@@ -1,15 +1,7 @@
 -- Lines that are gathered in a piece, in the words that say how they are put.
-use Rattle.std.proofs.Common.{◌≡◌, ℕ, ◌≤◌, List, [], ◌∷◌, ◌++◌, length, refl, sym, ap, ◌∙◌, append_assoc, arith}
-use Rattle.std.specs.Prelude.{codes, decimal, flat_map, map}
-use Rattle.std.proofs.lemmas.List.{append-nil}
-use Rattle.std.proofs.lemmas.Grind.{flat_map-append}
-use Rattle.surf_io.specs.Gathered.{spaced}
-use Rattle.surf_io.proofs.Gathering.{line_of-numbers}
+use Rattle.commands.proofs.Common.{◌≡◌, ℕ, ◌≤◌, List, [], ◌∷◌, ◌++◌, length, refl, sym, ap, ◌∙◌, append_assoc, arith, flat_map-append, append-nil, codes, decimal, flat_map, map, line_of-numbers, spaced, Homotopic, Different, line_of, entry_words}
 use Rattle.surf_model.specs.declared.chains.ChainLink.{ChainLink}
-use Rattle.text_scan.specs.Plain.{line_of}
-use Rattle.walk_files.specs.DenialTexts.{entry_words}
 use Rattle.surf_model.specs.declared.decisions.Answer as deciding
-use Rattle.surf_model.specs.declared.decisions.Answer.TheVariants.{Homotopic, Different}
 use Rattle.commands.specs.Certificates.{decision_line, decision_word}
 use Rattle.commands.specs.Lines.{behind_blank, link_phrases, odd_chain_line}
 use Rattle.commands.specs.WordTexts.{word_line}

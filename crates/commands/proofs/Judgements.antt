@@ -1,8 +1,5 @@
 -- Commands that read a mesh, two walks of it and a certificate: as the judgement on the certificate ends, the command does.
-use Rattle.std.proofs.Common.{inr, ℕ, List, [], ◌∷◌}
-use Rattle.std.specs.Prelude.{Option}
-use Rattle.surf_io.specs.Files.{Files}
-use Rattle.surf_model.specs.FaceLists.{FaceList}
+use Rattle.commands.proofs.Common.{inr, ℕ, List, [], ◌∷◌, Option, Files, FaceList}
 use Rattle.commands.proofs.Deciding.{behind}
 use Rattle.commands.proofs.Rows.{behind_pair, pair_told, mesh_told, mesh_passes, spelled_pair}
 use Rattle.commands.proofs.Sound.{IsSound, held}

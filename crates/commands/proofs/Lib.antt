@@ -1,3 +1,4 @@
+pub mod Common
 pub mod Checking
 pub mod LimitLemmas
 pub mod WalkInputs

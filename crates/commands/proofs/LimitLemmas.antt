@@ -1,10 +1,6 @@
 -- How the limits of a command that makes lists of moves are kept, and what is refused beyond them.
-use Rattle.std.proofs.Common.{◌≡◌, ℕ, ◌+◌, ◌<◌, ◌≤◌, Bool, true, false, List, refl, ap, arith}
-use Rattle.std.specs.Prelude.{nat_lt, if◌then◌else◌, Option, Some, None}
-use Rattle.std.specs.Option.{option_map}
+use Rattle.commands.proofs.Common.{◌≡◌, ℕ, ◌+◌, ◌<◌, ◌≤◌, Bool, true, false, List, refl, ap, arith, option_map, nat_lt, if◌then◌else◌, Option, Some, None, FaceList, total_sides, darts}
 use Rattle.std.proofs.lemmas.Bool.Decides.{nat_tests}
-use Rattle.surf_model.specs.FaceLists.{FaceList, total_sides}
-use Rattle.surf_model.specs.Walks.{darts}
 use Rattle.commands.specs.Limits.{FitsLimits, IsRefusedBeyond, first_over, over_line, sides_line, darts_line, limit_line}
 use Rattle.commands.specs.declared.limits.Limits.{Limits}
 use Rattle.commands.specs.declared.limits.OverLimit.TheVariants.{Sides, Darts}

@@ -1,6 +1,5 @@
 -- What a refusal gives as an answer, and a decision that is right.
-use Rattle.std.proofs.Common.{◌≡◌, ◌⊎◌, inl, inr, ℕ, List, sym, ap, ◌∙◌, subst}
-use Rattle.std.specs.Prelude.{◌↔◌}
+use Rattle.commands.proofs.Common.{◌≡◌, ◌⊎◌, inl, inr, ℕ, List, sym, ap, ◌∙◌, subst, ◌↔◌}
 use Rattle.commands.proofs.Sound.{IsYesOrNo}
 use Rattle.commands.specs.Answers.{Answer, Exactly}
 use Rattle.commands.specs.Checks.{Refuse, Pass, decided_by}

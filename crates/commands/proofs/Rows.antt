@@ -1,13 +1,8 @@
 -- The files that commands look at: the check of each has an end, and one where its files are told.
-use Rattle.std.proofs.Common.{◌≡◌, inr, ℕ, ◌≤◌, List, ◌∷◌, length, refl, []}
-use Rattle.std.specs.Prelude.{Option, Some, None, IsSomeAnd}
-use Rattle.surf_io.specs.Files.{Files, file_of}
-use Rattle.surf_model.specs.FaceLists.{FaceList}
-use Rattle.off_reader.specs.OffTexts.{meaning_of}
-use Rattle.walk_files.specs.Pairs.{IsPair, ends_fault, of_entry, pair_fault}
-use Rattle.walk_files.specs.declared.pair.PairFault.TheVariants.{NotTwo}
+use Rattle.commands.proofs.Common.{meaning_of, ◌≡◌, inr, ℕ, ◌≤◌, List, ◌∷◌, length, refl, [], Option, Some, None, IsSomeAnd, Files, file_of, FaceList, IsPair, ends_fault, of_entry, pair_fault}
 use Rattle.walk_files.proofs.PairLemmas.{none_of_pair}
 use Rattle.walk_files.proofs.TwoWalkLemmas.{two_fault-two}
+use Rattle.walk_files.specs.declared.pair.PairFault.TheVariants.{NotTwo}
 use Rattle.commands.specs.declared.refusal.Input.TheVariants as inputs
 use Rattle.commands.proofs.Deciding.{behind}
 use Rattle.commands.proofs.Sound.{IsSound, sound-then, sound-meant, sound-file, meant_told, held}
@@ -72,14 +67,7 @@ spelled_pair files name mesh first second h =
     let spelled = file.holds in
     let pair : List (List ℕ) = first ∷ second ∷ [] in
     let is_pair : IsPair mesh pair =
-    record {
-      first = first;
-      second = second;
-      two = refl;
-      first_walk = spelled.first_walk;
-      second_walk = spelled.second_walk;
-      ends = spelled.ends;
-    } in
+    record { first = first; second = second; two = refl; are = spelled.are } in
     walks_passed pair_line (pair_fault mesh) files name file.bytes pair (file.passes inputs.Walks) spelled.text
     (none_of_pair mesh pair is_pair)
 

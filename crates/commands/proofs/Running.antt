@@ -1,9 +1,5 @@
 -- Calls that read, one behind another.
-use Rattle.std.proofs.Common.{◌≡◌, ℕ, ◌<◌, ap, ◌∙◌, arith, refl}
-use Rattle.std.specs.Prelude.{Option, Result, Ok, Err, MatchResult}
-use Rattle.surf_io.specs.Calls.{OnlyReads}
-use Rattle.surf_io.specs.Faults.{Rose}
-use Rattle.surf_io.specs.Files.{Files}
+use Rattle.commands.proofs.Common.{◌≡◌, ℕ, ◌<◌, ap, ◌∙◌, arith, refl, Option, Result, Ok, Err, MatchResult, OnlyReads, Rose, Files}
 use Rattle.walk_files.specs.declared.stream_end.StreamEnd.{StreamEnd}
 use Rattle.walk_files.specs.declared.stream_end.StreamEnd.TheVariants.{Fault, TooLarge, Cert}
 use Rattle.walk_files.specs.declared.stream_end.StreamEnd.TheVariants as ends

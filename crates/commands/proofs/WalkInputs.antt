@@ -1,9 +1,6 @@
 -- How the check of a walk file ends, whatever is looked for in its walks.
-use Rattle.std.proofs.Common.{◌≡◌, ◌⊎◌, inl, inr, ℕ, List, refl, ap, subst, ◌∙◌}
-use Rattle.std.specs.Prelude.{Option, Some, None, Result, Ok, Err}
-use Rattle.surf_io.specs.Files.{Files}
+use Rattle.commands.proofs.Common.{◌≡◌, ◌⊎◌, inl, inr, ℕ, List, refl, ap, subst, ◌∙◌, Option, Some, None, Result, Ok, Err, Files, walk_text_of, walks_of, walks_in}
 use Rattle.walk_files.specs.WalkLists.{WalkText}
-use Rattle.walk_files.specs.WalkTexts.{walk_text_of, walks_of, walks_in}
 use Rattle.walk_files.specs.declared.fault.WalkFault.{WalkFault}
 use Rattle.commands.proofs.Checking.{stops_first, stops_next, stopped_where, told_stops}
 use Rattle.commands.proofs.Sound.{IsSound, sound-file, sound-then, sound-meant, sound-pass_unless, meant_told, unless_told}

@@ -1,15 +1,6 @@
 -- What is written piece by piece.
-use Rattle.std.proofs.Common.{◌≡◌, ℕ, suc, ◌+◌, ◌<◌, ◌≤◌, List, [], ◌∷◌, ◌++◌, length, get_or, take, drop, sym, ap, subst, ◌∙◌, append_assoc, arith}
-use Rattle.std.specs.Prelude.{Option, Result, Ok, Err, OnOk, OnErr, map, flat_map}
+use Rattle.commands.proofs.Common.{◌≡◌, ℕ, suc, ◌+◌, ◌<◌, ◌≤◌, List, [], ◌∷◌, ◌++◌, length, get_or, take, drop, sym, ap, subst, ◌∙◌, append_assoc, arith, flat_map-append, take_all, take_more, map-append, append-nil, Option, Result, Ok, Err, OnOk, OnErr, map, flat_map, appends_twice, on_err, part_after, part_first, part_last, EachPut, all-written, on_ok, only-then, part-written, append_told, Appends, AppendsPrefix, OnlyWrites, WroteAll, WrotePart, Rose, Gathers, Puts}
 use Rattle.std.proofs.Math.Seq.{split_at}
-use Rattle.std.proofs.lemmas.List.{take_all, take_more, map-append, append-nil}
-use Rattle.std.proofs.lemmas.Grind.{flat_map-append}
-use Rattle.surf_io.specs.Bytes.{append_told, Appends, AppendsPrefix}
-use Rattle.surf_io.specs.Calls.{OnlyWrites, WroteAll, WrotePart}
-use Rattle.surf_io.specs.Faults.{Rose}
-use Rattle.surf_io.specs.Gathered.{Gathers, Puts}
-use Rattle.surf_io.proofs.Appending.{appends_twice, on_err, part_after, part_first, part_last}
-use Rattle.surf_io.proofs.Gathering.{EachPut, all-written, on_ok, only-then, part-written}
 use Rattle.commands.specs.Lines.{line, behind_blank, in_lines, phrase_text}
 use Rattle.commands.specs.Writes.{Writes}
 use Rattle.commands.specs.declared.line.Phrase.{Phrase}

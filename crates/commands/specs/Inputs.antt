@@ -3,7 +3,7 @@ use Rattle.std.specs.Prelude.{◌≡◌, ◌⊎◌, ℕ, List, [], ◌∷◌, sl
 use Rattle.surf_io.specs.Files.{Files}
 use Rattle.surf_model.specs.FaceLists.{FaceList}
 use Rattle.surf_model.specs.Surfaces.{IsOrientable}
-use Rattle.surf_model.specs.Walks.{IsWalk, HaveCommonEnds}
+use Rattle.surf_model.specs.Walks.{AreWalkPair}
 use Rattle.off_reader.specs.OffTexts.{meaning_of}
 use Rattle.walk_files.specs.Certificates.{head_of_text, moves_of_text, with_peak}
 use Rattle.walk_files.specs.Denials.{denial_of_lines}
@@ -96,9 +96,7 @@ SpellsMesh mesh bytes = meaning_of bytes ≡ Ok mesh
 -- two walks of the mesh with common ends
 pub record SpellsPair (mesh : FaceList) (first second bytes : List ℕ) : Type 0 where
   pub text : walks_of bytes ≡ Ok (first ∷ second ∷ [])
-  pub first_walk : IsWalk mesh first
-  pub second_walk : IsWalk mesh second
-  pub ends : HaveCommonEnds first second
+  pub are : AreWalkPair mesh first second
 
 -- a certificate
 abbrev pub SpellsCertificate : Certificate → List ℕ → Type 0

@@ -1,21 +1,10 @@
 -- Lists of moves that lead at their peaks: one move more, a spur that comes in or goes out, and all moves further on in a longer walk.
-use Rattle.std.proofs.Common.{◌≡◌, ℕ, ◌+◌, ◌<◌, ◌≤◌, max, true, List, [], ◌∷◌, ◌++◌, length, take, refl, ap, sym, ◌∙◌, subst, arith, append_assoc, length-append}
-use Rattle.std.specs.Prelude.{Some, All, slice_get}
-use Rattle.std.proofs.lemmas.List.{take_more, map_push}
-use Rattle.std.proofs.lemmas.Option.{get_or_from_slice_get}
+use Rattle.common_ends.proofs.Common.{◌≡◌, ℕ, ◌+◌, ◌<◌, ◌≤◌, max, true, List, [], ◌∷◌, ◌++◌, length, take, refl, ap, sym, ◌∙◌, subst, arith, append_assoc, length-append, take_more, map_push, Some, All, slice_get, first_answer, in_context, one_after_another, stays_walk, FaceList, is_edge, PeakedMoves, apply, apply_all, greatest_darts, LeadsAtPeak, raised, all_raised, darts, Move, Insert, Remove, VertexName}
 use Rattle.std.proofs.lemmas.List.Elements.{All-cons, All-nil}
-use Rattle.surf_model.specs.FaceLists.{FaceList, is_edge}
-use Rattle.surf_model.specs.Walks.{darts}
-use Rattle.surf_model.specs.Moves.{PeakedMoves, apply, apply_all, greatest_darts}
-use Rattle.surf_model.specs.Replacements.{place_of}
-use Rattle.surf_model.specs.Rewriting.{raised, all_raised}
-use Rattle.surf_model.specs.declared.moves.Move.{Move}
-use Rattle.surf_model.specs.declared.moves.Move.TheVariants.{Insert, Remove}
-use Rattle.surf_model.specs.declared.names.VertexName.{VertexName}
+use Rattle.std.proofs.lemmas.Option.{get_or_from_slice_get}
 use Rattle.surf_model.proofs.ReplacementLemmas.{by_replacing}
 use Rattle.surf_model.proofs.WayBackLemmas.{alike}
-use Rattle.surf_model.proofs.ContextLemmas.{first_answer, in_context, one_after_another, stays_walk}
-use Rattle.surf_model.specs.PeakedLists.{LeadsAtPeak}
+use Rattle.surf_model.specs.Replacements.{place_of}
 
 -- the darts that a list of moves passes, the first move taken off
 pub greatest_darts-more : (mesh : FaceList) (walk next : List ℕ) (move : Move) (moves : List Move) → apply mesh walk move ≡ Some next

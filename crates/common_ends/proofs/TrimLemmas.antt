@@ -1,17 +1,6 @@
 -- What two walks begin with and end with: taken off, and put back around a list of moves between what is left.
-use Rattle.std.proofs.Common.{◌≡◌, ℕ, ◌+◌, ◌-◌, ◌<◌, ◌≤◌, true, List, [], ◌∷◌, ◌++◌, length, take, drop, get_or, refl, ap, sym, ◌∙◌, subst, arith, append_assoc, length-append}
-use Rattle.std.specs.Prelude.{IsTrue}
-use Rattle.std.proofs.lemmas.List.{append-nil, drop_more, drop-drop, get_or-append-add, get_or_append_left, get_or-drop, get_or-take, length-drop, length-take-le, take-append-drop, take-take, take_all, take_more}
-use Rattle.surf_model.specs.FaceLists.{FaceList, is_edge, is_used}
-use Rattle.surf_model.specs.Moves.{Homotopic, PeakedMoves}
-use Rattle.surf_model.specs.Rewriting.{raised, all_raised}
-use Rattle.surf_model.specs.Walks.{IsWalk, darts, AreWalkPair}
-use Rattle.surf_model.specs.declared.moves.Move.{Move}
-use Rattle.surf_model.specs.declared.moves.Move.TheVariants.{Insert, Remove, Across}
-use Rattle.surf_model.specs.declared.names.VertexName.{VertexName}
-use Rattle.surf_model.proofs.ContextLemmas.{list_in_context, one_after_another}
+use Rattle.common_ends.proofs.Common.{◌≡◌, ℕ, ◌+◌, ◌-◌, ◌<◌, ◌≤◌, true, List, [], ◌∷◌, ◌++◌, length, take, drop, get_or, refl, ap, sym, ◌∙◌, subst, arith, append_assoc, length-append, append-nil, drop_more, drop-drop, get_or-append-add, get_or_append_left, get_or-drop, get_or-take, length-drop, length-take-le, take-append-drop, take-take, take_all, take_more, IsTrue, list_in_context, one_after_another, FaceList, is_edge, is_used, Homotopic, PeakedMoves, LeadsAtPeak, raised, all_raised, IsWalk, darts, AreWalkPair, Move, Insert, Remove, Across, VertexName}
 use Rattle.surf_model.proofs.EdgeLemmas.{edge_swap}
-use Rattle.surf_model.specs.PeakedLists.{LeadsAtPeak}
 use Rattle.common_ends.specs.Trimmed.{AreCommonDarts, between, put_around}
 use Rattle.common_ends.specs.declared.common_darts.CommonDarts.{CommonDarts}
 use Rattle.common_ends.proofs.PeakLemmas.{greatest_raised, spur_comes, spur_goes}

@@ -1,13 +1,8 @@
 -- Vertices in classes, as the edges of the table are gone through.
-use Rattle.std.proofs.Common.{◌≡◌, inl, inr, ℕ, ◌+◌, ◌<◌, ◌≤◌, List, length, get_or, ap, sym, ◌∙◌, subst, arith, below_more}
-use Rattle.std.specs.List.{range_with_len}
-use Rattle.std.proofs.lemmas.List.FromFn.{length-range_with_len}
-use Rattle.surf_model.specs.FaceLists.{FaceList, IsFaceList}
-use Rattle.surf_model.specs.Edges.{Edge, IsTableOf, edge_in}
+use Rattle.connectivity.proofs.Common.{◌≡◌, inl, inr, ℕ, ◌+◌, ◌<◌, ◌≤◌, List, length, get_or, ap, sym, ◌∙◌, subst, arith, below_more, length-range_with_len, range_with_len, IsEdgeBetween, edge_between, table_pair, Edge, IsTableOf, edge_in, FaceList, IsFaceList}
 use Rattle.connectivity.specs.Classes.{joined_at}
 use Rattle.connectivity.specs.Partitions.{JoinsOnlyBySteps, IsEdgeStep, AreComponents}
 use Rattle.connectivity.proofs.Joining.{length-joined_at, joined_at_ends, joined_at_keeps, joins_only-joined_at, joins_only-alone}
-use Rattle.surf_model.proofs.TableEdgeLemmas.{IsEdgeBetween, edge_between, table_pair}
 use Rattle.connectivity.proofs.EdgeLemmas.{edge_swap, ends_below}
 
 -- the ends of the first k edges have one entry each two, and equal entries come by edges alone

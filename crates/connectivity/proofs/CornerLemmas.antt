@@ -1,19 +1,5 @@
 -- Corners at a vertex, and steps round it.
-use Rattle.std.proofs.Common.{◌≡◌, ◌⊎◌, inl, inr, ℕ, ◌<◌, true, eqb, List, [], ◌∷◌, length, get_or, ap, sym, ◌∙◌, subst, arith}
-use Rattle.std.specs.Prelude.{Contains}
-use Rattle.std.specs.List.{list_any}
-use Rattle.std.proofs.lemmas.Bool.{eq-eqb, eqb-true}
-use Rattle.std.proofs.lemmas.List.{get_or_default}
-use Rattle.std.proofs.lemmas.List.Folds.{list_any_at, Any-from_list_any}
-use Rattle.surf_model.specs.FaceLists.{FaceList, FaceSide, IsFaceList, face_at, all_sides, total_sides, is_used}
-use Rattle.surf_model.specs.Edges.{side_name}
-use Rattle.surf_model.specs.Darts.{IsSide, side_number, side_after, tail_of, head_of}
-use Rattle.surf_model.specs.Surfaces.{IsPath, AreJoined, ArePartners, IsCornerAt, IsCornerOfSide, IsStepAround, HasOneRing}
-use Rattle.surf_model.specs.declared.edges.Side.{Side}
-use Rattle.surf_model.proofs.NumberLemmas.{face_side, length-all_sides}
-use Rattle.surf_model.proofs.TableLemmas.{face_side_in, next_within}
-use Rattle.surf_model.proofs.PartnerLemmas.{IsWholeSide, whole_side}
-use Rattle.surf_model.proofs.EdgeLemmas.{ends_differ}
+use Rattle.connectivity.proofs.Common.{◌≡◌, ◌⊎◌, inl, inr, ℕ, ◌<◌, true, eqb, List, [], ◌∷◌, length, get_or, ap, sym, ◌∙◌, subst, arith, eq-eqb, eqb-true, get_or_default, list_any_at, Any-from_list_any, list_any, Contains, ends_differ, face_side, length-all_sides, IsWholeSide, whole_side, face_side_in, next_within, IsSide, side_number, side_after, tail_of, head_of, side_name, FaceList, FaceSide, IsFaceList, face_at, all_sides, total_sides, is_used, IsPath, AreJoined, ArePartners, IsCornerAt, IsCornerOfSide, IsStepAround, HasOneRing, Side}
 use Rattle.connectivity.specs.Partitions.{IsCornerStep, AreRings}
 use Rattle.connectivity.proofs.Joining.{joined_keep}
 

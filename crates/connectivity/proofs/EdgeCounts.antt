@@ -1,12 +1,5 @@
 -- How many sides edges have, by the table of the mesh.
-use Rattle.std.proofs.Common.{◌≡◌, inl, inr, ℕ, ◌<◌, ◌≤◌, Bool, true, false, ◌||◌, List, [], ◌∷◌, length, refl, ap, sym, ◌∙◌, subst, arith}
-use Rattle.std.specs.Prelude.{filter, cond}
-use Rattle.std.specs.List.{list_any}
-use Rattle.std.proofs.lemmas.Bool.{cases_Bool}
-use Rattle.surf_model.specs.FaceLists.{FaceList, all_sides, joins, is_edge}
-use Rattle.surf_model.specs.Edges.{Edge, IsTableOf, edge_in}
-use Rattle.surf_model.specs.Surfaces.{sides_between, EachEdgeHasTwoSides}
-use Rattle.surf_model.proofs.TableEdgeLemmas.{IsEdgeBetween, edge_between, sides_of_edge, sides_between_swap}
+use Rattle.connectivity.proofs.Common.{◌≡◌, inl, inr, ℕ, ◌<◌, ◌≤◌, Bool, true, false, ◌||◌, List, [], ◌∷◌, length, refl, ap, sym, ◌∙◌, subst, arith, cases_Bool, list_any, filter, cond, IsEdgeBetween, edge_between, sides_of_edge, sides_between_swap, Edge, IsTableOf, edge_in, FaceList, all_sides, joins, is_edge, sides_between, EachEdgeHasTwoSides}
 use Rattle.connectivity.specs.Joined.{NoEdgeHasThreeSides}
 
 -- where no side passes, none is kept

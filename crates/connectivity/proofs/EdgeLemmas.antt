@@ -1,16 +1,6 @@
 -- Edges of a mesh, by its table.
-use Rattle.std.proofs.Common.{◌≡◌, ◌≢◌, ◌⊎◌, inl, inr, ℕ, ◌<◌, ◌≤◌, true, List, length, sym, ◌∙◌, subst, arith}
-use Rattle.std.proofs.lemmas.Bool.Decides.{nat_tests}
-use Rattle.std.proofs.lemmas.List.Folds.{Any-from_list_any, list_any-from_Any}
-use Rattle.surf_model.specs.FaceLists.{FaceList, FaceSide, IsFaceList, all_sides, joins, is_edge, is_used}
-use Rattle.surf_model.specs.Darts.{IsSide, side_after, tail_of, head_of}
-use Rattle.surf_model.specs.Edges.{Edge, IsTableOf, side_name, edge_in}
-use Rattle.surf_model.specs.declared.edges.Side.{Side}
-use Rattle.surf_model.proofs.TableLemmas.{joins_swap}
-use Rattle.surf_model.proofs.TableEdgeLemmas.{table_pair, sides_of_edge}
-use Rattle.surf_model.proofs.PartnerLemmas.{IsWholeSide, whole_side}
+use Rattle.connectivity.proofs.Common.{◌≡◌, ◌≢◌, ◌⊎◌, inl, inr, ℕ, ◌<◌, ◌≤◌, true, List, length, sym, ◌∙◌, subst, arith, nat_tests, Any-from_list_any, list_any-from_Any, ends_differ, IsWholeSide, whole_side, table_pair, sides_of_edge, joins_swap, IsSide, side_after, tail_of, head_of, Edge, IsTableOf, side_name, edge_in, FaceList, FaceSide, IsFaceList, all_sides, joins, is_edge, is_used, Side}
 pub use Rattle.surf_model.proofs.EdgeLemmas.{used_below}
-use Rattle.surf_model.proofs.EdgeLemmas.{ends_differ}
 use Rattle.connectivity.proofs.CornerLemmas.{after_in_mesh, corner_used}
 use Rattle.connectivity.specs.Joined.{NoEdgeHasThreeSides}
 

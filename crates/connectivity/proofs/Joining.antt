@@ -1,11 +1,5 @@
 -- Being joined by steps, and the classes that are made along them.
-use Rattle.std.proofs.Common.{◌≡◌, ◌≢◌, ◌⊎◌, inl, inr, ℕ, ◌<◌, List, [], ◌∷◌, ◌++◌, length, min, max, get_or, refl, ap, sym, ◌∙◌, subst, arith}
-use Rattle.std.specs.List.{range_with_len}
-use Rattle.std.proofs.lemmas.Bool.{cases_eq}
-use Rattle.std.proofs.lemmas.Bool.Decides.{nat_tests}
-use Rattle.std.proofs.lemmas.List.{length-map, get_or-map, ext_get_or}
-use Rattle.std.proofs.lemmas.List.FromFn.{length-range_with_len, get_or-range_with_len}
-use Rattle.surf_model.specs.Surfaces.{IsPath, AreJoined}
+use Rattle.connectivity.proofs.Common.{◌≡◌, ◌≢◌, ◌⊎◌, inl, inr, ℕ, ◌<◌, List, [], ◌∷◌, ◌++◌, length, min, max, get_or, refl, ap, sym, ◌∙◌, subst, arith, cases_eq, nat_tests, length-map, get_or-map, ext_get_or, length-range_with_len, get_or-range_with_len, range_with_len, IsPath, AreJoined}
 use Rattle.connectivity.specs.Classes.{renamed, joined_at, AreLeastMembers}
 use Rattle.connectivity.specs.Partitions.{JoinsOnlyBySteps}
 use Rattle.connectivity.proofs.Forests.{renamed_old, renamed_other}

@@ -1,3 +1,4 @@
+pub mod Common
 pub mod Forests
 pub mod Joining
 pub mod EdgeLemmas

@@ -1,16 +1,6 @@
 -- Links of vertices, as the corners are gone through by their numbers.
-use Rattle.std.proofs.Common.{◌≡◌, ◌⊎◌, inl, inr, ℕ, ◌+◌, ◌<◌, List, length, get_or, set, refl, ap, sym, ◌∙◌, subst, arith}
-use Rattle.std.specs.Prelude.{Option, Some, None, IfSome, IfNone, MatchOption}
-use Rattle.std.proofs.lemmas.Bool.{cases_lt, cases_eq}
-use Rattle.std.proofs.lemmas.List.{length-set, get_or-set_same, get_or-set_other}
-use Rattle.surf_model.specs.FaceLists.{FaceList, FaceSide, IsFaceList, all_sides, total_sides}
-use Rattle.surf_model.specs.Edges.{side_name}
-use Rattle.surf_model.specs.Darts.{IsSide, side_number, tail_of}
-use Rattle.surf_model.specs.Surfaces.{AreJoined, IsCornerAt, HasOneRing}
-use Rattle.surf_model.specs.declared.edges.Side.{Side}
+use Rattle.connectivity.proofs.Common.{◌≡◌, ◌⊎◌, inl, inr, ℕ, ◌+◌, ◌<◌, List, length, get_or, set, refl, ap, sym, ◌∙◌, subst, arith, cases_lt, cases_eq, length-set, get_or-set_same, get_or-set_other, Option, Some, None, IfSome, IfNone, MatchOption, length-all_sides, IsWholeSide, whole_side, IsSide, side_number, tail_of, side_name, FaceList, FaceSide, IsFaceList, all_sides, total_sides, AreJoined, IsCornerAt, HasOneRing, Side}
 use Rattle.surf_model.specs.declared.names.VertexName.{VertexName}
-use Rattle.surf_model.proofs.NumberLemmas.{length-all_sides}
-use Rattle.surf_model.proofs.PartnerLemmas.{IsWholeSide, whole_side}
 use Rattle.connectivity.specs.Classes.{AreLeastMembers}
 use Rattle.connectivity.specs.Joined.{EachVertexHasOneRing, IsLeastPinch}
 use Rattle.connectivity.specs.Links.{with_ring, IsLeastCorner, HasTwoLeast, IsTrueLink, link_at, AreLinksUpTo, AreLinks, IsFirstPinched}

@@ -1,26 +1,12 @@
 -- Corners in rings, as the sides are gone through by their numbers.
-use Rattle.std.proofs.Common.{◌≡◌, ◌⊎◌, inl, inr, ℕ, zero, suc, ◌+◌, ◌<◌, ◌≤◌, true, List, length, map, get_or, refl, ap, sym, ◌∙◌, subst, arith}
-use Rattle.std.specs.Prelude.{Contains}
-use Rattle.std.proofs.lemmas.Bool.{cases_eq}
-use Rattle.std.proofs.lemmas.Bool.Decides.{nat_tests}
-use Rattle.std.specs.List.{range_with_len}
-use Rattle.std.proofs.lemmas.List.{length-map, get_or-map, get_or_default}
-use Rattle.std.proofs.lemmas.List.FromFn.{length-range_with_len}
-use Rattle.surf_model.specs.FaceLists.{FaceList, IsFaceList, next_corner, total_sides}
-use Rattle.surf_model.specs.Edges.{Edge, IsTableOf, IsEdgeOf, edge_in}
+use Rattle.connectivity.proofs.Common.{◌≡◌, ◌⊎◌, inl, inr, ℕ, zero, suc, ◌+◌, ◌<◌, ◌≤◌, true, List, length, map, get_or, refl, ap, sym, ◌∙◌, subst, arith, cases_eq, nat_tests, length-map, get_or-map, get_or_default, length-range_with_len, range_with_len, Contains, ends_differ, IsSideOfEdge, side_of_edge, edge_has_side, ends_agree, partners_of_edge, table_edge, next_within, IsSide, side_number, side_after, tail_of, head_of, Edge, IsTableOf, IsEdgeOf, edge_in, FaceList, IsFaceList, next_corner, total_sides, ArePartners, IsCornerOfSide, Side}
 use Rattle.surf_model.specs.EdgeDarts.{IsNextInEdge}
-use Rattle.surf_model.specs.Darts.{IsSide, side_number, side_after, tail_of, head_of}
-use Rattle.surf_model.specs.Surfaces.{ArePartners, IsCornerOfSide}
-use Rattle.surf_model.specs.declared.edges.Side.{Side}
-use Rattle.surf_model.proofs.TableLemmas.{next_within}
-use Rattle.surf_model.proofs.PartnerLemmas.{IsSideOfEdge, side_of_edge, edge_has_side, ends_agree, partners_of_edge, table_edge}
 use Rattle.connectivity.specs.Classes.{joined_at, KeepsJoined}
 use Rattle.connectivity.specs.Links.{IsJoinedAcross}
 use Rattle.connectivity.specs.Partitions.{JoinsOnlyByCornerSteps, IsCornerStep, AreRings}
 use Rattle.connectivity.proofs.Joining.{length-joined_at, joined_at_ends, joined_at_keeps, joins_only-joined_at, joins_only-alone}
 use Rattle.connectivity.specs.Joined.{NoEdgeHasThreeSides}
 use Rattle.connectivity.proofs.EdgeLemmas.{few_in_table}
-use Rattle.surf_model.proofs.EdgeLemmas.{ends_differ}
 use Rattle.connectivity.proofs.CornerLemmas.{number_below, number_once, corner_in_mesh, corner_end, one_corner, partners_swap, step_across}
 
 -- the partner of a side, by its number; there is no other

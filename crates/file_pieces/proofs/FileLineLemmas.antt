@@ -1,12 +1,5 @@
 -- Lines of a file that are read one by one.
-use Rattle.std.proofs.Common.{◌≡◌, ◌≢◌, ℕ, suc, ◌+◌, ◌<◌, ◌≤◌, Bool, true, false, not, cond, List, [], ◌∷◌, ◌++◌, length, Option, Some, None, IfSome, refl, sym, ap, subst, ◌∙◌, arith, append_assoc, append-nil}
-use Rattle.std.specs.Prelude.{slice_get}
-use Rattle.std.specs.List.{list_all}
-use Rattle.std.proofs.lemmas.Bool.{and_parts, and_from, not-true, not_from_false, ne_eqb}
-use Rattle.std.proofs.lemmas.List.Folds.{list_all-append}
-use Rattle.text_scan.specs.Lines.{Line, is_filled, cut, unmarked, lines_from}
-use Rattle.text_scan.specs.Unread.{is_line_feed, words_here, behind}
-use Rattle.text_scan.proofs.PlaceLemmas.{words_here-nil, behind-line_feed, behind-other, cut_first, lines_from_here}
+use Rattle.file_pieces.proofs.Common.{◌≡◌, ◌≢◌, ℕ, suc, ◌+◌, ◌<◌, ◌≤◌, Bool, true, false, not, cond, List, [], ◌∷◌, ◌++◌, length, Option, Some, None, IfSome, refl, sym, ap, subst, ◌∙◌, arith, append_assoc, append-nil, and_parts, and_from, not-true, not_from_false, ne_eqb, list_all-append, list_all, slice_get, words_here-nil, behind-line_feed, behind-other, cut_first, lines_from_here, Line, is_filled, cut, unmarked, lines_from, is_line_feed, words_here, behind}
 use Rattle.file_pieces.specs.declared.file_lines.Taken.{Taken}
 use Rattle.file_pieces.specs.Reading.{Reading, Reads, left_of}
 use Rattle.file_pieces.specs.SameLines.{SameLine}

@@ -1,11 +1,9 @@
 -- A line of which all bytes are kept, up to its line feed.
-use Rattle.std.proofs.Common.{◌≡◌, ℕ, suc, ◌+◌, ◌-◌, ◌<◌, ◌≤◌, Bool, true, List, ◌∷◌, ◌++◌, length, take, drop, sym, ap, ap₂, subst, ◌∙◌, arith, append_assoc, drop-drop}
-use Rattle.std.proofs.lemmas.List.{length-drop, length-take, drop-take, take-append-drop}
+use Rattle.file_pieces.proofs.Common.{◌≡◌, ℕ, suc, ◌+◌, ◌-◌, ◌<◌, ◌≤◌, Bool, true, List, ◌∷◌, ◌++◌, length, take, drop, sym, ap, ap₂, subst, ◌∙◌, arith, append_assoc, drop-drop, length-drop, length-take, drop-take, slice_index, is_filled, words_here}
 use Rattle.std.proofs.Math.Nat.{min-le_left}
 use Rattle.std.proofs.Math.Seq.{drop-cons}
-use Rattle.std.specs.Prelude.{Some, slice_index}
-use Rattle.text_scan.specs.Lines.{is_filled}
-use Rattle.text_scan.specs.Unread.{words_here}
+use Rattle.std.proofs.lemmas.List.{take-append-drop}
+use Rattle.std.specs.Prelude.{Some}
 use Rattle.file_pieces.specs.Reading.{Reading, Reads, left_of, read_so_far}
 use Rattle.file_pieces.specs.FileLines.{LinesReading, IsOneLine, ReadsLine}
 use Rattle.file_pieces.proofs.ReadingLemmas.{kept_and_others}

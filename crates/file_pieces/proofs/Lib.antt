@@ -1,3 +1,4 @@
+pub mod Common
 mod ReadingLemmas
 mod SameLemmas
 pub mod ShortLemmas

@@ -1,8 +1,6 @@
 -- Bytes of a file that come one by one, or piece by piece.
-use Rattle.std.proofs.Common.{◌≡◌, ℕ, suc, ◌+◌, true, List, [], ◌∷◌, ◌++◌, length, take, drop, Option, None, Some, IfSome, MatchOption, refl, sym, ap, subst, ◌∙◌, arith, append_assoc, drop-drop, take-append-drop}
-use Rattle.std.proofs.lemmas.List.{drop_all}
-use Rattle.std.specs.Prelude.{IsTrue, ◌<◌}
-use Rattle.text_scan.specs.Lines.{is_filled}
+use Rattle.file_pieces.proofs.Common.{◌≡◌, ℕ, suc, ◌+◌, true, List, [], ◌∷◌, ◌++◌, length, take, drop, Option, None, Some, IfSome, MatchOption, refl, sym, ap, subst, ◌∙◌, arith, append_assoc, drop-drop, take-append-drop, drop_all, IsTrue, is_filled}
+use Rattle.std.specs.Prelude.{◌<◌}
 use Rattle.file_pieces.specs.Reading.{Reading, Reads, left_of, read_so_far}
 
 -- what holds of what a shelf holds, where it tells so

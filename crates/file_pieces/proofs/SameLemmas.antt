@@ -1,11 +1,6 @@
 -- Words and lines that say the same.
-use Rattle.std.proofs.Common.{◌≡◌, ◌≢◌, lit≤, le_trans, ℕ, zero, suc, ◌+◌, ◌-◌, ◌*◌, ◌^◌, ◌≤◌, Bool, true, false, eqb, not, ◌&&◌, List, [], ◌∷◌, ◌++◌, length, take, fold, refl, sym, ap, subst, ◌∙◌, arith, length-append}
-use Rattle.std.specs.Prelude.{None, nat_le, nat_eq}
-use Rattle.std.specs.List.{list_all}
-use Rattle.std.specs.Str.{bytes_eq}
-use Rattle.std.proofs.lemmas.Bool.{and_parts, leb-true, le-ltb, ne_eqb, not-true, eq-eqb, both_ways}
-use Rattle.std.proofs.lemmas.List.{take-append-le}
-use Rattle.text_scan.specs.Numbers.{is_digit, is_natural, value_of, number_below}
+use Rattle.file_pieces.proofs.Common.{◌≡◌, ◌≢◌, lit≤, le_trans, ℕ, zero, suc, ◌+◌, ◌-◌, ◌*◌, ◌^◌, ◌≤◌, Bool, true, false, eqb, not, ◌&&◌, List, [], ◌∷◌, ◌++◌, length, take, fold, refl, sym, ap, subst, ◌∙◌, arith, length-append, and_parts, leb-true, le-ltb, ne_eqb, not-true, eq-eqb, both_ways, take-append-le, list_all, nat_le, nat_eq, bytes_eq, is_digit, is_natural, value_of, number_below}
+use Rattle.std.specs.Prelude.{None}
 use Rattle.file_pieces.specs.SameLines.{SameWord, SameWords, SameLine}
 use Rattle.file_pieces.specs.ShortLines.{is_lean}
 

@@ -1,16 +1,8 @@
 -- Short lines, byte by byte.
-use Rattle.std.proofs.Common.{◌≡◌, ℕ, ◌+◌, ◌<◌, ◌≤◌, Bool, true, false, eqb, not, ◌&&◌, ◌||◌, List, [], ◌∷◌, ◌++◌, length, drop, refl, sym, ap, ap₂, subst, ◌∙◌, arith, append_assoc, append-nil, length-append}
+use Rattle.file_pieces.proofs.Common.{◌≡◌, ℕ, ◌+◌, ◌<◌, ◌≤◌, Bool, true, false, eqb, not, ◌&&◌, ◌||◌, List, [], ◌∷◌, ◌++◌, length, drop, refl, sym, ap, ap₂, subst, ◌∙◌, arith, append_assoc, append-nil, length-append, and_parts, and_from, or_parts, not-true, not_from_false, both_ways, eqb-true, list_all-append, list_all, before_first, bytes_eq, is_hash, words_here-nil, words_here-line_feed, words_here-hash, words_here-blank, words_here-word, behind-nil, behind-other, lines_from_here, Line, is_filled, is_blank, words, cut, unmarked, lines_from, full_lines, is_digit, is_line_feed, words_here, behind}
 use Rattle.std.specs.Prelude.{cond}
-use Rattle.std.specs.List.{list_all, before_first}
-use Rattle.std.specs.Str.{bytes_eq}
-use Rattle.std.proofs.lemmas.Bool.{and_parts, and_from, or_parts, not-true, not_from_false, both_ways, eqb-true}
-use Rattle.std.proofs.lemmas.List.Folds.{list_all-append}
-use Rattle.text_scan.specs.Lines.{Line, is_filled, is_blank, words, cut, unmarked, lines_from, full_lines}
-use Rattle.text_scan.specs.Numbers.{is_digit}
-use Rattle.text_scan.specs.Steps.{ends_word, begins_word, from_first}
-use Rattle.text_scan.specs.Unread.{is_line_feed, words_here, behind}
 use Rattle.text_scan.proofs.ListLemmas.{before_first-append, before_first-yes, before_first-no, from_first-append, from_first-yes}
-use Rattle.text_scan.proofs.PlaceLemmas.{is_hash, words_here-nil, words_here-line_feed, words_here-hash, words_here-blank, words_here-word, behind-nil, behind-other, lines_from_here}
+use Rattle.text_scan.specs.Steps.{ends_word, begins_word, from_first}
 use Rattle.file_pieces.specs.SameLines.{SameWord, SameLine}
 use Rattle.file_pieces.specs.ShortLines.{ShortText, text_before, Stands, IsShort, HasEnded, PutsByte, is_lean}
 use Rattle.file_pieces.proofs.SameLemmas.{ne_of_eqb, SameWord-refl, SameWord-zero, SameWord-long, SameWords-refl, SameLine-refl, SameLine-trans, SameLine-append, SameLine-many}

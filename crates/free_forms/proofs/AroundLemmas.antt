@@ -1,12 +1,6 @@
 -- A list between what is left of two walks stays within its bound where the common darts stand around it.
-use Rattle.std.proofs.Common.{◌≡◌, ℕ, ◌+◌, ◌*◌, ◌<◌, ◌≤◌, List, length, ap, ◌∙◌, arith}
-use Rattle.std.proofs.lemmas.List.{length-map}
-use Rattle.surf_model.specs.Moves.{PeakedMoves}
-use Rattle.surf_model.specs.Rewriting.{raised}
-use Rattle.surf_model.specs.Walks.{darts}
-use Rattle.common_ends.specs.Trimmed.{AreCommonDarts, put_around}
+use Rattle.free_forms.proofs.Common.{AreLeft, HaveFewerDarts, fewer_darts, AreCommonDarts, put_around, ◌≡◌, ℕ, ◌+◌, ◌*◌, ◌<◌, ◌≤◌, List, length, ap, ◌∙◌, arith, length-map, PeakedMoves, raised, darts}
 use Rattle.common_ends.specs.declared.common_darts.CommonDarts.{CommonDarts}
-use Rattle.common_ends.proofs.TrimLemmas.{AreLeft, HaveFewerDarts, fewer_darts}
 use Rattle.free_forms.specs.PeakedLists.{IsWithin}
 use Rattle.free_forms.specs.declared.limits.TheConstants.{MOST_OPEN_SIDES, MOST_OPEN_DARTS, MOST_OPEN_STEPS}
 

@@ -1,20 +1,6 @@
 -- The way back along a list of moves: its peak, and the moves one by one.
-use Rattle.std.proofs.Common.{◌≡◌, inl, inr, ℕ, zero, suc, ◌+◌, ◌<◌, ◌≤◌, max, List, [], ◌∷◌, ◌++◌, length, drop, refl, ap, sym, ◌∙◌, subst, arith, length-append}
-use Rattle.std.specs.Prelude.{All, Some, slice_get}
-use Rattle.std.proofs.lemmas.Bool.{cases_eq}
-use Rattle.std.proofs.lemmas.List.{drop_more}
-use Rattle.std.proofs.lemmas.Option.{get_or_from_slice_get}
-use Rattle.surf_model.specs.FaceLists.{FaceList}
-use Rattle.surf_model.specs.Walks.{IsWalk, darts}
-use Rattle.surf_model.specs.Moves.{PeakedMoves, apply, apply_all, greatest_darts}
-use Rattle.surf_model.specs.Rewriting.{inverse_of, sides_of_move, way_back}
-use Rattle.surf_model.specs.declared.moves.Move.{Move}
-use Rattle.surf_model.specs.declared.moves.Move.TheVariants.{Insert, Remove, Across}
-use Rattle.surf_model.proofs.ReplacementLemmas.{by_replacing}
-use Rattle.surf_model.proofs.ContextLemmas.{first_answer, one_after_another, stays_walk}
-use Rattle.surf_model.proofs.WayBackLemmas.{keeps_walk, undone, list_undone}
+use Rattle.free_forms.proofs.Common.{greatest_darts-more, greatest_darts-none, greatest_darts-push, greatest_both, ◌≡◌, inl, inr, ℕ, zero, suc, ◌+◌, ◌<◌, ◌≤◌, max, List, [], ◌∷◌, ◌++◌, length, drop, refl, ap, sym, ◌∙◌, subst, arith, length-append, cases_eq, drop_more, get_or_from_slice_get, All, Some, slice_get, first_answer, one_after_another, stays_walk, by_replacing, keeps_walk, undone, list_undone, FaceList, PeakedMoves, apply, apply_all, greatest_darts, inverse_of, sides_of_move, way_back, IsWalk, darts, Move, Insert, Remove, Across}
 use Rattle.free_forms.specs.PeakedLists.{LeadsAtPeak, IsWithin, IsMoveOf}
-use Rattle.common_ends.proofs.PeakLemmas.{greatest_darts-more, greatest_darts-none, greatest_darts-push, greatest_both}
 
 -- the way back passes the same walks
 greatest_darts-back : (mesh : FaceList) (moves : List Move) (walk next : List ℕ) → IsWalk mesh walk → apply_all mesh walk moves ≡ Some next

@@ -1,9 +1,5 @@
 -- What a step costs: a move at most, and a dart at most; and less is to come by one at least.
-use Rattle.std.proofs.Common.{◌≡◌, inl, inr, ℕ, suc, ◌+◌, ◌<◌, ◌≤◌, max, List, [], ◌∷◌, ◌++◌, length, ap, ◌∙◌, subst, arith, length-append}
-use Rattle.surf_model.specs.Moves.{PeakedMoves}
-use Rattle.surf_model.specs.declared.limits.TheConstants.{MOST_PEAK}
-use Rattle.surf_model.specs.declared.moves.Move.{Move}
-use Rattle.surf_model.specs.declared.moves.Move.TheVariants.{Remove, Across}
+use Rattle.free_forms.proofs.Common.{◌≡◌, inl, inr, ℕ, suc, ◌+◌, ◌<◌, ◌≤◌, max, List, [], ◌∷◌, ◌++◌, length, ap, ◌∙◌, subst, arith, length-append, PeakedMoves, MOST_PEAK, Move, Remove, Across}
 use Rattle.free_forms.specs.Parents.{OpenView, HasParents, parent_of, expansion}
 use Rattle.free_forms.specs.Reductions.{ReductionView, darts_in, IsTaken, IsStep, HasRoom}
 use Rattle.free_forms.proofs.Expansions.{expansion_size}

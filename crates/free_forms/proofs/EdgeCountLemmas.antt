@@ -1,11 +1,5 @@
 -- How many sides edges have, by the table of the mesh.
-use Rattle.std.proofs.Common.{◌≡◌, ◌≢◌, inl, inr, ℕ, ◌<◌, ◌≤◌, List, length, sym, ◌∙◌, subst, arith}
-use Rattle.std.proofs.lemmas.Bool.{cases_Bool}
-use Rattle.surf_model.specs.FaceLists.{FaceList, is_edge}
-use Rattle.surf_model.specs.Edges.{Edge, IsTableOf, IsEdgeOf, IsPairBefore, edge_in}
-use Rattle.surf_model.specs.declared.names.VertexName.{VertexName}
-use Rattle.surf_model.proofs.TableEdgeLemmas.{IsEdgeBetween, edge_between, sides_of_edge, same_pair, place_before}
-use Rattle.connectivity.proofs.EdgeCounts.{between_by_table, no_edge_no_side, sides_by_table}
+use Rattle.free_forms.proofs.Common.{between_by_table, no_edge_no_side, sides_by_table, ◌≡◌, ◌≢◌, inl, inr, ℕ, ◌<◌, ◌≤◌, List, length, sym, ◌∙◌, subst, arith, cases_Bool, IsEdgeBetween, edge_between, sides_of_edge, same_pair, place_before, Edge, IsTableOf, IsEdgeOf, IsPairBefore, edge_in, FaceList, is_edge, VertexName}
 use Rattle.free_forms.specs.OpenSurfaces.{HasBoundary}
 use Rattle.free_forms.specs.OpenFaults.{IsFirstFault, IsFirstCrowded, IsLeastCrowdedEdge, IsBoundaryEdge}
 use Rattle.free_forms.specs.declared.fault.OpenFault.TheVariants.{EdgeSides}

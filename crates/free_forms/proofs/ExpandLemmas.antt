@@ -1,16 +1,6 @@
 -- What the code reads of a face whose parent is expanded, and that this is its expansion.
-use Rattle.std.proofs.Common.{◌≡◌, ℕ, ◌+◌, ◌-◌, ◌<◌, Bool, true, eqb, max, List, [], ◌∷◌, ◌++◌, length, refl, ap, sym, ◌∙◌, subst, arith, length-append}
-use Rattle.std.specs.Prelude.{cond, reverse}
-use Rattle.std.proofs.lemmas.List.{reverse-append, length-reverse, length-map}
-use Rattle.surf_model.specs.FaceLists.{FaceList, face_at, next_corner}
-use Rattle.surf_model.specs.Darts.{tail_of}
-use Rattle.surf_model.specs.Moves.{PeakedMoves}
-use Rattle.surf_model.specs.Vertices.{numbers}
-use Rattle.surf_model.specs.declared.edges.Side.{Side}
-use Rattle.surf_model.specs.declared.moves.Move.TheVariants.{Across}
-use Rattle.surf_model.specs.declared.names.VertexName.{VertexName}
+use Rattle.free_forms.proofs.Common.{◌≡◌, ℕ, ◌+◌, ◌-◌, ◌<◌, Bool, true, eqb, max, List, [], ◌∷◌, ◌++◌, length, refl, ap, sym, ◌∙◌, subst, arith, length-append, reverse-append, length-reverse, length-map, cond, reverse, tail_of, FaceList, face_at, next_corner, PeakedMoves, numbers, Side, Across, VertexName, beyond}
 use Rattle.free_forms.specs.Parents.{OpenView, HasParents, Joins, parent_of}
-use Rattle.walk_actions.specs.Actions.{beyond}
 use Rattle.free_forms.specs.Reductions.{Expands, IsWayAlong}
 use Rattle.free_forms.proofs.Expansions.{length_beyond}
 use Rattle.free_forms.proofs.ParentEdgeLemmas.{way_found, expansion_read}

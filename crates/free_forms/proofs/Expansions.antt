@@ -1,22 +1,6 @@
 -- How darts act where a dart along a parent edge acts as its expansion does: what holds of every base, by which the other darts act.
-use Rattle.std.proofs.Common.{◌≡◌, ◌≢◌, ◌⊎◌, inl, inr, ℕ, zero, suc, ◌+◌, ◌-◌, ◌<◌, ◌≤◌, Bool, true, false, not, List, [], ◌∷◌, length, get_or, refl, ap, sym, ◌∙◌, subst, arith}
-use Rattle.std.specs.Prelude.{Option, Some, None, ◌==◌, cond, if◌then◌else◌}
-use Rattle.std.proofs.lemmas.Bool.{cases_eq, cases_lt, eq-eqb, both_ways}
-use Rattle.std.proofs.lemmas.Bool.Decides.{nat_tests}
-use Rattle.surf_model.specs.FaceLists.{FaceSide, face_at, next_corner, joins}
-use Rattle.surf_model.specs.Darts.{IsSide, tail_of, head_of}
-use Rattle.surf_model.specs.Surfaces.{ArePartners}
-use Rattle.surf_model.specs.declared.edges.Side.{Side}
-use Rattle.surf_model.proofs.EdgeLemmas.{step_within}
-use Rattle.surf_model.proofs.RoundLemmas.{corner_after, rises, rises_past, falls, falls_past, meet}
-use Rattle.surf_model.proofs.TableLemmas.{joins_swap}
-use Rattle.surf_model.proofs.EdgeLemmas.{ends_differ}
-use Rattle.connectivity.proofs.CornerLemmas.{partners_swap}
+use Rattle.free_forms.proofs.Common.{partners_swap, ◌≡◌, ◌≢◌, ◌⊎◌, inl, inr, ℕ, zero, suc, ◌+◌, ◌-◌, ◌<◌, ◌≤◌, Bool, true, false, not, List, [], ◌∷◌, length, get_or, refl, ap, sym, ◌∙◌, subst, arith, cases_eq, cases_lt, eq-eqb, both_ways, nat_tests, Option, Some, None, ◌==◌, cond, if◌then◌else◌, step_within, ends_differ, corner_after, rises, rises_past, falls, falls_past, meet, joins_swap, IsSide, tail_of, head_of, FaceSide, face_at, next_corner, joins, ArePartners, Side, acts_exactly, run_stays, next_back, after_within, after_more, after_back, after_add, corners_apart, end_from, end_beyond, each_dart, each_any, run-more, walked-round, run, beyond, EachDart, ActsAlong, FacesActAsNothing}
 use Rattle.free_forms.specs.Parents.{OpenView, HasParents, EndsOutside, Joins, IsParentEdge, parent_of, expansion}
-use Rattle.walk_actions.specs.Actions.{run, beyond, EachDart, ActsAlong, FacesActAsNothing}
-use Rattle.walk_actions.proofs.Corners.{next_back, after_within, after_more, after_back, after_add, corners_apart}
-use Rattle.walk_actions.proofs.Runs.{end_from, end_beyond, each_dart, each_any, run-more, walked-round}
-use Rattle.walk_actions.proofs.Actions.{acts_exactly, run_stays}
 
 -- each pair of vertices acts, also in lists that are no walks; states are told apart by equality
 abbrev pub AnyDart : ℕ → ℕ → Type 0

@@ -1,11 +1,5 @@
 -- First faults exclude each other, and an open surface.
-use Rattle.std.proofs.Common.{◌≡◌, ◌⊎◌, inl, inr, ℕ, ◌<◌, refl, ap, sym, ◌∙◌, subst, arith}
-use Rattle.std.proofs.lemmas.Bool.{cases_order}
-use Rattle.surf_model.specs.FaceLists.{FaceList}
-use Rattle.surf_model.specs.Edges.{IsPairBefore}
-use Rattle.surf_model.specs.Surfaces.{sides_between}
-use Rattle.surf_model.specs.declared.names.VertexName.{VertexName}
-use Rattle.connectivity.specs.Joined.{NoEdgeHasThreeSides, IsLeastPinch, IsLeastUsed, AreLeastApart}
+use Rattle.free_forms.proofs.Common.{NoEdgeHasThreeSides, IsLeastPinch, IsLeastUsed, AreLeastApart, ◌≡◌, ◌⊎◌, inl, inr, ℕ, ◌<◌, refl, ap, sym, ◌∙◌, subst, arith, cases_order, IsPairBefore, FaceList, sides_between, VertexName}
 use Rattle.free_forms.specs.OpenSurfaces.{IsOpenSurface}
 use Rattle.free_forms.specs.OpenFaults.{IsFirstFault, IsLeastCrowdedEdge}
 use Rattle.free_forms.specs.declared.fault.OpenFault.{OpenFault}

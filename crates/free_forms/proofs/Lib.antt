@@ -1,3 +1,4 @@
+pub mod Common
 pub mod Expansions
 pub mod NormalLemmas
 pub mod EdgeCountLemmas

@@ -1,18 +1,7 @@
 -- Below a dart each face is expanded once at most.
-use Rattle.std.proofs.Common.{◌≡◌, ◌≢◌, ◌⊎◌, inl, inr, ℕ, zero, suc, ◌+◌, ◌-◌, ◌<◌, ◌≤◌, true, List, [], ◌∷◌, length, get_or, refl, ap, sym, ◌∙◌, subst, arith}
-use Rattle.std.specs.Prelude.{Contains, Option, Some, None, filter, if◌then◌else◌, ◌==◌}
-use Rattle.std.proofs.lemmas.Bool.{cases_eq, eq-eqb}
-use Rattle.std.proofs.lemmas.Bool.Decides.{nat_tests}
-use Rattle.std.proofs.lemmas.List.{get_or_default}
-use Rattle.surf_model.specs.FaceLists.{FaceList, FaceSide, face_at, all_sides, joins}
-use Rattle.surf_model.specs.Darts.{IsSide, tail_of, head_of}
-use Rattle.surf_model.specs.Surfaces.{ArePartners}
-use Rattle.surf_model.specs.declared.edges.Side.{Side}
+use Rattle.free_forms.proofs.Common.{NoEdgeHasThreeSides, ◌≡◌, ◌≢◌, ◌⊎◌, inl, inr, ℕ, zero, suc, ◌+◌, ◌-◌, ◌<◌, ◌≤◌, true, List, [], ◌∷◌, length, get_or, refl, ap, sym, ◌∙◌, subst, arith, cases_eq, eq-eqb, nat_tests, get_or_default, Contains, Option, Some, None, filter, if◌then◌else◌, ◌==◌, Contains-filter, face_side_in, IsSide, tail_of, head_of, FaceList, FaceSide, face_at, all_sides, joins, ArePartners, Side, run}
 use Rattle.surf_model.proofs.NumberLemmas.{face_side}
-use Rattle.surf_model.proofs.TableLemmas.{Contains-filter, face_side_in}
-use Rattle.connectivity.specs.Joined.{NoEdgeHasThreeSides}
 use Rattle.free_forms.specs.Parents.{OpenView, HasParents, EndsOutside, parent_of, expansion}
-use Rattle.walk_actions.specs.Actions.{run}
 use Rattle.free_forms.proofs.Expansions.{EachAlong, IsAlong, IsFound, acting, by_face, parent_face_of, found_face, expansion_places, places_behind, places_differ, expansion_size, side_at, across}
 
 -- ---- a side has one partner

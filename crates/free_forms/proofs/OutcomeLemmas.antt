@@ -1,18 +1,11 @@
 -- No face list is without the one or the other: it is an open surface, or it has a first fault. Nothing is decided for this.
-use Rattle.std.proofs.Common.{◌≡◌, ◌⊎◌, inl, inr, ℕ, zero, suc, ◌<◌, ◌≤◌, true, length, refl, sym, subst, arith}
-use Rattle.std.proofs.lemmas.Bool.{cases_Bool, cases_lt, cases_eq, both_ways}
-use Rattle.surf_model.specs.FaceLists.{FaceList, IsFaceList, is_edge, is_used}
-use Rattle.surf_model.specs.Components.{EachTwoAreJoined}
-use Rattle.surf_model.specs.Surfaces.{HasOneRing, AreJoinedByWalk, sides_between}
-use Rattle.surf_model.proofs.TableEdgeLemmas.{sides_between_swap}
-use Rattle.connectivity.specs.Joined.{NoEdgeHasThreeSides, EachVertexHasOneRing, IsLeastUsed}
-use Rattle.connectivity.proofs.EdgeLemmas.{edge_differs, used_below}
+use Rattle.free_forms.proofs.Common.{no_edge_no_side, edge_differs, used_below, NoEdgeHasThreeSides, EachVertexHasOneRing, IsLeastUsed, ◌≡◌, ◌⊎◌, inl, inr, ℕ, zero, suc, ◌<◌, ◌≤◌, true, length, refl, sym, subst, arith, cases_Bool, cases_lt, cases_eq, both_ways, sides_between_swap, FaceList, IsFaceList, is_edge, is_used, HasOneRing, AreJoinedByWalk, sides_between}
 use Rattle.connectivity.proofs.WalkLemmas.{walk_between_ends}
+use Rattle.surf_model.specs.Components.{EachTwoAreJoined}
 use Rattle.free_forms.specs.OpenSurfaces.{IsOpenSurface, HasBoundary}
 use Rattle.free_forms.specs.OpenFaults.{IsFirstFault}
 use Rattle.free_forms.specs.declared.fault.OpenFault.{OpenFault}
 use Rattle.free_forms.specs.declared.fault.OpenFault.TheVariants.{NoFace, EdgeSides, NoBoundary, Pinched, Apart}
-use Rattle.connectivity.proofs.EdgeCounts.{no_edge_no_side}
 
 -- nothing is a first fault of the mesh
 abbrev HasNoFault : FaceList → Type 0

@@ -1,19 +1,6 @@
 -- The parent on an edge, found by the table of the mesh; and the way along it.
-use Rattle.std.proofs.Common.{◌≡◌, ◌⊎◌, inl, inr, ℕ, zero, suc, ◌-◌, ◌<◌, ◌≤◌, Bool, true, false, not, eqb, List, [], ◌∷◌, ◌++◌, length, get_or, refl, ap, sym, ◌∙◌, subst, arith}
-use Rattle.std.specs.Prelude.{All, Some, slice_get, reverse, cond}
-use Rattle.std.proofs.lemmas.Bool.{eqb-true, eq-eqb, both_ways}
-use Rattle.std.proofs.lemmas.List.{reverse-append}
-use Rattle.std.proofs.lemmas.Option.{get_or_from_slice_get}
-use Rattle.surf_model.specs.FaceLists.{FaceList, face_at, next_corner}
-use Rattle.surf_model.specs.Darts.{IsSide, tail_of}
-use Rattle.surf_model.specs.Edges.{Edge, IsTableOf, HasEnds, edge_in}
-use Rattle.surf_model.specs.declared.edges.Side.{Side}
-use Rattle.surf_model.proofs.EdgeLemmas.{step_within}
-use Rattle.surf_model.proofs.PartnerLemmas.{IsSideOfEdge, IsEdgeOfSide, side_of_edge, edge_has_side, edge_of_side, table_edge}
-use Rattle.surf_model.proofs.RoundLemmas.{corner_after, meet}
+use Rattle.free_forms.proofs.Common.{◌≡◌, ◌⊎◌, inl, inr, ℕ, zero, suc, ◌-◌, ◌<◌, ◌≤◌, Bool, true, false, not, eqb, List, [], ◌∷◌, ◌++◌, length, get_or, refl, ap, sym, ◌∙◌, subst, arith, eqb-true, eq-eqb, both_ways, reverse-append, get_or_from_slice_get, All, Some, slice_get, reverse, cond, step_within, IsSideOfEdge, IsEdgeOfSide, side_of_edge, edge_has_side, edge_of_side, table_edge, corner_after, meet, IsSide, tail_of, Edge, IsTableOf, HasEnds, edge_in, FaceList, face_at, next_corner, Side, after_back, beyond_more, beyond}
 use Rattle.free_forms.specs.Parents.{OpenView, HasParents, Joins, IsParentEdge, parent_of, expansion}
-use Rattle.walk_actions.specs.Actions.{beyond}
-use Rattle.walk_actions.proofs.Corners.{after_back, beyond_more}
 use Rattle.free_forms.specs.Reductions.{IsWayAlong}
 use Rattle.free_forms.proofs.Expansions.{from_tail, from_head, parent_in_mesh}
 

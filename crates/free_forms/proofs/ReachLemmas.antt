@@ -1,20 +1,9 @@
 -- A search from the boundary of a connected surface reaches each face.
-use Rattle.std.proofs.Common.{◌≡◌, inl, inr, ℕ, zero, suc, ◌+◌, ◌<◌, ◌≤◌, true, List, [], ◌∷◌, length, get_or, refl, ap, sym, ◌∙◌, subst, arith}
-use Rattle.surf_model.specs.FaceLists.{FaceList, IsFaceList, face_at, is_edge}
-use Rattle.surf_model.specs.Darts.{IsSide, side_after}
-use Rattle.surf_model.specs.Edges.{Edge, IsTableOf, edge_in}
-use Rattle.surf_model.specs.Surfaces.{IsPath, AreJoined, ArePartners, IsCornerAt, IsCornerOfSide, IsStepAround}
-use Rattle.surf_model.specs.Walks.{darts}
-use Rattle.surf_model.specs.declared.edges.Side.{Side}
-use Rattle.connectivity.proofs.CornerLemmas.{after_in_mesh, corner_used}
-use Rattle.connectivity.proofs.EdgeLemmas.{HasSideBetween, side_between}
+use Rattle.free_forms.proofs.Common.{after_in_mesh, corner_used, sides_by_table, no_edge_no_side, HasSideBetween, side_between, ◌≡◌, inl, inr, ℕ, zero, suc, ◌+◌, ◌<◌, ◌≤◌, true, List, [], ◌∷◌, length, get_or, refl, ap, sym, ◌∙◌, subst, arith, cases_Bool, IsEdgeBetween, edge_between, IsSide, side_after, Edge, IsTableOf, edge_in, FaceList, IsFaceList, face_at, is_edge, IsPath, AreJoined, ArePartners, IsCornerAt, IsCornerOfSide, IsStepAround, darts, Side}
 use Rattle.free_forms.specs.OpenSurfaces.{IsOpenSurface}
 use Rattle.free_forms.specs.Parents.{HasParents}
 use Rattle.free_forms.specs.Searches.{SearchView, IsReached, IsSearch, IsClosedUpTo, IsStartedUpTo}
 use Rattle.free_forms.proofs.SearchLemmas.{reached_below, all_end_outside}
-use Rattle.connectivity.proofs.EdgeCounts.{sides_by_table, no_edge_no_side}
-use Rattle.surf_model.proofs.TableEdgeLemmas.{IsEdgeBetween, edge_between}
-use Rattle.std.proofs.lemmas.Bool.{cases_Bool}
 
 -- a set of faces that steps across edges do not lead out of
 abbrev pub IsClosedUnderSteps : FaceList → (ℕ → Type 0) → Type 0

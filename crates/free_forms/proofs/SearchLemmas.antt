@@ -1,20 +1,6 @@
 -- What a search of the faces has reached, as it goes on.
-use Rattle.std.proofs.Common.{◌≡◌, ◌≢◌, ◌⊎◌, inl, inr, ℕ, zero, suc, ◌+◌, ◌<◌, ◌≤◌, Bool, true, false, List, [], ◌∷◌, ◌++◌, length, get_or, set, refl, ap, sym, ◌∙◌, subst, arith, length-append}
-use Rattle.std.specs.Prelude.{sum_by, cond, Some, slice_get}
-use Rattle.std.proofs.lemmas.Bool.{cases_Bool, cases_eq, cases_lt}
-use Rattle.std.proofs.lemmas.List.{length-set, get_or-set_same, get_or-set_other, get_or_append_left, get_or_past, get_or-append-add}
-use Rattle.std.proofs.lemmas.List.Sums.{sum_by-set, sum_by-cons}
-use Rattle.surf_model.specs.FaceLists.{FaceList, face_at}
-use Rattle.surf_model.specs.Darts.{IsSide, side_number}
+use Rattle.free_forms.proofs.Common.{number_once, HasPartner, IsAlone, partner_or_alone, partners_by_number, alone_in_edge, partner_back, NoEdgeHasThreeSides, ◌≡◌, ◌≢◌, ◌⊎◌, inl, inr, ℕ, zero, suc, ◌+◌, ◌<◌, ◌≤◌, Bool, true, false, List, [], ◌∷◌, ◌++◌, length, get_or, set, refl, ap, sym, ◌∙◌, subst, arith, length-append, cases_Bool, cases_eq, cases_lt, length-set, get_or-set_same, get_or-set_other, get_or_append_left, get_or_past, get_or-append-add, sum_by-set, sum_by-cons, get_or_from_slice_get, sum_by, cond, Some, slice_get, IsSideOfEdge, side_of_edge, table_edge, IsSide, side_number, Edge, IsTableOf, edge_in, FaceList, face_at, ArePartners, Side}
 use Rattle.surf_model.specs.EdgeDarts.{IsNextInEdge}
-use Rattle.surf_model.specs.Edges.{Edge, IsTableOf, edge_in}
-use Rattle.surf_model.specs.Surfaces.{ArePartners}
-use Rattle.surf_model.specs.declared.edges.Side.{Side}
-use Rattle.std.proofs.lemmas.Option.{get_or_from_slice_get}
-use Rattle.surf_model.proofs.PartnerLemmas.{IsSideOfEdge, side_of_edge, table_edge}
-use Rattle.connectivity.specs.Joined.{NoEdgeHasThreeSides}
-use Rattle.connectivity.proofs.CornerLemmas.{number_once}
-use Rattle.connectivity.proofs.RingLemmas.{HasPartner, IsAlone, partner_or_alone, partners_by_number, alone_in_edge, partner_back}
 use Rattle.free_forms.specs.Parents.{EndsOutside}
 use Rattle.free_forms.specs.Searches.{SearchView, IsReached, IsSearch, Grows, NeighboursReached, IsClosedUpTo, IsStartedUpTo, with_side, parent_in, bit}
 

@@ -1,15 +1,8 @@
 -- A dart weighs one, and as much as the faces that are expanded below it have sides but one each. So it weighs no more than the mesh has
 -- sides.
-use Rattle.std.proofs.Common.{◌≡◌, inl, inr, ℕ, zero, suc, ◌+◌, ◌-◌, ◌*◌, ◌<◌, ◌≤◌, List, [], ◌∷◌, length, take, refl, ap, sym, ◌∙◌, arith}
-use Rattle.std.specs.Prelude.{All, Option, Some, None, sum_by}
-use Rattle.std.proofs.lemmas.Bool.{cases_eq, eq-eqb}
-use Rattle.std.proofs.lemmas.Bool.Decides.{nat_tests}
-use Rattle.std.proofs.lemmas.List.{take_more, take_all}
+use Rattle.free_forms.proofs.Common.{◌≡◌, inl, inr, ℕ, zero, suc, ◌+◌, ◌-◌, ◌*◌, ◌<◌, ◌≤◌, List, [], ◌∷◌, length, take, refl, ap, sym, ◌∙◌, arith, cases_eq, eq-eqb, nat_tests, take_more, take_all, sum_by-cons, sum_by_push, All, Option, Some, None, sum_by, FaceList, face_at, total_sides, run}
 use Rattle.std.proofs.lemmas.List.Elements.{All-nil, All-cons}
-use Rattle.std.proofs.lemmas.List.Sums.{sum_by-cons, sum_by_push}
-use Rattle.surf_model.specs.FaceLists.{FaceList, face_at, total_sides}
 use Rattle.free_forms.specs.Parents.{OpenView, HasParents, parent_of, expansion}
-use Rattle.walk_actions.specs.Actions.{run}
 use Rattle.free_forms.proofs.Expansions.{acting, by_face, parent_face_of, found_face, expansion_size}
 use Rattle.free_forms.proofs.OnceLemmas.{list_on, list_in, listed, times, listed_once}
 use Rattle.free_forms.proofs.StepLemmas.{weight, count_on, count_in, count_from}

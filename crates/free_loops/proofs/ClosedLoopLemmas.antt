@@ -1,32 +1,10 @@
 -- A closed walk is freely homotopic to its loop at the root of the tree, and so to the product of the spokes of its quad path.
-use Rattle.std.proofs.Common.{◌≡◌, inl, inr, ℕ, ◌%◌, ◌<◌, ◌&&◌, eqb, List, [], ◌∷◌, ◌++◌, length, get_or, refl, ap, sym, ◌∙◌, subst, arith, append_assoc}
-use Rattle.std.specs.Prelude.{Option, Some, None}
-use Rattle.std.proofs.lemmas.Bool.{cases_Bool}
-use Rattle.std.proofs.lemmas.List.{length-append, append-nil}
-use Rattle.surf_model.specs.FaceLists.{FaceList, FaceSide}
+use Rattle.free_loops.proofs.Common.{on, end_of, end_is, parts_turn, freely, FreelyHomotopic, OrientedMesh, IsOrientedSurface, rotations_of, IsDartFrom, LabellingView, tail_label, head_label, side_from, spokes, spokes_by_labels, spokes_of_sides, quad_path, behind, there_and_home, IsGroup, quotient, back, homotopy, IsWay, way_walk, way_on, way_home, Loop, HasWays, SameLoop, loop_mul, loop_inv, loop_one, loop_of, no_dart, first_dart, start_used, Loops, value, spoke, group_of, dart_is_two_spokes, up, tree_ways, PolygonView, IsCutFrom, label_of, loop_of_path, DartSpokes, dart_spokes, labels_product, labelling_from, ◌≡◌, inl, inr, ℕ, ◌%◌, ◌<◌, ◌&&◌, eqb, List, [], ◌∷◌, ◌++◌, length, get_or, refl, ap, sym, ◌∙◌, subst, arith, append_assoc, cases_Bool, length-append, append-nil, Option, Some, None, FaceList, FaceSide, Homotopic, SplitView, IsSplit}
+use Rattle.halfedge_map.proofs.EdgeLemmas.{dart_between}
+use Rattle.halfedge_map.specs.DartMaps.{next_of, origin_of}
+use Rattle.polygon_cut.proofs.DartLoopLemmas.{value_along}
 use Rattle.surf_model.specs.Edges.{side_name}
 use Rattle.surf_model.specs.Walks.{HaveCommonEnds, darts}
-use Rattle.surf_model.specs.Moves.{Homotopic}
-use Rattle.halfedge_map.specs.OrientedMeshes.{OrientedMesh, IsOrientedSurface}
-use Rattle.halfedge_map.specs.DartMaps.{next_of, origin_of}
-use Rattle.halfedge_map.specs.RotationSystems.{rotations_of, IsDartFrom}
-use Rattle.halfedge_map.proofs.EdgeLemmas.{dart_between}
-use Rattle.tree_cotree.specs.Splits.{SplitView, IsSplit}
-use Rattle.polygon_cut.specs.Polygons.{PolygonView, IsCutFrom, label_of}
-use Rattle.polygon_cut.proofs.GroupLemmas.{IsGroup, quotient}
-use Rattle.polygon_cut.proofs.CongruenceLemmas.{behind, there_and_home}
-use Rattle.polygon_cut.proofs.LoopLemmas.{back, homotopy, IsWay, way_walk, way_on, way_home, Loop, HasWays, SameLoop, loop_mul, loop_inv, loop_one, loop_of, no_dart, first_dart, start_used}
-use Rattle.polygon_cut.proofs.TreeWayLemmas.{up, tree_ways}
-use Rattle.polygon_cut.proofs.SpokeLemmas.{Loops, value, spoke, group_of, dart_is_two_spokes}
-use Rattle.polygon_cut.proofs.DartLoopLemmas.{value_along}
-use Rattle.labellings.specs.Labellings.{LabellingView, tail_label, head_label}
-use Rattle.labellings.specs.QuadPaths.{side_from, spokes, spokes_by_labels, spokes_of_sides, quad_path}
-use Rattle.quad_system.specs.PolygonLabellings.{labelling_from}
-use Rattle.quad_system.proofs.SpokeProductLemmas.{DartSpokes, dart_spokes, labels_product}
-use Rattle.quad_system.proofs.PushWorthLemmas.{loop_of_path}
-use Rattle.closed_walks.specs.FreeHomotopy.{FreelyHomotopic}
-use Rattle.closed_walks.proofs.MovedSteps.{freely}
-use Rattle.closed_walks.proofs.FreeStepLemmas.{on, end_of, end_is, parts_turn}
 use Rattle.free_loops.proofs.LoopStepLemmas.{IsConjugacy}
 
 pub way_ends : (mesh : FaceList) (u v : ℕ) (rest : List ℕ) → IsWay mesh u v rest → end_of u rest ≡ v

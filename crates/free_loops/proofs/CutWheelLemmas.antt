@@ -1,22 +1,9 @@
 -- The wheel of a cut with five sides at least: each side has a partner, with which it makes a quad of the loops of the spokes.
-use Rattle.std.proofs.Common.{◌≡◌, ℕ, ◌<◌, ◌≤◌, not, length, ap, sym, ◌∙◌, subst, arith}
-use Rattle.halfedge_map.specs.OrientedMeshes.{OrientedMesh, IsOrientedSurface}
-use Rattle.halfedge_map.specs.RotationSystems.{rotations_of}
+use Rattle.free_loops.proofs.Common.{OrientedMesh, IsOrientedSurface, rotations_of, quotient, SameLoop, loop_mul, loop_inv, Loops, spoke, PolygonView, IsCutFrom, place_of, IsQuadWheel, add_back, polygon_wheel, polygon_quads, spoke_at, IsFullWheel, ◌≡◌, ℕ, ◌<◌, ◌≤◌, not, length, ap, sym, ◌∙◌, subst, arith, SplitView, IsSplit, in_cotree, is_left, IsQuad, add-lt, add, minus}
 use Rattle.halfedge_map.proofs.SystemLemmas.{rotation_system}
-use Rattle.turn_words.specs.Modulo.{add, minus}
-use Rattle.turn_words.specs.Lemmas.Sums.{add-lt}
-use Rattle.turn_words.specs.FormLaws.{IsQuad}
-use Rattle.tree_cotree.specs.SpanningTrees.{after_dart}
-use Rattle.tree_cotree.specs.Splits.{SplitView, IsSplit, in_cotree, is_left}
-use Rattle.polygon_cut.specs.Polygons.{PolygonView, IsCutFrom, place_of, across}
-use Rattle.polygon_cut.proofs.GroupLemmas.{quotient}
-use Rattle.polygon_cut.proofs.LoopLemmas.{SameLoop, loop_mul, loop_inv}
 use Rattle.polygon_cut.proofs.PlaceLemmas.{Crosses, sides_cross}
-use Rattle.polygon_cut.proofs.SpokeLemmas.{Loops, spoke}
-use Rattle.quad_system.proofs.PushPathLemmas.{IsQuadWheel, add_back}
-use Rattle.quad_system.proofs.PushWorthLemmas.{polygon_wheel}
-use Rattle.quad_system.proofs.SpokeProductLemmas.{polygon_quads, spoke_at}
-use Rattle.spoke_rings.specs.CyclicWords.{IsFullWheel}
+use Rattle.polygon_cut.specs.Polygons.{across}
+use Rattle.tree_cotree.specs.SpanningTrees.{after_dart}
 
 module _ (s : OrientedMesh) (split : SplitView) (o : IsOrientedSurface s) (t : IsSplit s split) (polygon : PolygonView)
     (c : IsCutFrom s split polygon) (some : 0 < polygon.degree) where

@@ -1,24 +1,8 @@
 -- What the forms of two closed walks decide, on the surface from which the polygon of the labelling was cut.
-use Rattle.std.proofs.Common.{◌≡◌, ◌↔◌, ℕ, Bool, ◌<◌, ◌≤◌, List, [], ◌∷◌, ap, sym, ◌∙◌, subst, arith, ℤ}
-use Rattle.std.specs.Prelude.{IsTrue}
-use Rattle.turn_words.specs.FormLaws.{led}
-use Rattle.turn_words.specs.declared.word.Word.{Word}
-use Rattle.turn_words.specs.declared.word.Word.TheVariants.{Turns, Flat}
-use Rattle.flat_forms.specs.Vectors.{Vector, origin}
-use Rattle.flat_forms.specs.FlatStates.{flat_next}
-use Rattle.surf_model.specs.FaceLists.{FaceList}
-use Rattle.halfedge_map.specs.OrientedMeshes.{OrientedMesh, IsOrientedSurface}
-use Rattle.labellings.specs.Labellings.{LabellingView}
-use Rattle.labellings.specs.QuadPaths.{quad_path}
-use Rattle.labellings.specs.WalkWords.{IsWordOf}
-use Rattle.labellings.proofs.WalkWordLemmas.{quad_path_leads_to_sum}
-use Rattle.walk_translate.specs.SurfaceLabels.{HasSphereSplit, IsLabelledByCut}
-use Rattle.spoke_rings.specs.CyclicWords.{IsFullWheel}
-use Rattle.spoke_rings.specs.Rotations.{IsRotation}
-use Rattle.closed_walks.specs.FreeHomotopy.{IsClosedWalk, FreelyHomotopic}
+use Rattle.free_loops.proofs.Common.{IsClosedWalk, FreelyHomotopic, flat_next, Vector, origin, OrientedMesh, IsOrientedSurface, quad_path_leads_to_sum, LabellingView, quad_path, IsWordOf, IsFullWheel, IsRotation, ◌≡◌, ◌↔◌, ℕ, Bool, ◌<◌, ◌≤◌, List, [], ◌∷◌, ap, sym, ◌∙◌, subst, arith, ℤ, IsTrue, FaceList, led, Turns, Flat, cut_is_good, HasSphereSplit, IsLabelledByCut}
 use Rattle.joined_loops.proofs.FlatWalks.{one_sum}
 use Rattle.joined_loops.proofs.FreeWalks.{one_cyclic_form}
-use Rattle.walk_translate.proofs.LabelLemmas.{cut_is_good}
+use Rattle.turn_words.specs.declared.word.Word.{Word}
 use Rattle.free_loops.specs.declared.deciding.FreeAnswer.{FreeAnswer}
 use Rattle.free_loops.specs.declared.deciding.FreeAnswer.TheVariants.{Freely}
 use Rattle.free_loops.specs.CyclicForms.{IsCyclicFormOf}

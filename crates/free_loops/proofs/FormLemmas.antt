@@ -1,25 +1,11 @@
 -- The cyclic form of a closed walk, by way of its canonical word: elementary steps lead from the turn word of the quad path to that
 -- word, so loop steps lead from the quad path to the word's spokes.
-use Rattle.std.proofs.Common.{◌≡◌, ℕ, ◌%◌, ◌<◌, List, [], ◌∷◌, length, ap, sym, ◌∙◌, subst, arith}
-use Rattle.std.specs.Prelude.{All}
-use Rattle.surf_model.specs.FaceLists.{FaceList}
+use Rattle.free_loops.proofs.Common.{quad_path_below, IsGood, LabellingView, quad_path, IsWordOf, leads-on, IsLoop, IsFullWheel, IsCyclicallyCanonical, LoopLeads, ◌≡◌, ℕ, ◌%◌, ◌<◌, List, [], ◌∷◌, length, ap, sym, ◌∙◌, subst, arith, All, FaceList, led, turn_word_of, Reaches, Turns}
+use Rattle.turn_words.proofs.Spokes.{turns, canonical}
+use Rattle.turn_words.proofs.Unique.{unique}
 use Rattle.turn_words.specs.Canonical.{IsCanonicalOf}
-use Rattle.turn_words.specs.StepTable.{Reaches}
-use Rattle.turn_words.specs.SpokePaths.{turn_word_of}
-use Rattle.turn_words.specs.FormLaws.{led}
 use Rattle.turn_words.specs.HyperStates.{HyperState, BelongsTo, IsEven, empty_state, hyper_next}
 use Rattle.turn_words.specs.Lemmas.HyperLaws.{hyper_starts, hyper_stays}
-use Rattle.turn_words.specs.declared.word.Word.TheVariants.{Turns}
-use Rattle.turn_words.proofs.Unique.{unique}
-use Rattle.turn_words.proofs.Spokes.{turns, canonical}
-use Rattle.labellings.specs.Labellings.{LabellingView}
-use Rattle.labellings.specs.GoodLabellings.{IsGood}
-use Rattle.labellings.specs.QuadPaths.{quad_path}
-use Rattle.labellings.specs.WalkWords.{IsWordOf}
-use Rattle.labellings.proofs.WalkWordLemmas.{quad_path_below}
-use Rattle.spoke_rings.specs.CyclicWords.{IsLoop, IsFullWheel, IsCyclicallyCanonical}
-use Rattle.spoke_rings.specs.LoopSteps.{LoopLeads}
-use Rattle.spoke_rings.proofs.Leading.{leads-on}
 use Rattle.free_loops.specs.CyclicForms.{IsCyclicFormOf}
 use Rattle.free_loops.proofs.ClosedLoopLemmas.{even_path}
 use Rattle.free_loops.proofs.SpellingLemmas.{as_many}

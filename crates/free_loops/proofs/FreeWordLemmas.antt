@@ -1,27 +1,9 @@
 -- Closed walks of a cut surface are freely homotopic where steps lead from their quad paths to closed lists that are rotations of one
 -- another; and on a sphere they always are.
-use Rattle.std.proofs.Common.{◌≡◌, ℕ, ◌+◌, ◌<◌, ◌%◌, List, [], ◌∷◌, length, ap, sym, ◌∙◌, subst, arith}
-use Rattle.std.specs.Prelude.{Some}
-use Rattle.std.proofs.lemmas.Bool.{eq-eqb, lt-ltb}
-use Rattle.surf_model.specs.Moves.{Homotopic}
-use Rattle.halfedge_map.specs.OrientedMeshes.{OrientedMesh, IsOrientedSurface}
-use Rattle.tree_cotree.specs.Splits.{SplitView, IsSplit}
-use Rattle.polygon_cut.specs.Polygons.{PolygonView, IsCutFrom}
-use Rattle.polygon_cut.proofs.LoopLemmas.{IsWay, HasWays, SameLoop, loop_mul, loop_inv, loop_one, loop_of}
-use Rattle.polygon_cut.proofs.WayLemmas.{loop_start}
+use Rattle.free_loops.proofs.Common.{on, turn, closes, end_is, freely, IsClosedWalk, FreelyHomotopic, OrientedMesh, IsOrientedSurface, quad_path, IsWay, HasWays, SameLoop, loop_mul, loop_inv, loop_one, loop_of, Loops, spoke, group_of, up, tree_ways, PolygonView, IsCutFrom, loop_of_path, labelling_from, leads-on, rotate, LoopLeads, IsRotation, ◌≡◌, ℕ, ◌+◌, ◌<◌, ◌%◌, List, [], ◌∷◌, length, ap, sym, ◌∙◌, subst, arith, eq-eqb, lt-ltb, Some, Homotopic, SplitView, IsSplit}
 use Rattle.polygon_cut.proofs.SphereLemmas.{all_homotopic}
-use Rattle.polygon_cut.proofs.SpokeLemmas.{Loops, spoke, group_of}
-use Rattle.polygon_cut.proofs.TreeWayLemmas.{up, tree_ways}
 use Rattle.polygon_cut.proofs.WalkLemmas.{walk_way}
-use Rattle.labellings.specs.QuadPaths.{quad_path}
-use Rattle.quad_system.specs.PolygonLabellings.{labelling_from}
-use Rattle.quad_system.proofs.PushWorthLemmas.{loop_of_path}
-use Rattle.spoke_rings.specs.LoopSteps.{rotate, LoopLeads}
-use Rattle.spoke_rings.specs.Rotations.{IsRotation}
-use Rattle.spoke_rings.proofs.Leading.{leads-on}
-use Rattle.closed_walks.specs.FreeHomotopy.{IsClosedWalk, FreelyHomotopic}
-use Rattle.closed_walks.proofs.MovedSteps.{freely}
-use Rattle.closed_walks.proofs.FreeStepLemmas.{on, turn, closes, end_is}
+use Rattle.polygon_cut.proofs.WayLemmas.{loop_start}
 use Rattle.free_loops.proofs.LoopStepLemmas.{steps_free}
 use Rattle.free_loops.proofs.CutWheelLemmas.{quads_agree}
 use Rattle.free_loops.proofs.ClosedLoopLemmas.{SameFreeLoop, loops_turn, common_ends, even_path, free_loop, free_path}

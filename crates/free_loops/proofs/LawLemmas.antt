@@ -1,16 +1,5 @@
 -- What decides free homotopy, said of the polygon that was cut.
-use Rattle.std.proofs.Common.{◌≡◌, ◌↔◌, ℕ, ◌<◌, ◌≤◌, List, refl, arith}
-use Rattle.turn_words.specs.FormLaws.{led}
-use Rattle.flat_forms.specs.Vectors.{origin}
-use Rattle.flat_forms.specs.FlatStates.{flat_next}
-use Rattle.halfedge_map.specs.OrientedMeshes.{OrientedMesh, IsOrientedSurface}
-use Rattle.labellings.specs.QuadPaths.{quad_path}
-use Rattle.tree_cotree.specs.Splits.{SplitView, IsSplit}
-use Rattle.polygon_cut.specs.Polygons.{PolygonView, IsCutFrom}
-use Rattle.quad_system.specs.PolygonLabellings.{labelling_from}
-use Rattle.walk_translate.specs.SurfaceLabels.{IsLabelledByCut}
-use Rattle.spoke_rings.specs.Rotations.{IsRotation}
-use Rattle.closed_walks.specs.FreeHomotopy.{IsClosedWalk, FreelyHomotopic}
+use Rattle.free_loops.proofs.Common.{IsClosedWalk, FreelyHomotopic, flat_next, origin, OrientedMesh, IsOrientedSurface, quad_path, PolygonView, IsCutFrom, labelling_from, IsRotation, ◌≡◌, ◌↔◌, ℕ, ◌<◌, ◌≤◌, List, refl, arith, SplitView, IsSplit, led, IsLabelledByCut}
 use Rattle.free_loops.specs.CyclicForms.{IsCyclicFormOf}
 use Rattle.free_loops.proofs.DecidingLemmas.{sphere_frees, points_free, free_points, forms_free, free_forms}
 

@@ -1,3 +1,4 @@
+pub mod Common
 pub mod LoopStepLemmas
 pub mod WordStepLemmas
 pub mod CutWheelLemmas

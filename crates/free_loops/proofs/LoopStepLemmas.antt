@@ -1,17 +1,5 @@
 -- What loop steps do to the product of a closed list of spokes: spurs and quads change nothing, and a rotation turns two factors round.
-use Rattle.std.proofs.Common.{◌≡◌, ◌⊎◌, inl, inr, ℕ, zero, suc, ◌+◌, ◌%◌, Bool, true, false, not, ◌&&◌, eqb, List, [], ◌∷◌, ◌++◌, length, take, drop, refl, ap, sym, ◌∙◌, subst, arith}
-use Rattle.std.specs.Prelude.{Option, Some, None, nat_lt}
-use Rattle.std.proofs.lemmas.Bool.{cases_Bool, eqb-true, ltb-true, and_parts}
-use Rattle.std.proofs.lemmas.List.{length-append, length-take, take-append-drop}
-use Rattle.std.proofs.lemmas.Option.{cond_some}
-use Rattle.turn_words.specs.Modulo.{add}
-use Rattle.turn_words.specs.FormLaws.{IsQuad}
-use Rattle.polygon_cut.proofs.GroupLemmas.{IsGroup, quotient}
-use Rattle.polygon_cut.proofs.RelatorLemmas.{spoke_product, ends_at_vertex, spokes_on, free_push, free_spur}
-use Rattle.surf_model.proofs.ContextLemmas.{first_answer}
-use Rattle.spoke_paths.specs.PathSteps.{is_quad, from_spoke, spur_goes, quad_turned, two_become}
-use Rattle.spoke_paths.proofs.StepsKeep.{mapped-is, quad-is}
-use Rattle.spoke_rings.specs.LoopSteps.{LoopStep, spur_out, spur_in, across, rotate, spur_comes, across_quad, after_loop_step, after_loop_steps}
+use Rattle.free_loops.proofs.Common.{IsGroup, quotient, spoke_product, ends_at_vertex, spokes_on, free_push, free_spur, mapped-is, quad-is, is_quad, from_spoke, spur_goes, quad_turned, two_become, LoopStep, spur_out, spur_in, across, rotate, spur_comes, across_quad, after_loop_step, after_loop_steps, ◌≡◌, ◌⊎◌, inl, inr, ℕ, zero, suc, ◌+◌, ◌%◌, Bool, true, false, not, ◌&&◌, eqb, List, [], ◌∷◌, ◌++◌, length, take, drop, refl, ap, sym, ◌∙◌, subst, arith, cases_Bool, eqb-true, ltb-true, and_parts, length-append, length-take, take-append-drop, cond_some, Option, Some, None, nat_lt, first_answer, IsQuad, add}
 
 -- a rule was used behind some spokes
 record ChangedBehind (rule : Bool → List ℕ → Option (List ℕ)) (at_vertex : Bool) (path other : List ℕ) : Type 0 where

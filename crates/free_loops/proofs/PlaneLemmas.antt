@@ -1,36 +1,15 @@
 -- On a torus closed walks with one sum are freely homotopic: the second one is made a walk from the start of the first, along a way
 -- there and back, which changes no sum.
-use Rattle.std.proofs.Common.{◌≡◌, ℕ, List, [], ◌∷◌, ◌++◌, refl, ap, ap₂, sym, ◌∙◌, subst, arith, append_assoc, ℤ}
-use Rattle.std.proofs.lemmas.List.{append-nil}
-use Rattle.std.proofs.lemmas.Int.{ints}
-use Rattle.surf_model.specs.FaceLists.{FaceList, IsFaceList}
-use Rattle.surf_model.specs.Moves.{Homotopic}
-use Rattle.halfedge_map.specs.OrientedMeshes.{OrientedMesh, IsOrientedSurface}
-use Rattle.turn_words.specs.FormLaws.{led}
-use Rattle.flat_forms.specs.Vectors.{Vector, origin, plus, less, unit_step}
-use Rattle.flat_forms.specs.FlatStates.{IsEven, IsFlatWheel, flat_next}
-use Rattle.flat_forms.specs.Pairs.{spokes_of, sum_of_pairs}
+use Rattle.free_loops.proofs.Common.{on, parts_turn, freely, FreelyHomotopic, IsEven, IsFlatWheel, flat_next, Vector, origin, plus, less, unit_step, OrientedMesh, IsOrientedSurface, quad_path_in_pairs, flat_wheel_of_good, IsGood, LabellingView, spokes, quad_path, in_pairs, behind, there_and_home, home_and_there, back, homotopy, IsWay, way_walk, way_on, way_home, start_used, up, tree_ways, PolygonView, IsCutFrom, labelling_from, ◌≡◌, ℕ, List, [], ◌∷◌, ◌++◌, refl, ap, ap₂, sym, ◌∙◌, subst, arith, append_assoc, ℤ, append-nil, FaceList, IsFaceList, Homotopic, SplitView, IsSplit, led}
+use Rattle.flat_forms.proofs.SumsOfPairs.{leads-by}
 use Rattle.flat_forms.specs.Lemmas.FlatLaws.{flat_stays, flat_there_and_back, flat_across}
 use Rattle.flat_forms.specs.Lemmas.StepsInThePlane.{next-next, vertex-again}
-use Rattle.flat_forms.proofs.SumsOfPairs.{leads-by}
-use Rattle.tree_cotree.specs.Splits.{SplitView, IsSplit}
-use Rattle.polygon_cut.specs.Polygons.{PolygonView, IsCutFrom}
-use Rattle.polygon_cut.proofs.CongruenceLemmas.{behind, there_and_home, home_and_there}
-use Rattle.polygon_cut.proofs.LoopLemmas.{back, homotopy, IsWay, way_walk, way_on, way_home, start_used}
-use Rattle.polygon_cut.proofs.TreeWayLemmas.{up, tree_ways}
-use Rattle.labellings.specs.Labellings.{LabellingView}
-use Rattle.labellings.specs.GoodLabellings.{IsGood}
-use Rattle.labellings.specs.QuadPaths.{spokes, quad_path}
-use Rattle.labellings.specs.WalkWords.{in_pairs}
+use Rattle.flat_forms.specs.Pairs.{spokes_of, sum_of_pairs}
 use Rattle.labellings.proofs.FoldLemmas.{PutLaws, led-append}
 use Rattle.labellings.proofs.KeepingLemmas.{moves_keep}
-use Rattle.labellings.proofs.WalkWordLemmas.{quad_path_in_pairs, flat_wheel_of_good}
-use Rattle.quad_system.specs.PolygonLabellings.{labelling_from}
-use Rattle.quad_system.proofs.PolygonLabelLemmas.{polygon_good}
 use Rattle.quad_system.proofs.FlatWordLemmas.{one_sum}
-use Rattle.closed_walks.specs.FreeHomotopy.{FreelyHomotopic}
-use Rattle.closed_walks.proofs.MovedSteps.{freely}
-use Rattle.closed_walks.proofs.FreeStepLemmas.{on, parts_turn}
+use Rattle.quad_system.proofs.PolygonLabelLemmas.{polygon_good}
+use Rattle.std.proofs.lemmas.Int.{ints}
 use Rattle.free_loops.proofs.ClosedLoopLemmas.{way_ends, common_ends}
 
 even_after : (places : List ℕ) (s : Vector) (pairs : List (ℕ × ℕ)) → IsEven s → IsEven (led flat_next places s (spokes_of pairs))

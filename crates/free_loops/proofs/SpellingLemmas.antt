@@ -1,12 +1,7 @@
 -- A turn word that is spelled out as spokes, entry by entry.
-use Rattle.std.proofs.Common.{◌≡◌, ℕ, suc, ◌+◌, ◌<◌, Bool, true, false, not, List, [], ◌∷◌, ◌++◌, length, take, get_or, refl, ap, sym, ◌∙◌, arith, append_assoc, add-one}
-use Rattle.std.specs.Prelude.{All}
+use Rattle.free_loops.proofs.Common.{IsFullWheel, ◌≡◌, ℕ, suc, ◌+◌, ◌<◌, Bool, true, false, not, List, [], ◌∷◌, ◌++◌, length, take, get_or, refl, ap, sym, ◌∙◌, arith, append_assoc, add-one, append-nil, All, add, minus, place_round, turns_after, turn_word_of}
 use Rattle.std.proofs.Math.Seq.{take-suc, take-length}
-use Rattle.std.proofs.lemmas.List.{append-nil}
 use Rattle.std.proofs.lemmas.List.Elements.{All-append, All-nil, All-cons}
-use Rattle.turn_words.specs.Modulo.{add, minus}
-use Rattle.turn_words.specs.SpokePaths.{place_round, turns_after, turn_word_of}
-use Rattle.spoke_rings.specs.CyclicWords.{IsFullWheel}
 use Rattle.free_loops.proofs.WordStepLemmas.{turns_counted, below_from, taken, word_is}
 
 -- So many entries of a word are spelled out: whatever spokes come next, their turns come behind these entries.

@@ -1,25 +1,10 @@
 -- A step on the turn word of a list of spokes is made of loop steps on the list: a spur is one, and a push takes the list the other way
 -- round a quad, for which round the vertex a spur comes and one goes.
-use Rattle.std.proofs.Common.{◌≡◌, ℕ, zero, suc, ◌+◌, ◌-◌, ◌<◌, Bool, true, false, not, eqb, List, [], ◌∷◌, ◌++◌, length, get_or, refl, ap, ap₂, sym, ◌∙◌, subst, arith, append_assoc}
-use Rattle.std.specs.Prelude.{All, Option, Some, option_map, option_and_then, nat_lt}
-use Rattle.std.proofs.lemmas.Bool.{eqb-true, ltb-true, eq-eqb, lt-ltb, and_from}
-use Rattle.std.proofs.lemmas.Option.{cond_some}
+use Rattle.free_loops.proofs.Common.{ends_at_vertex, add_back, mapped-is, is_quad, from_spoke, leads-same, leads-on, spur-leaves, spur-enters, Partner, IsFullWheel, LoopStep, across, across_quad, after_loop_step, after_loop_steps, LoopLeads, ◌≡◌, ℕ, zero, suc, ◌+◌, ◌-◌, ◌<◌, Bool, true, false, not, eqb, List, [], ◌∷◌, ◌++◌, length, get_or, refl, ap, ap₂, sym, ◌∙◌, subst, arith, append_assoc, eqb-true, ltb-true, eq-eqb, lt-ltb, and_from, cond_some, All, Option, Some, option_map, option_and_then, nat_lt, first_answer, IsQuad, add-cases, minus-cases, add-lt, minus-lt, add_comm, add_assoc, add-zero, zero-add, add-minus, add, minus, place_round, turns_after, turn_word_of, next_changed, pushed, from_place, after_step, after_steps, Reaches}
 use Rattle.std.proofs.Math.Bool.{not-not}
-use Rattle.surf_model.proofs.ContextLemmas.{first_answer}
-use Rattle.turn_words.specs.Modulo.{add, minus}
-use Rattle.turn_words.specs.Lemmas.Sums.{add-cases, minus-cases, add-lt, minus-lt, add_comm, add_assoc, add-zero, zero-add, add-minus}
-use Rattle.turn_words.specs.StepTable.{next_changed, spur_in, spur_out, pushed, from_place, after_step, after_steps, Reaches}
-use Rattle.turn_words.specs.SpokePaths.{place_round, turns_after, turn_word_of}
-use Rattle.turn_words.specs.FormLaws.{IsQuad}
+use Rattle.turn_words.specs.StepTable.{spur_in, spur_out}
 use Rattle.turn_words.specs.declared.step.Step.{Step}
 use Rattle.turn_words.specs.declared.step.Step.TheVariants.{SpurIn, SpurOut, Push}
-use Rattle.polygon_cut.proofs.RelatorLemmas.{ends_at_vertex}
-use Rattle.quad_system.proofs.PushPathLemmas.{add_back}
-use Rattle.spoke_paths.specs.PathSteps.{is_quad, from_spoke}
-use Rattle.spoke_paths.proofs.StepsKeep.{mapped-is}
-use Rattle.spoke_rings.specs.CyclicWords.{Partner, IsFullWheel}
-use Rattle.spoke_rings.specs.LoopSteps.{LoopStep, across, across_quad, after_loop_step, after_loop_steps, LoopLeads}
-use Rattle.spoke_rings.proofs.Leading.{leads-same, leads-on, spur-leaves, spur-enters}
 
 -- sums and differences, counted round
 over : (d p a m : ℕ) → p < d → a < d → m < d → add d (add d p (minus d a)) (add d a (minus d m)) ≡ add d p (minus d m)

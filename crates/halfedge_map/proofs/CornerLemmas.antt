@@ -1,7 +1,5 @@
 -- Going round a face, by rising and by falling places.
-use Rattle.std.proofs.Common.{◌≡◌, ℕ, zero, suc, ◌+◌, ◌-◌, ◌<◌, Bool, true, false, not, ap, sym, ◌∙◌, subst, arith}
-use Rattle.std.proofs.lemmas.Bool.Decides.{nat_tests}
-use Rattle.surf_model.specs.FaceLists.{next_corner}
+use Rattle.halfedge_map.proofs.Common.{◌≡◌, ℕ, zero, suc, ◌+◌, ◌-◌, ◌<◌, Bool, true, false, not, ap, sym, ◌∙◌, subst, arith, nat_tests, next_corner}
 use Rattle.halfedge_map.specs.Orbits.{IsReached}
 use Rattle.halfedge_map.proofs.OrbitLemmas.{IsPermutationBelow, reached_trans, reached_undone}
 

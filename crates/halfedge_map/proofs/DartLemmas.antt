@@ -1,11 +1,5 @@
 -- The dart of a side, in a kept face and in a flipped one: here alone the flip is looked at.
-use Rattle.std.proofs.Common.{◌≡◌, ℕ, ◌+◌, ◌<◌, Bool, true, false, not, cond, List, length, get_or, refl, ap, sym, ◌∙◌, subst}
-use Rattle.std.proofs.lemmas.Bool.{cond-true, cond-false}
-use Rattle.surf_model.specs.FaceLists.{FaceSide, face_at, all_sides, next_corner}
-use Rattle.surf_model.specs.Darts.{first_side, IsSide, side_number, side_after}
-use Rattle.surf_model.specs.Surfaces.{is_flipped, start_under, end_under}
-use Rattle.surf_model.specs.declared.edges.Side.{Side}
-use Rattle.surf_model.proofs.NumberLemmas.{face_side}
+use Rattle.halfedge_map.proofs.Common.{◌≡◌, ℕ, ◌+◌, ◌<◌, Bool, true, false, not, cond, List, length, get_or, refl, ap, sym, ◌∙◌, subst, cond-true, cond-false, face_side, first_side, IsSide, side_number, side_after, FaceSide, face_at, all_sides, next_corner, is_flipped, start_under, end_under, Side}
 use Rattle.halfedge_map.specs.OrientedMeshes.{OrientedMesh}
 use Rattle.halfedge_map.specs.DartMaps.{darts_of, side_of, face_of, origin_of, target_of, next_of, start_corner_of, end_corner_of}
 use Rattle.halfedge_map.specs.DartMaps.{dart_at_corner, StartsAtCorner, IsDartOfSide}

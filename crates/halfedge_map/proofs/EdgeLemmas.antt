@@ -1,19 +1,9 @@
 -- The edges of the table and their darts.
-use Rattle.std.proofs.Common.{◌≡◌, ◌≢◌, ◌⊎◌, inl, inr, ℕ, zero, suc, ◌<◌, Bool, true, false, cond, List, length, get_or, refl, ap, sym, ◌∙◌, subst, arith}
-use Rattle.std.specs.Prelude.{◌↔◌, Contains, Some, filter, slice_get, unwrap_or}
+use Rattle.halfedge_map.proofs.Common.{◌≡◌, ◌≢◌, ◌⊎◌, inl, inr, ℕ, zero, suc, ◌<◌, Bool, true, false, cond, List, length, get_or, refl, ap, sym, ◌∙◌, subst, arith, cases_order, cases_lt, get_or_default, get_or-map, length-map, Any-from_list_any, list_any_at, ◌↔◌, Contains, Some, filter, slice_get, unwrap_or, face_side, length-all_sides, IsSide, side_number, Edge, IsEdgeOf, IsTableOf, IsPairBefore, HasEnds, edge_in, side_name, FaceList, FaceSide, face_at, all_sides, next_corner, joins, is_edge, is_flipped, Side}
 use Rattle.std.proofs.lemmas.Option.{slice_get_within, get_or_from_slice_get}
-use Rattle.std.proofs.lemmas.Bool.{cases_order, cases_lt}
-use Rattle.std.proofs.lemmas.List.{get_or_default, get_or-map, length-map}
-use Rattle.std.proofs.lemmas.List.Folds.{Any-from_list_any, list_any_at}
-use Rattle.surf_model.specs.FaceLists.{FaceList, FaceSide, face_at, all_sides, next_corner, joins, is_edge}
-use Rattle.surf_model.specs.Edges.{Edge, IsEdgeOf, IsTableOf, IsPairBefore, HasEnds, edge_in, side_name}
-use Rattle.surf_model.specs.Darts.{IsSide, side_number}
-use Rattle.surf_model.specs.EdgeDarts.{IsNextInEdge, darts_of as edge_darts_of}
-use Rattle.surf_model.specs.Surfaces.{is_flipped}
-use Rattle.surf_model.specs.declared.edges.Side.{Side}
-use Rattle.surf_model.proofs.NumberLemmas.{face_side, length-all_sides}
-use Rattle.surf_model.proofs.TableLemmas.{edge_from_table}
 use Rattle.surf_model.proofs.PartnerLemmas.{IsSideOfEdge, side_of_edge, table_edge, edge_sides_rise}
+use Rattle.surf_model.proofs.TableLemmas.{edge_from_table}
+use Rattle.surf_model.specs.EdgeDarts.{IsNextInEdge, darts_of as edge_darts_of}
 use Rattle.halfedge_map.specs.OrientedMeshes.{OrientedMesh, IsOrientedSurface}
 use Rattle.halfedge_map.specs.DartMaps.{darts_of, side_of, origin_of, target_of, twin_of, edge_of}
 use Rattle.halfedge_map.specs.RotationSystems.{rotations_of, IsDartFrom, IsEdgeWithEnds}

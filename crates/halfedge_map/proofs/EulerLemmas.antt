@@ -1,6 +1,5 @@
 -- Sums of numbers of 32 bits do not leave the signed numbers of 64 bits.
-use Rattle.std.proofs.Common.{◌≡◌, ℕ, ◌<◌, ◌^◌, pos, ◌+ℤ◌, ◌-ℤ◌, arith}
-use Rattle.std.proofs.Common.{to_z, of_z, w64}
+use Rattle.halfedge_map.proofs.Common.{◌≡◌, ℕ, ◌<◌, ◌^◌, pos, ◌+ℤ◌, ◌-ℤ◌, arith, to_z, of_z, w64}
 use Rattle.std.proofs.lemmas.Int.{ints, to_z-of_z}
 use mir.Val.{SFits}
 

@@ -1,3 +1,4 @@
+pub mod Common
 pub mod OrbitLemmas
 pub mod CornerLemmas
 pub mod NumberLemmas

@@ -1,9 +1,5 @@
 -- The sides of a mesh by their numbers.
-use Rattle.std.proofs.Common.{◌≡◌, ℕ, ◌+◌, ◌<◌, length, get_or, ap, ◌∙◌, arith}
-use Rattle.surf_model.specs.FaceLists.{FaceList, FaceSide, face_at, all_sides, total_sides}
-use Rattle.surf_model.specs.Darts.{first_side, IsSide, side_number}
-use Rattle.surf_model.specs.declared.edges.Side.{Side}
-use Rattle.surf_model.proofs.NumberLemmas.{face_side}
+use Rattle.halfedge_map.proofs.Common.{◌≡◌, ℕ, ◌+◌, ◌<◌, length, get_or, ap, ◌∙◌, arith, face_side, first_side, IsSide, side_number, FaceList, FaceSide, face_at, all_sides, total_sides, Side}
 use Rattle.surf_model.proofs.SideNumberLemmas.{IsNumbered, at_number, numbered, side_below}
 
 -- the side that has a number

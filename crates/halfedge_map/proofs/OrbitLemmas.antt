@@ -1,7 +1,5 @@
 -- Orbits of a map that is injective on the numbers below n: each number comes back to itself, so what reaches is reached.
-use Rattle.std.proofs.Common.{◌≡◌, ◌≢◌, ◌⊎◌, inl, inr, ℕ, zero, suc, ◌+◌, ◌-◌, ◌<◌, Bool, true, false, cond, eqb, refl, ap, sym, ◌∙◌}
-use Rattle.std.proofs.Common.{subst, arith}
-use Rattle.std.proofs.lemmas.Bool.{cases_Bool, cases_lt, cond-true, cond-false, eqb-true, eq-eqb, both_ways}
+use Rattle.halfedge_map.proofs.Common.{◌≡◌, ◌≢◌, ◌⊎◌, inl, inr, ℕ, zero, suc, ◌+◌, ◌-◌, ◌<◌, Bool, true, false, cond, eqb, refl, ap, sym, ◌∙◌, subst, arith, cases_Bool, cases_lt, cond-true, cond-false, eqb-true, eq-eqb, both_ways}
 use Rattle.halfedge_map.specs.Orbits.{after_steps, IsReached}
 
 -- a number below n that passes a test, or none does

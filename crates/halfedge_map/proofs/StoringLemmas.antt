@@ -1,14 +1,6 @@
 -- The maps on the darts, written dart after dart.
-use Rattle.std.proofs.Common.{◌≡◌, inl, inr, ℕ, ◌+◌, ◌<◌, ◌≤◌, true, false, not, cond, List, [], ◌∷◌, ◌++◌, length, get_or, refl, ap, sym, ◌∙◌}
-use Rattle.std.proofs.Common.{subst, arith}
-use Rattle.std.proofs.lemmas.Bool.{cases_lt}
-use Rattle.std.proofs.lemmas.List.{get_or_append_left, get_or_push, length_push, get_or_read}
+use Rattle.halfedge_map.proofs.Common.{◌≡◌, inl, inr, ℕ, ◌+◌, ◌<◌, ◌≤◌, true, false, not, cond, List, [], ◌∷◌, ◌++◌, length, get_or, refl, ap, sym, ◌∙◌, subst, arith, cases_lt, get_or_append_left, get_or_push, length_push, get_or_read, first_side, IsSide, side_number, tail_of, FaceList, face_at, next_corner, total_sides, is_flipped, Side, MOST_SIDES, DartName}
 use Rattle.std.proofs.lemmas.List.Sums.{sum_by_more}
-use Rattle.surf_model.specs.FaceLists.{FaceList, face_at, next_corner, total_sides}
-use Rattle.surf_model.specs.Darts.{first_side, IsSide, side_number, tail_of}
-use Rattle.surf_model.specs.Surfaces.{is_flipped}
-use Rattle.surf_model.specs.declared.edges.Side.{Side}
-use Rattle.surf_model.specs.declared.names.DartName.{DartName}
 use Rattle.surf_model.specs.declared.names.VertexName.{VertexName}
 use Rattle.halfedge_map.specs.OrientedMeshes.{OrientedMesh}
 use Rattle.halfedge_map.specs.DartMaps.{darts_of, side_of, next_of, origin_of, start_corner_of}
@@ -17,7 +9,6 @@ use Rattle.halfedge_map.specs.declared.darts.Origins.{Origins}
 use Rattle.halfedge_map.specs.declared.darts.Origins.TheVariants.{AsListed, Stored}
 use Rattle.halfedge_map.proofs.NumberLemmas.{IsNumberOf, HasPlace, number_below, placed}
 use Rattle.halfedge_map.proofs.DartLemmas.{corners, vertex_at, next_at, origin_at, start_at, start_place, start_kept}
-use Rattle.surf_model.specs.declared.limits.TheConstants.{MOST_SIDES}
 
 pub first_side-more : (mesh : FaceList) (f : ℕ) → f < length mesh.faces
     → first_side mesh (f + 1) ≡ first_side mesh f + length (face_at mesh f)

@@ -1,6 +1,5 @@
 -- The darts of a surface make a rotation system.
-use Rattle.std.proofs.Common.{ℕ, ◌<◌, [], length, sym, ◌∙◌, subst, arith}
-use Rattle.surf_model.specs.FaceLists.{IsFaceList, IsFace, face_at}
+use Rattle.halfedge_map.proofs.Common.{ℕ, ◌<◌, [], length, sym, ◌∙◌, subst, arith, IsFaceList, IsFace, face_at}
 use Rattle.halfedge_map.specs.OrientedMeshes.{OrientedMesh, IsOrientedSurface}
 use Rattle.halfedge_map.specs.DartMaps.{darts_of, face_of, origin_of, next_of}
 use Rattle.halfedge_map.specs.RotationSystems.{rotations_of, IsRotationSystem, HasDart, NamesAll}

@@ -1,16 +1,5 @@
 -- The two darts of an edge.
-use Rattle.std.proofs.Common.{◌≡◌, ◌≢◌, ◌⊎◌, inl, inr, ℕ, ◌<◌, Bool, true, false, not, cond, eqb, ◌&&◌, length, get_or, refl, ap, sym}
-use Rattle.std.proofs.Common.{◌∙◌, subst, arith}
-use Rattle.std.specs.Prelude.{unwrap_or}
-use Rattle.std.proofs.lemmas.Bool.{cases_Bool, both_ways, and_parts, and_from, eqb-true, eq-eqb}
-use Rattle.std.proofs.lemmas.Bool.Decides.{nat_tests}
-use Rattle.std.proofs.lemmas.List.{get_or_default}
-use Rattle.std.proofs.lemmas.List.Folds.{list_any_at}
-use Rattle.surf_model.specs.FaceLists.{FaceSide, IsFace, face_at, all_sides, next_corner, joins, is_edge}
-use Rattle.surf_model.specs.Surfaces.{is_flipped, ArePartners, RunOppositely}
-use Rattle.surf_model.specs.Darts.{IsSide, side_number}
-use Rattle.surf_model.specs.declared.edges.Side.{Side}
-use Rattle.surf_model.proofs.NumberLemmas.{face_side, length-all_sides}
+use Rattle.halfedge_map.proofs.Common.{◌≡◌, ◌≢◌, ◌⊎◌, inl, inr, ℕ, ◌<◌, Bool, true, false, not, cond, eqb, ◌&&◌, length, get_or, refl, ap, sym, ◌∙◌, subst, arith, cases_Bool, both_ways, and_parts, and_from, eqb-true, eq-eqb, nat_tests, get_or_default, list_any_at, unwrap_or, face_side, length-all_sides, IsSide, side_number, FaceSide, IsFace, face_at, all_sides, next_corner, joins, is_edge, is_flipped, ArePartners, RunOppositely, Side}
 use Rattle.halfedge_map.specs.OrientedMeshes.{OrientedMesh, IsOrientedSurface}
 use Rattle.halfedge_map.specs.DartMaps.{darts_of, side_of, origin_of, target_of, twin_of}
 use Rattle.halfedge_map.proofs.NumberLemmas.{IsNumberOf, HasPlace, placed, number_below, HasSide, side_with_number}

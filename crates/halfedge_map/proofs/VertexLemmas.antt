@@ -1,14 +1,5 @@
 -- Darts start at one vertex exactly where they are reached from one another round it: the link condition, in terms of darts.
-use Rattle.std.proofs.Common.{◌≡◌, ◌⊎◌, inl, inr, ℕ, ◌<◌, true, eqb, List, [], ◌∷◌, length, get_or, refl, ap, sym, ◌∙◌, subst}
-use Rattle.std.specs.List.{list_any}
-use Rattle.std.proofs.lemmas.Bool.{cases_Bool, eq-eqb, eqb-true}
-use Rattle.std.proofs.lemmas.List.{get_or_default}
-use Rattle.std.proofs.lemmas.List.Folds.{list_any_at, Any-from_list_any}
-use Rattle.surf_model.specs.FaceLists.{FaceSide, face_at, next_corner, joins, is_used}
-use Rattle.surf_model.specs.Surfaces.{is_flipped, ArePartners, IsCornerAt, IsCornerOfSide, IsStepAround, IsPath}
-use Rattle.surf_model.specs.Darts.{IsSide, side_number}
-use Rattle.surf_model.specs.declared.edges.Side.{Side}
-use Rattle.surf_model.proofs.NumberLemmas.{face_side}
+use Rattle.halfedge_map.proofs.Common.{◌≡◌, ◌⊎◌, inl, inr, ℕ, ◌<◌, true, eqb, List, [], ◌∷◌, length, get_or, refl, ap, sym, ◌∙◌, subst, cases_Bool, eq-eqb, eqb-true, get_or_default, list_any_at, Any-from_list_any, list_any, face_side, IsSide, side_number, FaceSide, face_at, next_corner, joins, is_used, is_flipped, ArePartners, IsCornerAt, IsCornerOfSide, IsStepAround, IsPath, Side}
 use Rattle.halfedge_map.specs.Orbits.{IsReached}
 use Rattle.halfedge_map.specs.OrientedMeshes.{OrientedMesh, IsOrientedSurface}
 use Rattle.halfedge_map.specs.DartMaps.{darts_of, side_of, face_of, origin_of, target_of, next_of, twin_of, start_corner_of}

@@ -1,7 +1,5 @@
 -- Walks as darts, one after another.
-use Rattle.std.proofs.Common.{◌≡◌, ℕ, suc, ◌+◌, ◌-◌, ◌<◌, true, List, [], ◌∷◌, length, get_or, refl, ap, sym, ◌∙◌, subst, arith}
-use Rattle.surf_model.specs.FaceLists.{is_edge, is_used}
-use Rattle.surf_model.specs.Surfaces.{IsPath, AreJoined, IsWalkBetween}
+use Rattle.halfedge_map.proofs.Common.{◌≡◌, ℕ, suc, ◌+◌, ◌-◌, ◌<◌, true, List, [], ◌∷◌, length, get_or, refl, ap, sym, ◌∙◌, subst, arith, is_edge, is_used, IsPath, AreJoined, IsWalkBetween}
 use Rattle.halfedge_map.specs.OrientedMeshes.{OrientedMesh, IsOrientedSurface}
 use Rattle.halfedge_map.specs.RotationSystems.{rotations_of, IsDartStep}
 use Rattle.halfedge_map.proofs.EdgeLemmas.{dart_between}

@@ -1,11 +1,5 @@
 -- Sums along walks: of parts, of a part put in another's place, and of the ways round a face.
-use Rattle.std.proofs.Common.{◌≡◌, inl, inr, ℕ, zero, suc, ◌+◌, ◌-◌, ◌<◌, ◌≤◌, Bool, true, false, List, [], ◌∷◌, ◌++◌, length, get_or, refl, ap, sym, ◌∙◌, arith, ℤ, pos, ◌+ℤ◌, ◌-ℤ◌}
-use Rattle.std.specs.Prelude.{neg_ℤ}
-use Rattle.std.proofs.lemmas.Int.{ints}
-use Rattle.std.proofs.lemmas.Bool.{cases_lt}
-use Rattle.std.proofs.lemmas.Bool.Decides.{nat_tests}
-use Rattle.surf_model.specs.FaceLists.{next_corner, corners_from}
-use Rattle.surf_model.proofs.WayBackLemmas.{AreAlike, at_first, at_last}
+use Rattle.homology.proofs.Common.{◌≡◌, inl, inr, ℕ, zero, suc, ◌+◌, ◌-◌, ◌<◌, ◌≤◌, Bool, true, false, List, [], ◌∷◌, ◌++◌, length, get_or, refl, ap, sym, ◌∙◌, arith, ℤ, pos, ◌+ℤ◌, ◌-ℤ◌, cases_lt, nat_tests, ints, neg_ℤ, AreAlike, at_first, at_last, next_corner, corners_from}
 use Rattle.homology.specs.Sums.{along, round}
 
 -- up to an entry, and from there on

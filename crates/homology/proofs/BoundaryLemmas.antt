@@ -1,17 +1,10 @@
 -- Sums over all sides of a mesh, face by face: the boundary of numbered faces.
-use Rattle.std.proofs.Common.{◌≡◌, inl, inr, ℕ, zero, suc, ◌+◌, ◌<◌, List, [], ◌∷◌, ◌++◌, length, get_or, refl, ap, ap₂, sym, ◌∙◌, arith, ℤ, pos, ◌+ℤ◌}
-use Rattle.std.specs.Prelude.{◌*ℤ◌, neg_ℤ, map, flat_map, nat_eq, ◌==◌, ◌&&◌, if◌then◌else◌}
-use Rattle.std.specs.List.{enumerate_from, range_with_len}
-use Rattle.std.proofs.lemmas.Int.{ints}
-use Rattle.std.proofs.lemmas.Bool.{cases_Bool}
-use Rattle.std.proofs.lemmas.Bool.Decides.{nat_tests}
-use Rattle.surf_model.specs.FaceLists.{FaceList, FaceSide, all_sides, sides_of_face, face_at}
-use Rattle.surf_model.proofs.NumberLemmas.{face_side}
+use Rattle.homology.proofs.Common.{◌≡◌, inl, inr, ℕ, zero, suc, ◌+◌, ◌<◌, List, [], ◌∷◌, ◌++◌, length, get_or, refl, ap, ap₂, sym, ◌∙◌, arith, ℤ, pos, ◌+ℤ◌, *ℤ-zero, zero-*ℤ, cases_Bool, nat_tests, ints, enumerate_from, range_with_len, ◌*ℤ◌, neg_ℤ, map, flat_map, nat_eq, ◌==◌, if◌then◌else◌, face_side, FaceList, FaceSide, all_sides, sides_of_face, face_at}
+use Rattle.std.specs.Prelude.{◌&&◌}
 use Rattle.homology.specs.Sums.{total, along, round, share}
 use Rattle.homology.specs.Chains.{boundary}
 use Rattle.homology.proofs.RingLemmas.{times-sum, sum-times, times-one, times-minus}
 use Rattle.homology.proofs.AlongLemmas.{IsOpposite, first_sides, side_number_at, round-sides}
-use Rattle.std.proofs.Math.IntN.{*ℤ-zero, zero-*ℤ}
 
 -- what a side gives: the number of its face times that of its dart
 abbrev pub side_part : (ℕ → ℤ) → (ℕ → ℕ → ℤ) → FaceSide → ℤ

@@ -1,11 +1,5 @@
 -- The verdict on a chain, from what is left at each edge.
-use Rattle.std.proofs.Common.{◌≡◌, ◌≢◌, ℕ, zero, suc, ◌<◌, ◌≤◌, List, [], ◌∷◌, length, refl, ap, ap₂, sym, ◌∙◌, subst, arith, ℤ, pos, negsuc, ◌+ℤ◌}
-use Rattle.std.specs.Prelude.{map, IsTrue, neg_ℤ, unsigned_abs, replicate}
-use Rattle.std.proofs.lemmas.Int.{ints}
-use Rattle.std.proofs.lemmas.Bool.Decides.{nat_tests}
-use Rattle.surf_model.specs.FaceLists.{FaceList, FaceSide, all_sides, is_edge}
-use Rattle.surf_model.specs.Edges.{Edge, IsTableOf, IsPairBefore, edge_in}
-use Rattle.surf_model.proofs.TableEdgeLemmas.{IsEdgeBetween, edge_between, same_pair, table_pair, place_before}
+use Rattle.homology.proofs.Common.{◌≡◌, ◌≢◌, ℕ, zero, suc, ◌<◌, ◌≤◌, List, [], ◌∷◌, length, refl, ap, ap₂, sym, ◌∙◌, subst, arith, ℤ, pos, negsuc, ◌+ℤ◌, nat_tests, ints, map, IsTrue, neg_ℤ, unsigned_abs, replicate, IsEdgeBetween, edge_between, same_pair, table_pair, place_before, Edge, IsTableOf, IsPairBefore, edge_in, FaceList, FaceSide, all_sides, is_edge}
 use Rattle.homology.specs.Sums.{total, along, share}
 use Rattle.homology.specs.Chains.{IsChain, boundary, count_difference}
 use Rattle.homology.specs.Verdicts.{IsBalancedAt, IsLeastUnbalanced}

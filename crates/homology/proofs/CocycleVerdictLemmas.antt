@@ -1,12 +1,5 @@
 -- The sums of a cocycle, dart by dart, and what a test of one says.
-use Rattle.std.proofs.Common.{◌≡◌, inl, inr, ℕ, suc, ◌+◌, ◌*◌, ◌^◌, ◌<◌, ◌≤◌, List, [], ◌∷◌, length, get_or, take, refl, ap, sym, ◌∙◌, subst, arith, ℤ, pos, ◌+ℤ◌, to_z, of_z, w64}
-use Rattle.std.specs.Prelude.{neg_ℤ, unsigned_abs, Contains, FitsSigned}
-use Rattle.std.proofs.lemmas.Int.{fits_signed_from_abs}
-use Rattle.std.proofs.lemmas.Bool.Decides.{nat_tests}
-use Rattle.surf_model.specs.FaceLists.{FaceList, face_at}
-use Rattle.surf_model.specs.Edges.{Edge, IsTableOf, HasEnds, edge_in}
-use Rattle.surf_model.specs.Darts.{head_of}
-use Rattle.surf_model.specs.declared.edges.Side.{Side}
+use Rattle.homology.proofs.Common.{◌≡◌, inl, inr, ℕ, suc, ◌+◌, ◌*◌, ◌^◌, ◌<◌, ◌≤◌, List, [], ◌∷◌, length, get_or, take, refl, ap, sym, ◌∙◌, subst, arith, ℤ, pos, ◌+ℤ◌, to_z, of_z, w64, nat_tests, fits_signed_from_abs, neg_ℤ, unsigned_abs, Contains, FitsSigned, head_of, Edge, IsTableOf, HasEnds, edge_in, FaceList, face_at, Side}
 use Rattle.homology.specs.Sums.{along}
 use Rattle.homology.specs.Cocycles.{dart_number}
 use Rattle.homology.specs.Tallies.{number_at, turned, AreNumbersOf}

@@ -1,14 +1,5 @@
 -- The sum over all edges, of the number of an edge times what a walk counts there, is the sum along the walk.
-use Rattle.std.proofs.Common.{◌≡◌, ◌≢◌, inl, inr, ℕ, zero, suc, ◌<◌, List, [], ◌∷◌, length, get_or, refl, ap, sym, ◌∙◌, arith, ℤ, pos, negsuc, ◌+ℤ◌, ◌-ℤ◌}
-use Rattle.std.specs.Prelude.{◌*ℤ◌, neg_ℤ, map}
-use Rattle.std.proofs.lemmas.Int.{ints}
-use Rattle.std.proofs.lemmas.Bool.Decides.{nat_tests}
-use Rattle.std.proofs.Math.IntN.{*ℤ-zero}
-use Rattle.surf_model.specs.FaceLists.{FaceList}
-use Rattle.surf_model.specs.Edges.{Edge, IsTableOf, HasEnds, edge_in}
-use Rattle.surf_model.specs.Walks.{IsWalk}
-use Rattle.surf_model.proofs.LinkLemmas.{Linked, links}
-use Rattle.surf_model.proofs.TableEdgeLemmas.{IsEdgeBetween, edge_between}
+use Rattle.homology.proofs.Common.{◌≡◌, ◌≢◌, inl, inr, ℕ, zero, suc, ◌<◌, List, [], ◌∷◌, length, get_or, refl, ap, sym, ◌∙◌, arith, ℤ, pos, negsuc, ◌+ℤ◌, ◌-ℤ◌, *ℤ-zero, nat_tests, ints, ◌*ℤ◌, neg_ℤ, map, Linked, links, IsEdgeBetween, edge_between, Edge, IsTableOf, HasEnds, edge_in, FaceList, IsWalk}
 use Rattle.homology.specs.Sums.{total, along, share}
 use Rattle.homology.specs.Chains.{count_of, count_difference}
 use Rattle.homology.specs.Cocycles.{dart_number, separation, edge_sum}

@@ -1,3 +1,4 @@
+pub mod Common
 pub mod RingLemmas
 pub mod AlongLemmas
 pub mod BoundaryLemmas

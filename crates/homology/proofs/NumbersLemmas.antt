@@ -1,14 +1,5 @@
 -- The numbers of a certificate, written into an array line by line.
-use Rattle.std.proofs.Common.{◌≡◌, ◌≢◌, ◌⊎◌, inl, inr, ℕ, suc, ◌+◌, ◌<◌, ◌≤◌, Bool, true, false, ◌&&◌, List, [], ◌∷◌, ◌++◌, length, get_or, set, take, refl, ap, sym, ◌∙◌, subst, arith, ℤ, pos}
-use Rattle.std.specs.Prelude.{All, Some, slice_get, unsigned_abs, if◌then◌else◌, ◌==◌}
-use Rattle.std.proofs.lemmas.Bool.{cases_Bool, cases_eq, cases_lt}
-use Rattle.std.proofs.lemmas.Bool.Decides.{nat_tests}
-use Rattle.std.proofs.lemmas.List.{get_or-set_same, get_or-set_other, take_more, get_or_past}
-use Rattle.std.proofs.lemmas.Option.{get_or_from_slice_get}
-use Rattle.std.proofs.Math.Seq.{get_or-take}
-use Rattle.surf_model.specs.FaceLists.{FaceList}
-use Rattle.surf_model.specs.Edges.{Edge, IsTableOf, IsPairBefore, HasEnds, edge_in}
-use Rattle.surf_model.proofs.TableEdgeLemmas.{same_pair}
+use Rattle.homology.proofs.Common.{◌≡◌, ◌≢◌, ◌⊎◌, inl, inr, ℕ, suc, ◌+◌, ◌<◌, ◌≤◌, Bool, true, false, ◌&&◌, List, [], ◌∷◌, ◌++◌, length, get_or, set, take, refl, ap, sym, ◌∙◌, subst, arith, ℤ, pos, get_or-take, cases_Bool, cases_eq, cases_lt, nat_tests, get_or-set_same, get_or-set_other, take_more, get_or_past, get_or_from_slice_get, All, Some, slice_get, unsigned_abs, if◌then◌else◌, ◌==◌, same_pair, Edge, IsTableOf, IsPairBefore, HasEnds, edge_in, FaceList}
 use Rattle.homology.specs.Certificates.{listed_number, face_number, edge_number, AreFaceNumbers, AreEdgeNumbers}
 use Rattle.homology.specs.Tallies.{number_at, AreWithin, AreNumbersOf}
 use Rattle.homology.specs.declared.certificate.FaceNumber.{FaceNumber}

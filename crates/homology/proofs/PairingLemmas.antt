@@ -1,16 +1,7 @@
 -- Darts with weights: where they balance at every edge, the numbers of a cocycle add up to nothing on them. So a cocycle excludes every
 -- chain.
-use Rattle.std.proofs.Common.{◌≡◌, ◌⊎◌, inl, inr, ℕ, zero, suc, ◌<◌, ◌≤◌, Bool, true, false, not, ◌&&◌, ◌||◌, List, [], ◌∷◌, ◌++◌, length, refl, ap, ap₂, sym, ◌∙◌, arith, ℤ, pos, negsuc, ◌+ℤ◌, ◌-ℤ◌}
-use Rattle.std.specs.Prelude.{◌*ℤ◌, neg_ℤ, map, filter, nat_eq}
-use Rattle.std.specs.List.{list_any}
-use Rattle.std.proofs.lemmas.Int.{ints}
-use Rattle.std.proofs.lemmas.Bool.{cases_order, cases_Bool}
-use Rattle.std.proofs.lemmas.Bool.Decides.{nat_tests}
-use Rattle.std.proofs.Math.IntN.{*ℤ-zero, *ℤ_comm}
-use Rattle.surf_model.specs.FaceLists.{FaceList, FaceSide, all_sides, joins, is_edge}
-use Rattle.surf_model.specs.Walks.{IsWalk}
+use Rattle.homology.proofs.Common.{◌≡◌, ◌⊎◌, inl, inr, ℕ, zero, suc, ◌<◌, ◌≤◌, Bool, true, false, not, ◌&&◌, ◌||◌, List, [], ◌∷◌, ◌++◌, length, refl, ap, ap₂, sym, ◌∙◌, arith, ℤ, pos, negsuc, ◌+ℤ◌, ◌-ℤ◌, *ℤ-zero, *ℤ_comm, cases_order, cases_Bool, nat_tests, ints, list_any, ◌*ℤ◌, neg_ℤ, map, filter, nat_eq, Linked, links, FaceList, FaceSide, all_sides, joins, is_edge, IsWalk}
 use Rattle.surf_model.proofs.EdgeLemmas.{edge_swap}
-use Rattle.surf_model.proofs.LinkLemmas.{Linked, links}
 use Rattle.homology.specs.Sums.{along, share}
 use Rattle.homology.specs.Chains.{IsChain, count_of}
 use Rattle.homology.specs.Cocycles.{IsCocycle, Separates, dart_number}

@@ -1,8 +1,5 @@
 -- Whole numbers: the product and the sum.
-use Rattle.std.proofs.Common.{◌≡◌, ℕ, zero, suc, ap, ap₂, sym, ◌∙◌, arith, ℤ, pos, negsuc, ◌+ℤ◌, ◌-ℤ◌}
-use Rattle.std.specs.Prelude.{◌*ℤ◌, neg_ℤ}
-use Rattle.std.proofs.lemmas.Int.{ints}
-use Rattle.std.proofs.Math.IntN.{one, suc_ℤ-+ℤ, pred_ℤ-+ℤ, suc_ℤ-*ℤ, pred_ℤ-*ℤ, *ℤ_comm, zero-*ℤ, *ℤ-zero, *ℤ-one, *ℤ-negsuc}
+use Rattle.homology.proofs.Common.{◌≡◌, ℕ, zero, suc, ap, ap₂, sym, ◌∙◌, arith, ℤ, pos, negsuc, ◌+ℤ◌, ◌-ℤ◌, one, suc_ℤ-+ℤ, pred_ℤ-+ℤ, suc_ℤ-*ℤ, pred_ℤ-*ℤ, *ℤ_comm, zero-*ℤ, *ℤ-zero, *ℤ-one, *ℤ-negsuc, ints, ◌*ℤ◌, neg_ℤ}
 
 -- by induction on the first number
 pub sum-times : (a b c : ℤ) → (a +ℤ b) *ℤ c ≡ a *ℤ c +ℤ b *ℤ c

@@ -1,8 +1,5 @@
 -- How large sums become.
-use Rattle.std.proofs.Common.{◌≡◌, inl, inr, ℕ, zero, suc, ◌+◌, ◌*◌, ◌≤◌, ◌&&◌, List, [], ◌∷◌, length, refl, arith, ◌^◌, ◌<◌, ℤ, pos, negsuc, ◌+ℤ◌, ◌-ℤ◌, to_z, of_z, w64}
-use Rattle.std.specs.Prelude.{neg_ℤ, ◌≤ℤ◌, unsigned_abs, nat_eq, map}
-use Rattle.std.proofs.lemmas.Int.{ints, to_z-of_z, fits_signed_from_abs}
-use Rattle.std.proofs.lemmas.Bool.{cases_Bool}
+use Rattle.homology.proofs.Common.{◌≡◌, inl, inr, ℕ, zero, suc, ◌+◌, ◌*◌, ◌≤◌, ◌&&◌, List, [], ◌∷◌, length, refl, arith, ◌^◌, ◌<◌, ℤ, pos, negsuc, ◌+ℤ◌, ◌-ℤ◌, to_z, of_z, w64, cases_Bool, ints, to_z-of_z, fits_signed_from_abs, neg_ℤ, ◌≤ℤ◌, unsigned_abs, nat_eq, map}
 use Rattle.std.proofs.Math.Nat.{mul-suc}
 use Rattle.homology.specs.Sums.{total, along, share}
 use Rattle.homology.specs.declared.certificate.TheConstants.{MOST_NUMBER}

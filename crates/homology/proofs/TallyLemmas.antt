@@ -1,20 +1,7 @@
 -- A dart gives to one entry of a tally what it gives to each edge of the table.
-use Rattle.std.proofs.Common.{◌≡◌, ◌≢◌, ◌⊎◌, inl, inr, ℕ, zero, suc, ◌+◌, ◌-◌, ◌*◌, ◌^◌, ◌<◌, ◌≤◌, true, List, [], ◌∷◌, ◌++◌, length, get_or, set, take, refl, ap, sym, ◌∙◌, subst, arith, length-append, ℤ, pos, ◌+ℤ◌}
-use Rattle.std.specs.Prelude.{neg_ℤ, unsigned_abs, map, Contains, Any}
-use Rattle.std.specs.List.{range_with_len}
-use Rattle.std.proofs.lemmas.Int.{ints}
-use Rattle.std.proofs.lemmas.Bool.{cases_eq, cases_lt}
-use Rattle.std.proofs.lemmas.Bool.Decides.{nat_tests}
-use Rattle.std.proofs.lemmas.List.{get_or-set_same, get_or-set_other, length-set, get_or_default, get_or_past}
-use Rattle.surf_model.specs.FaceLists.{FaceList, FaceSide, HasFileSize, face_at, sides_of_face, is_edge}
-use Rattle.surf_model.specs.Walks.{IsWalk}
-use Rattle.surf_model.specs.declared.limits.TheConstants.{MOST_SIDES}
-use Rattle.surf_model.specs.Edges.{Edge, IsTableOf, IsPairBefore, HasEnds, edge_in}
-use Rattle.surf_model.specs.Darts.{tail_of, head_of}
-use Rattle.surf_model.specs.declared.edges.Side.{Side}
-use Rattle.surf_model.proofs.NumberLemmas.{face_side, length-sides_of_face, sides_of_face-more, sides_up_to, sides_up_to-none, sides_up_to-more, sides_up_to-all, length-sides_up_to}
-use Rattle.surf_model.proofs.TableEdgeLemmas.{IsEdgeBetween, edge_between}
+use Rattle.homology.proofs.Common.{◌≡◌, ◌≢◌, ◌⊎◌, inl, inr, ℕ, zero, suc, ◌+◌, ◌-◌, ◌*◌, ◌^◌, ◌<◌, ◌≤◌, true, List, [], ◌∷◌, ◌++◌, length, get_or, set, take, refl, ap, sym, ◌∙◌, subst, arith, length-append, ℤ, pos, ◌+ℤ◌, cases_eq, cases_lt, nat_tests, ints, get_or-set_same, get_or-set_other, length-set, get_or_default, get_or_past, range_with_len, neg_ℤ, unsigned_abs, map, Contains, Any, face_side, length-sides_of_face, sides_of_face-more, sides_up_to, sides_up_to-none, sides_up_to-more, sides_up_to-all, length-sides_up_to, IsEdgeBetween, edge_between, tail_of, head_of, Edge, IsTableOf, IsPairBefore, HasEnds, edge_in, FaceList, FaceSide, HasFileSize, face_at, sides_of_face, is_edge, IsWalk, Side}
 use Rattle.surf_model.proofs.PartnerLemmas.{HasSideEnds, IsSideOfEdge, side_of_edge}
+use Rattle.surf_model.specs.declared.limits.TheConstants.{MOST_SIDES}
 use Rattle.homology.specs.Sums.{total, along, share}
 use Rattle.homology.specs.Tallies.{number_at, turned, GrewBy, AreWithin, face_share}
 use Rattle.homology.proofs.SizeLemmas.{size-sum, size-opposite, size-share, size-along, size-total}

@@ -1,11 +1,6 @@
 -- A certificate has one verdict.
-use Rattle.std.proofs.Common.{◌≡◌, ◌⊎◌, inl, inr, ℕ, ◌<◌, List, get_or, refl, ap, sym, ◌∙◌, subst, ℤ, arith}
-use Rattle.std.specs.Prelude.{All, IfOk, Result, Ok, Err}
-use Rattle.std.proofs.lemmas.Bool.{cases_order}
-use Rattle.std.proofs.lemmas.List.{get_or_default}
+use Rattle.homology.proofs.Common.{◌≡◌, ◌⊎◌, inl, inr, ℕ, ◌<◌, List, get_or, refl, ap, sym, ◌∙◌, subst, ℤ, arith, cases_order, get_or_default, All, IfOk, Result, Ok, Err, IsPairBefore, FaceList}
 use Rattle.std.specs.declared.alloc.AllocError.{AllocError}
-use Rattle.surf_model.specs.FaceLists.{FaceList}
-use Rattle.surf_model.specs.Edges.{IsPairBefore}
 use Rattle.surf_model.specs.declared.names.FaceName.{FaceName}
 use Rattle.surf_model.specs.declared.names.VertexName.{VertexName}
 use Rattle.homology.specs.Certificates.{face_number, edge_number}

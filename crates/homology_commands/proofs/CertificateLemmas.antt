@@ -1,35 +1,12 @@
 -- What was found of two walks on their component, listed, shows the same of them on the whole mesh.
-use Rattle.std.proofs.Common.{◌≡◌, ◌↔◌, inl, inr, ℕ, ◌<◌, ◌≤◌, true, false, List, length, get_or, refl, ap, ap₂, sym, ◌∙◌, subst, arith, ℤ, pos}
-use Rattle.std.specs.Prelude.{All}
-use Rattle.std.specs.List.{range_with_len}
-use Rattle.std.proofs.lemmas.Bool.{cases_lt}
-use Rattle.std.proofs.lemmas.List.{get_or_past}
-use Rattle.std.proofs.lemmas.List.Elements.{filter_passes}
-use Rattle.surf_model.specs.FaceLists.{FaceList, is_edge}
-use Rattle.surf_model.specs.Edges.{IsTableOf, edge_in}
-use Rattle.surf_model.specs.Walks.{IsWalk}
-use Rattle.surf_model.proofs.LinkLemmas.{Linked, links}
-use Rattle.surf_model.proofs.TableEdgeLemmas.{IsEdgeBetween, edge_between, same_pair, table_pair}
-use Rattle.surf_model.specs.ComponentParts.{component_at}
-use Rattle.manifold_check.proofs.PartPieces.{IsOfComponent, piece_of_parts}
-use Rattle.manifold_check.proofs.PieceLemmas.{IsPiece, edge_up, length-submesh}
-use Rattle.halfedge_map.specs.OrientedMeshes.{OrientedMesh}
-use Rattle.homology.specs.Certificates.{AreFaceNumbers, AreEdgeNumbers, face_number, edge_number}
-use Rattle.homology.specs.Chains.{AreHomologous, IsChain}
-use Rattle.homology.specs.Cocycles.{IsCocycle}
-use Rattle.homology.specs.Tallies.{number_at}
-use Rattle.homology.specs.Verdicts.{HasFace, HasEdge}
-use Rattle.homology.specs.declared.certificate.EdgeNumber.{EdgeNumber}
-use Rattle.homology.specs.declared.certificate.FaceNumber.{FaceNumber}
-use Rattle.homology.specs.declared.certificate.HomologyCert.{HomologyCert}
-use Rattle.homology.specs.declared.certificate.HomologyCert.TheVariants as certificates
-use Rattle.homology.proofs.PairingLemmas.{refuted}
-use Rattle.homology_deciding.specs.Proofs.{IsChainFor, IsCocycleFor}
-use Rattle.closed_surfaces.proofs.Components.{walk_there}
-use Rattle.closed_surfaces.specs.SignedSurfaces.{IsComponentOf, IsPart, surface_of}
-use Rattle.commands.specs.HomologyCertificates.{Homologous, NotHomologous, ShowsHomology, answer_in}
+use Rattle.homology_commands.proofs.Common.{walk_there, IsComponentOf, IsPart, surface_of, Homologous, NotHomologous, ShowsHomology, answer_in, OrientedMesh, AreFaceNumbers, AreEdgeNumbers, face_number, edge_number, AreHomologous, IsChain, IsCocycle, number_at, EdgeNumber, FaceNumber, HomologyCert, IsChainFor, IsCocycleFor, IsOfComponent, piece_of_parts, IsPiece, edge_up, length-submesh, ◌≡◌, ◌↔◌, inl, inr, ℕ, ◌<◌, ◌≤◌, true, false, List, length, get_or, refl, ap, ap₂, sym, ◌∙◌, subst, arith, ℤ, pos, cases_lt, filter_passes, range_with_len, All, Linked, links, component_at, IsTableOf, edge_in, FaceList, is_edge, IsWalk}
 use Rattle.closed_surfaces.specs.declared.component.Component.{Component}
 use Rattle.closed_surfaces.specs.declared.component.Component.TheVariants.{Whole, Alone}
+use Rattle.homology.proofs.PairingLemmas.{refuted}
+use Rattle.homology.specs.Verdicts.{HasFace, HasEdge}
+use Rattle.std.proofs.lemmas.List.{get_or_past}
+use Rattle.surf_model.proofs.TableEdgeLemmas.{IsEdgeBetween, edge_between, same_pair, table_pair}
+use Rattle.homology.specs.declared.certificate.HomologyCert.TheVariants as certificates
 use Rattle.homology_commands.specs.Listings.{IsNamed, ListsFaces, IsAmong, ListsEdges, name_in}
 use Rattle.homology_commands.proofs.PieceChains.{chain_alike, chain_widened}
 use Rattle.homology_commands.proofs.PieceCocycles.{IsWidened, cocycle_alike, cocycle_widened, separates_widened}

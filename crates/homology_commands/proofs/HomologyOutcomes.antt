@@ -1,11 +1,5 @@
 -- `homology` in the words of the mesh, and `verify-homology` of what it prints.
-use Rattle.std.proofs.Common.{◌≡◌, ℕ, List, [], ◌∷◌, codes}
-use Rattle.std.specs.Prelude.{Option}
-use Rattle.surf_io.specs.Files.{Files}
-use Rattle.surf_model.specs.FaceLists.{FaceList}
-use Rattle.surface_commands.proofs.SurfaceRows.{outcome_of_pair}
-use Rattle.commands.specs.Outcomes.{AnswersTo}
-use Rattle.commands.specs.declared.status.Status.{Status}
+use Rattle.homology_commands.proofs.Common.{AnswersTo, Status, ◌≡◌, ℕ, List, [], ◌∷◌, codes, Option, Files, FaceList, outcome_of_pair}
 use Rattle.homology_commands.specs.Homology.{homology, IsHomologyAnswered, IsHomologyInput}
 use Rattle.homology_commands.proofs.HomologyAnswers.{IsRightAnswer, right_answer, after_pair}
 

@@ -1,3 +1,4 @@
+pub mod Common
 pub mod ShortWalks
 pub mod PieceChains
 pub mod PieceCocycles

@@ -1,20 +1,7 @@
 -- Listing the numbers that are not 0, one by one.
-use Rattle.std.proofs.Common.{◌≡◌, ◌≢◌, ◌⊎◌, inl, inr, ℕ, zero, suc, ◌+◌, ◌<◌, Bool, true, false, List, [], ◌∷◌, ◌++◌, length-append, get_or, refl, ap, sym, ◌∙◌, subst, arith, ℤ, pos, negsuc, to_z, of_z, w64, ◌≤◌}
-use Rattle.std.specs.Prelude.{All, Some, if◌then◌else◌, ◌==◌, ◌&&◌, slice_get, unsigned_abs}
-use Rattle.std.proofs.lemmas.Bool.{cases_Bool, cases_lt}
-use Rattle.std.proofs.lemmas.Bool.Decides.{nat_tests}
-use Rattle.std.proofs.lemmas.Int.{ints}
-use Rattle.std.proofs.lemmas.List.Elements.{All-nil, All-push}
-use Rattle.std.proofs.lemmas.Option.{get_or_from_slice_get}
-use Rattle.surf_model.specs.Edges.{Edge, IsPairBefore, edge_in}
-use Rattle.homology.specs.Certificates.{listed_number, face_number, edge_number}
-use Rattle.homology.specs.declared.certificate.EdgeNumber.{EdgeNumber}
-use Rattle.homology.specs.declared.certificate.FaceNumber.{FaceNumber}
-use Rattle.homology.specs.Tallies.{AreWithin, number_at}
-use Rattle.homology.specs.declared.certificate.TheConstants.{MOST_NUMBER}
+use Rattle.homology_commands.proofs.Common.{listed_number, face_number, edge_number, AreWithin, number_at, EdgeNumber, FaceNumber, MOST_NUMBER, FaceFits, EdgeFits, ◌≡◌, ◌≢◌, ◌⊎◌, inl, inr, ℕ, zero, suc, ◌+◌, ◌<◌, Bool, true, false, List, [], ◌∷◌, ◌++◌, length-append, get_or, refl, ap, sym, ◌∙◌, subst, arith, ℤ, pos, negsuc, to_z, of_z, w64, ◌≤◌, cases_Bool, cases_lt, nat_tests, ints, All-nil, All-push, get_or_from_slice_get, All, Some, if◌then◌else◌, ◌==◌, ◌&&◌, slice_get, unsigned_abs, Edge, IsPairBefore, edge_in}
 use Rattle.homology.proofs.NumbersLemmas.{listed_more}
 use Rattle.homology.proofs.SizeLemmas.{sent}
-use Rattle.homology_files.specs.WrittenTexts.{FaceFits, EdgeFits}
 use Rattle.homology_commands.specs.Listings.{IsNamed, ListsFaces, IsAmong, ListsEdges}
 
 -- ---- a number that is handed on

@@ -1,19 +1,8 @@
 -- A chain on some faces of a mesh is one on the whole mesh, with the number 0 for all other faces.
-use Rattle.std.proofs.Common.{◌≡◌, ◌⊎◌, inl, inr, ℕ, suc, ◌+◌, ◌<◌, Bool, true, false, List, [], ◌∷◌, length, get_or, refl, ap, ap₂, sym, ◌∙◌, arith, ℤ, pos, ◌+ℤ◌}
-use Rattle.std.specs.Prelude.{◌*ℤ◌, filter, map}
-use Rattle.std.specs.List.{list_any, range_with_len}
-use Rattle.std.proofs.lemmas.Bool.{cases_Bool, cond-true, cond-false, or_parts}
-use Rattle.std.proofs.lemmas.Bool.Decides.{nat_tests}
-use Rattle.std.proofs.lemmas.Int.{ints}
-use Rattle.std.proofs.Math.IntN.{zero-*ℤ}
-use Rattle.surf_model.specs.FaceLists.{FaceList, FaceSide, all_sides, face_at, is_edge, joins}
-use Rattle.surf_model.proofs.EdgeLemmas.{edge_swap}
-use Rattle.surf_model.proofs.LinkLemmas.{Linked}
-use Rattle.surf_model.specs.Submeshes.{submesh}
-use Rattle.homology.specs.Sums.{total, along, round, share}
-use Rattle.homology.specs.Chains.{IsChain, boundary, count_of}
+use Rattle.homology_commands.proofs.Common.{boundary_agrees, IsChain, boundary, count_of, total, along, round, share, ◌≡◌, ◌⊎◌, inl, inr, ℕ, suc, ◌+◌, ◌<◌, Bool, true, false, List, [], ◌∷◌, length, get_or, refl, ap, ap₂, sym, ◌∙◌, arith, ℤ, pos, ◌+ℤ◌, cases_Bool, cond-true, cond-false, or_parts, nat_tests, ints, list_any, range_with_len, ◌*ℤ◌, filter, map, edge_swap, Linked, FaceList, FaceSide, all_sides, face_at, is_edge, joins}
 use Rattle.homology.proofs.BoundaryLemmas.{face_parts, by_faces, boundary_is}
-use Rattle.homology.proofs.ChainVerdictLemmas.{boundary_agrees}
+use Rattle.std.proofs.Math.IntN.{zero-*ℤ}
+use Rattle.surf_model.specs.Submeshes.{submesh}
 
 -- ---- sums over faces by their names
 

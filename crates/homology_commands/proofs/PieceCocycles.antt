@@ -1,17 +1,5 @@
 -- A cocycle on a component of a mesh is one on the whole mesh, with the number 0 for all other edges.
-use Rattle.std.proofs.Common.{◌≡◌, inl, inr, ℕ, zero, suc, ◌<◌, true, false, List, [], ◌∷◌, length, get_or, refl, ap, ap₂, sym, ◌∙◌, arith, ℤ, pos, ◌+ℤ◌}
-use Rattle.std.specs.Prelude.{neg_ℤ}
-use Rattle.std.proofs.lemmas.Bool.{cases_Bool, cases_eq, cases_lt, cases_order}
-use Rattle.std.proofs.lemmas.Bool.Decides.{nat_tests}
-use Rattle.std.proofs.lemmas.Int.{ints}
-use Rattle.surf_model.specs.FaceLists.{FaceList, corners_from, face_at, is_edge, next_corner}
-use Rattle.surf_model.proofs.EdgeLemmas.{edge_swap, step_within, tail_used}
-use Rattle.surf_model.proofs.LinkLemmas.{Linked, round_linked}
-use Rattle.surf_model.specs.ComponentParts.{PartsView, AreParts, component_at, component_mesh}
-use Rattle.manifold_check.proofs.PartPieces.{IsOfComponent, face_same_place, piece_of_parts}
-use Rattle.manifold_check.proofs.PieceLemmas.{HasPlaceAmong, IsPiece, face-submesh, length-submesh, used_up}
-use Rattle.homology.specs.Sums.{along, round}
-use Rattle.homology.specs.Cocycles.{IsCocycle, Separates, dart_number, face_sum}
+use Rattle.homology_commands.proofs.Common.{IsCocycle, Separates, dart_number, face_sum, along, round, IsOfComponent, face_same_place, piece_of_parts, HasPlaceAmong, IsPiece, face-submesh, length-submesh, used_up, ◌≡◌, inl, inr, ℕ, zero, suc, ◌<◌, true, false, List, [], ◌∷◌, length, get_or, refl, ap, ap₂, sym, ◌∙◌, arith, ℤ, pos, ◌+ℤ◌, cases_Bool, cases_eq, cases_lt, cases_order, nat_tests, ints, neg_ℤ, edge_swap, step_within, tail_used, Linked, round_linked, PartsView, AreParts, component_at, component_mesh, FaceList, corners_from, face_at, is_edge, next_corner}
 use Rattle.homology.proofs.AlongLemmas.{first_sides, round-sides}
 
 -- no neighbours form an edge

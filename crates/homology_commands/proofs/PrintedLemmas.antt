@@ -1,22 +1,15 @@
 -- What `homology` prints spells its certificate again, and `verify-homology` accepts it.
-use Rattle.std.proofs.Common.{◌≡◌, ℕ, List, refl, ap, ◌∙◌}
-use Rattle.std.specs.Prelude.{◌++◌, codes, Ok, Option}
-use Rattle.surf_io.specs.Files.{Files}
-use Rattle.surf_model.specs.FaceLists.{FaceList}
-use Rattle.text_scan.specs.Plain.{line_of}
-use Rattle.homology.specs.declared.certificate.HomologyCert.{HomologyCert}
-use Rattle.homology.specs.declared.certificate.HomologyCert.TheVariants as certificates
+use Rattle.homology_commands.proofs.Common.{input_so, ShowsHomology, answer_in, homology_line, homology_text, Status, HomologyCert, cert_text, kind_in, ◌≡◌, ℕ, List, refl, ap, ◌∙◌, Ok, Option, Files, FaceList}
 use Rattle.homology.specs.declared.verdict.HomologyVerdict.TheVariants.{Accepted}
-use Rattle.homology_files.specs.HomologyTexts.{answer_words, cert_of_text}
-use Rattle.homology_files.specs.WrittenTexts.{cert_text, kind_in}
 use Rattle.homology_files.proofs.RoundTrip.{reads_back_answered}
-use Rattle.commands.proofs.Rows.{input_so}
-use Rattle.commands.specs.HomologyCertificates.{ShowsHomology, answer_in, homology_line, homology_text}
-use Rattle.commands.specs.declared.status.Status.{Status}
+use Rattle.homology_files.specs.HomologyTexts.{answer_words, cert_of_text}
+use Rattle.std.specs.Prelude.{◌++◌, codes}
+use Rattle.text_scan.specs.Plain.{line_of}
+use Rattle.verify_homology_commands.proofs.VerifyHomologyOutcomes.{homology_verified}
+use Rattle.verify_homology_commands.specs.VerifyHomology.{IsInput}
+use Rattle.homology.specs.declared.certificate.HomologyCert.TheVariants as certificates
 use Rattle.homology_commands.specs.Homology.{IsHomologyPrinted}
 use Rattle.homology_commands.specs.PrintedHomology.{IsAccepted, IsVerifyOfText}
-use Rattle.verify_homology_commands.specs.VerifyHomology.{IsInput}
-use Rattle.verify_homology_commands.proofs.VerifyHomologyOutcomes.{homology_verified}
 
 -- the line of an answer in the words of the format
 answer_line : (shown : HomologyCert) → homology_line (answer_in shown) ≡ line_of (answer_words (kind_in shown))

@@ -1,13 +1,7 @@
 -- How long the walks of a file are.
-use Rattle.std.proofs.Common.{◌≡◌, inl, inr, ℕ, ◌+◌, ◌≤◌, Bool, true, false, List, [], ◌∷◌, ◌++◌, length, get_or, drop, refl, ap, sym, ◌∙◌, subst, arith}
-use Rattle.std.specs.Prelude.{All, nat_le, nat_lt, ◌||◌, if◌then◌else◌, Option, Some, None, Result, Ok, Err}
-use Rattle.std.specs.List.{enumerate_from, sum_by}
+use Rattle.homology_commands.proofs.Common.{Passes, meant, pass_unless, ◌>>=◌, pair_in, walk_at, ◌≡◌, inl, inr, ℕ, ◌+◌, ◌≤◌, Bool, true, false, List, [], ◌∷◌, ◌++◌, length, get_or, drop, refl, ap, sym, ◌∙◌, subst, arith, ltb-false, All-cons, All-nil, All-push, enumerate_from, sum_by, All, nat_le, nat_lt, ◌||◌, if◌then◌else◌, Option, Some, None, Result, Ok, Err, Files, FaceList, darts}
+use Rattle.commands.specs.Refusals.{numbers_line, pair_line}
 use Rattle.std.specs.Option.{ok_or}
-use Rattle.std.proofs.lemmas.Bool.{ltb-false}
-use Rattle.std.proofs.lemmas.List.Elements.{All-cons, All-nil, All-push}
-use Rattle.surf_io.specs.Files.{Files}
-use Rattle.surf_model.specs.FaceLists.{FaceList}
-use Rattle.surf_model.specs.Walks.{darts}
 use Rattle.text_scan.specs.Each.{each_ok, each_some, ok_first, some_first}
 use Rattle.text_scan.specs.Lines.{Line, full_lines}
 use Rattle.text_scan.specs.Numbers.{number_of}
@@ -18,9 +12,6 @@ use Rattle.walk_files.specs.declared.fault.WalkFault.{WalkFault}
 use Rattle.walk_files.specs.declared.fault.WalkFault.TheVariants.{BadNumber, TooLong, TooMany}
 use Rattle.walk_files.specs.declared.limits.TheConstants.{MOST_DARTS, MOST_LINES, MOST_WALK_DARTS, MOST_WALK_VERTICES}
 use Rattle.walk_files.specs.declared.pair.PairFault.{PairFault}
-use Rattle.commands.specs.Checks.{Passes, meant, pass_unless, ◌>>=◌}
-use Rattle.commands.specs.Inputs.{pair_in, walk_at}
-use Rattle.commands.specs.Refusals.{numbers_line, pair_line}
 use Rattle.commands.specs.declared.refusal.Input.TheVariants as inputs
 
 abbrev IsShort : List ℕ → Type 0

@@ -1,21 +1,5 @@
 -- A closed way across faces gives a cocycle.
-use Rattle.std.proofs.Common.{◌≡◌, ◌≢◌, inl, inr, ℕ, ◌+◌, ◌<◌, ◌≤◌, List, [], ◌∷◌, length, refl, ap, ap₂, sym, ◌∙◌, subst, arith, ℤ, pos, negsuc, ◌+ℤ◌, ◌-ℤ◌}
-use Rattle.std.specs.Prelude.{Option, neg_ℤ, unsigned_abs}
-use Rattle.std.proofs.lemmas.Int.{ints}
-use Rattle.std.proofs.lemmas.Bool.{cases_order}
-use Rattle.std.proofs.lemmas.Bool.Decides.{nat_tests}
-use Rattle.surf_model.specs.FaceLists.{face_at}
-use Rattle.surf_model.specs.Walks.{darts}
-use Rattle.surf_model.specs.declared.names.DartName.{DartName}
-use Rattle.halfedge_map.specs.OrientedMeshes.{OrientedMesh}
-use Rattle.halfedge_map.specs.DartMaps.{darts_of, face_of, edge_of, origin_of, twin_of}
-use Rattle.halfedge_map.proofs.SystemLemmas.{rotation_system}
-use Rattle.halfedge_map.proofs.EdgeLemmas.{edge_has_ends}
-use Rattle.homology.specs.Sums.{share, along, round}
-use Rattle.homology.specs.Chains.{count_difference}
-use Rattle.homology.specs.Cocycles.{IsCocycle, dart_number, separation}
-use Rattle.homology.specs.Tallies.{AreNumbersOf}
-use Rattle.homology.proofs.SizeLemmas.{size-sum, size-opposite}
+use Rattle.homology_deciding.proofs.Common.{edge_has_ends, rotation_system, darts_of, face_of, edge_of, origin_of, twin_of, OrientedMesh, size-sum, size-opposite, count_difference, IsCocycle, dart_number, separation, share, along, round, AreNumbersOf, ◌≡◌, ◌≢◌, inl, inr, ℕ, ◌+◌, ◌<◌, ◌≤◌, List, [], ◌∷◌, length, refl, ap, ap₂, sym, ◌∙◌, subst, arith, ℤ, pos, negsuc, ◌+ℤ◌, ◌-ℤ◌, cases_order, nat_tests, ints, Option, neg_ℤ, unsigned_abs, face_at, darts, DartName}
 use Rattle.homology.proofs.CocycleVerdictLemmas.{dart_is}
 use Rattle.homology_deciding.specs.FaceTrees.{face_across, IsTreeOfFaces, IsWayUp, dart_share, way_share}
 use Rattle.homology_deciding.specs.Heights.{dart_count, way_count}

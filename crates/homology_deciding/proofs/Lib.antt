@@ -1,3 +1,4 @@
+pub mod Common
 pub mod TreeLemmas
 pub mod WayLemmas
 pub mod BoundaryLemmas

@@ -1,29 +1,11 @@
 -- What the loops over ways and faces do, step by step.
-use Rattle.std.proofs.Common.{◌≡◌, ◌≢◌, ◌⊎◌, inl, inr, ℕ, ◌+◌, ◌*◌, ◌^◌, ◌<◌, ◌≤◌, true, List, [], ◌∷◌, ◌++◌, length, get_or, set, refl, ap, ap₂, sym, ◌∙◌, subst, arith, ℤ, pos, ◌+ℤ◌, to_z, of_z, w64, negsuc}
-use Rattle.std.specs.Prelude.{FitsSigned, Option, Some, None, is_some, unwrap_or, Result, Ok, Err, IfOk, neg_ℤ, unsigned_abs, All, sum_by}
+use Rattle.homology_deciding.proofs.Common.{edge_has_ends, names_all, darts_of, face_of, edge_of, origin_of, twin_of, OrientedMesh, IsOrientedSurface, rotations_of, size-sum, size-share, size-opposite, sent, share, number_at, turned, GrewBy, AreWithin, MOST_NUMBER, ◌≡◌, ◌≢◌, ◌⊎◌, inl, inr, ℕ, ◌+◌, ◌*◌, ◌^◌, ◌<◌, ◌≤◌, true, List, [], ◌∷◌, ◌++◌, length, get_or, set, refl, ap, ap₂, sym, ◌∙◌, subst, arith, ℤ, pos, ◌+ℤ◌, to_z, of_z, w64, negsuc, cases_lt, cases_eq, nat_tests, ints, fits_signed_from_abs, get_or-set_same, get_or-set_other, get_or_past, get_or_append_left, length-set, FitsSigned, Option, Some, None, is_some, unwrap_or, Result, Ok, Err, IfOk, neg_ℤ, unsigned_abs, All, sum_by, Edge, edge_in, HasEnds, HasFileSize, DartName, SplitView, IsStepUp, below_edge}
+use Rattle.homology.proofs.TallyLemmas.{grown, grown_size}
+use Rattle.std.proofs.Math.Nat.{mul-suc}
+use Rattle.std.proofs.Math.Seq.{get_or-append_seam}
 use Rattle.std.proofs.lemmas.List.Elements.{All-head, All-tail}
 use Rattle.std.proofs.lemmas.List.Sums.{sum_by-cons}
-use Rattle.std.proofs.lemmas.Int.{ints, fits_signed_from_abs}
-use Rattle.std.proofs.lemmas.Bool.{cases_lt, cases_eq}
-use Rattle.std.proofs.lemmas.Bool.Decides.{nat_tests}
-use Rattle.std.proofs.lemmas.List.{get_or-set_same, get_or-set_other, get_or_past, get_or_append_left, length-set}
-use Rattle.std.proofs.Math.Seq.{get_or-append_seam}
-use Rattle.std.proofs.Math.Nat.{mul-suc}
-use Rattle.surf_model.specs.FaceLists.{HasFileSize}
-use Rattle.surf_model.specs.Edges.{Edge, edge_in, HasEnds}
-use Rattle.surf_model.specs.declared.names.DartName.{DartName}
 use Rattle.surf_model.specs.declared.limits.TheConstants.{MOST_SIDES}
-use Rattle.halfedge_map.specs.OrientedMeshes.{OrientedMesh, IsOrientedSurface}
-use Rattle.halfedge_map.specs.DartMaps.{darts_of, face_of, edge_of, origin_of, twin_of}
-use Rattle.halfedge_map.specs.RotationSystems.{rotations_of}
-use Rattle.halfedge_map.proofs.SystemLemmas.{names_all}
-use Rattle.halfedge_map.proofs.EdgeLemmas.{edge_has_ends}
-use Rattle.tree_cotree.specs.Splits.{SplitView, IsStepUp, below_edge}
-use Rattle.homology.specs.Sums.{share}
-use Rattle.homology.specs.Tallies.{number_at, turned, GrewBy, AreWithin}
-use Rattle.homology.specs.declared.certificate.TheConstants.{MOST_NUMBER}
-use Rattle.homology.proofs.SizeLemmas.{size-sum, size-share, size-opposite, sent}
-use Rattle.homology.proofs.TallyLemmas.{grown, grown_size}
 use Rattle.homology_deciding.specs.FaceTrees.{up_of, face_across, AreUps, IsTree, IsWayUp, dart_share, way_share}
 use Rattle.homology_deciding.specs.Heights.{height_of, dart_count, way_count, listed, AreHeights, EndsAtHeight, AreForced}
 use Rattle.homology_deciding.specs.Cuts.{IsCutAt}

@@ -1,25 +1,5 @@
 -- What the forced numbers prove.
-use Rattle.std.proofs.Common.{◌≡◌, ◌≢◌, ◌↔◌, inl, inr, ℕ, ◌+◌, ◌<◌, ◌≤◌, true, false, List, length, refl, ap, ap₂, sym, ◌∙◌, subst, arith, ℤ, pos, ◌+ℤ◌, ◌-ℤ◌}
-use Rattle.std.specs.Prelude.{◌==◌, neg_ℤ, unsigned_abs}
-use Rattle.std.proofs.lemmas.Int.{ints}
-use Rattle.std.proofs.lemmas.Bool.{cases_lt, cases_Bool, both_ways, eqb-true, eq-eqb}
-use Rattle.std.proofs.lemmas.Bool.Decides.{nat_tests}
-use Rattle.std.proofs.lemmas.List.{get_or_past}
-use Rattle.surf_model.specs.Edges.{Edge, edge_in}
-use Rattle.surf_model.specs.Surfaces.{is_flipped}
-use Rattle.surf_model.specs.Walks.{IsWalk, darts}
-use Rattle.surf_model.specs.declared.names.DartName.{DartName}
-use Rattle.halfedge_map.specs.OrientedMeshes.{OrientedMesh}
-use Rattle.halfedge_map.specs.DartMaps.{darts_of, face_of, origin_of, twin_of}
-use Rattle.halfedge_map.specs.RotationSystems.{rotations_of, IsDartFrom}
-use Rattle.halfedge_map.proofs.EdgeLemmas.{IsAtEdge, leads_on, leads_back}
-use Rattle.halfedge_map.proofs.SystemLemmas.{rotation_system, names_all}
-use Rattle.homology.specs.Sums.{share, along}
-use Rattle.homology.specs.Chains.{AreHomologous, count_difference, boundary}
-use Rattle.homology.specs.Cocycles.{Separates}
-use Rattle.homology.specs.Tallies.{number_at, AreWithin, AreNumbersOf}
-use Rattle.homology.proofs.SizeLemmas.{size-sum, size-share, size-opposite}
-use Rattle.homology.proofs.ChainVerdictLemmas.{chain_holds}
+use Rattle.homology_deciding.proofs.Common.{IsAtEdge, leads_on, leads_back, rotation_system, names_all, darts_of, face_of, origin_of, twin_of, OrientedMesh, rotations_of, IsDartFrom, chain_holds, size-sum, size-share, size-opposite, AreHomologous, count_difference, boundary, Separates, share, along, number_at, AreWithin, AreNumbersOf, ◌≡◌, ◌≢◌, ◌↔◌, inl, inr, ℕ, ◌+◌, ◌<◌, ◌≤◌, true, false, List, length, refl, ap, ap₂, sym, ◌∙◌, subst, arith, ℤ, pos, ◌+ℤ◌, ◌-ℤ◌, cases_lt, cases_Bool, both_ways, eqb-true, eq-eqb, nat_tests, ints, get_or_past, ◌==◌, neg_ℤ, unsigned_abs, Edge, edge_in, is_flipped, IsWalk, darts, DartName}
 use Rattle.homology.proofs.PairingLemmas.{refuted}
 use Rattle.homology_deciding.specs.FaceTrees.{IsTree, IsWayUp, face_across, dart_share, way_share}
 use Rattle.homology_deciding.specs.Heights.{listed, way_count, AreForced}

@@ -1,16 +1,6 @@
 -- The cotree of a split is a tree over the faces.
-use Rattle.std.proofs.Common.{◌≡◌, ◌≢◌, ◌⊎◌, inl, inr, ℕ, zero, suc, ◌+◌, ◌<◌, ◌≤◌, true, List, [], ◌∷◌, length, get_or, refl, ap, sym, ◌∙◌, subst, arith}
-use Rattle.std.specs.Prelude.{Option, Some, None, is_some}
-use Rattle.std.proofs.lemmas.Bool.{cases_lt}
-use Rattle.surf_model.specs.FaceLists.{HasFileSize}
-use Rattle.surf_model.specs.Surfaces.{IsPath}
-use Rattle.surf_model.specs.declared.names.DartName.{DartName}
-use Rattle.halfedge_map.specs.OrientedMeshes.{OrientedMesh, IsOrientedSurface}
-use Rattle.halfedge_map.specs.DartMaps.{face_of, edge_of, twin_of}
-use Rattle.halfedge_map.specs.RotationSystems.{Rotations, rotations_of, IsRotationSystem}
+use Rattle.homology_deciding.proofs.Common.{rotation_system, names_all, face_of, edge_of, twin_of, OrientedMesh, IsOrientedSurface, Rotations, rotations_of, IsRotationSystem, ◌≡◌, ◌≢◌, ◌⊎◌, inl, inr, ℕ, zero, suc, ◌+◌, ◌<◌, ◌≤◌, true, List, [], ◌∷◌, length, get_or, refl, ap, sym, ◌∙◌, subst, arith, cases_lt, Option, Some, None, is_some, HasFileSize, IsPath, DartName, SplitView, IsSplit, IsStepUp, StepsUp}
 use Rattle.halfedge_map.proofs.OrbitLemmas.{AreAlike, two_alike}
-use Rattle.halfedge_map.proofs.SystemLemmas.{rotation_system, names_all}
-use Rattle.tree_cotree.specs.Splits.{SplitView, IsSplit, IsStepUp, StepsUp}
 use Rattle.homology_deciding.specs.FaceTrees.{up_of, face_across, HasDartIn, IsTreeOfFaces, AreUps}
 
 -- of two darts of an edge, of which one lies in a face, the other one does if the first does not

@@ -1,16 +1,5 @@
 -- Ways up in a tree over the faces.
-use Rattle.std.proofs.Common.{◌≡◌, ◌⊎◌, inl, inr, ℕ, ◌+◌, ◌<◌, ◌≤◌, List, [], ◌∷◌, ◌++◌, length, refl, ap, sym, ◌∙◌, subst, arith, ℤ, pos, ◌+ℤ◌}
-use Rattle.std.specs.Prelude.{Option, Some, None, unsigned_abs, nat_eq, ◌&&◌}
-use Rattle.std.proofs.lemmas.Int.{ints}
-use Rattle.std.proofs.lemmas.Bool.{cases_Bool}
-use Rattle.std.proofs.lemmas.Bool.Decides.{nat_tests}
-use Rattle.surf_model.specs.declared.names.DartName.{DartName}
-use Rattle.halfedge_map.specs.OrientedMeshes.{OrientedMesh}
-use Rattle.halfedge_map.specs.DartMaps.{darts_of, face_of, origin_of, twin_of}
-use Rattle.halfedge_map.specs.RotationSystems.{rotations_of, IsRotationSystem}
-use Rattle.halfedge_map.proofs.SystemLemmas.{rotation_system}
-use Rattle.homology.specs.Sums.{share}
-use Rattle.homology.proofs.SizeLemmas.{size-share}
+use Rattle.homology_deciding.proofs.Common.{rotation_system, darts_of, face_of, origin_of, twin_of, OrientedMesh, rotations_of, IsRotationSystem, size-share, share, ◌≡◌, ◌⊎◌, inl, inr, ℕ, ◌+◌, ◌<◌, ◌≤◌, List, [], ◌∷◌, ◌++◌, length, refl, ap, sym, ◌∙◌, subst, arith, ℤ, pos, ◌+ℤ◌, cases_Bool, nat_tests, ints, Option, Some, None, unsigned_abs, nat_eq, ◌&&◌, DartName}
 use Rattle.homology_deciding.specs.FaceTrees.{up_of, face_across, IsTreeOfFaces, IsWayUp, dart_share, way_share}
 
 module _ (s : OrientedMesh) (root : ℕ) (ups : List (Option DartName)) (h : IsTreeOfFaces s root ups) where

@@ -1,8 +1,5 @@
 -- The answer that a line is.
-use Rattle.std.proofs.Common.{◌≡◌, ℕ, Bool, true, false, List, refl, sym, ap, ◌∙◌}
-use Rattle.std.specs.Prelude.{Option, Some, None, if◌then◌else◌, codes}
-use Rattle.text_scan.specs.Lines.{words}
-use Rattle.text_scan.specs.Unread.{Unread, are_words, words_here}
+use Rattle.homology_files.proofs.Common.{◌≡◌, ℕ, Bool, true, false, List, refl, sym, ap, ◌∙◌, Option, Some, None, if◌then◌else◌, codes, words, Unread, are_words, words_here}
 use Rattle.homology_files.specs.declared.head.Kind.{Kind}
 use Rattle.homology_files.specs.declared.head.Kind.TheVariants.{OfFaces, OfEdges}
 use Rattle.homology_files.specs.HomologyTexts.{answer_words, answer_of}

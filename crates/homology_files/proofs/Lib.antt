@@ -1,3 +1,4 @@
+pub mod Common
 pub mod RisingLemmas
 pub mod ReadingLemmas
 pub mod AnswerLemmas

@@ -1,8 +1,5 @@
 -- The lines of a certificate, one by one.
-use Rattle.std.proofs.Common.{◌≡◌, ℕ, ◌-◌, ◌<◌, eqb, Bool, true, false, List, [], ◌∷◌, ◌++◌, refl, arith}
-use Rattle.std.specs.Prelude.{Option, Some}
-use Rattle.std.proofs.lemmas.Bool.{ne_eqb}
-use Rattle.text_scan.specs.Lines.{Line}
+use Rattle.homology_files.proofs.Common.{◌≡◌, ℕ, ◌-◌, ◌<◌, eqb, Bool, true, false, List, [], ◌∷◌, ◌++◌, refl, arith, ne_eqb, Option, Some, Line}
 use Rattle.homology_files.specs.HomologyTexts.{numbers_in}
 
 module _ {X : Type 0} (read : List (List ℕ) → Option X) (is_above : List X → X → Bool) where

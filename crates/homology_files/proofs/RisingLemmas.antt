@@ -1,17 +1,8 @@
 -- Lines whose keys rise: what is above the last one is above all.
-use Rattle.std.proofs.Common.{◌≡◌, inl, inr, ℕ, ◌-◌, ◌<◌, Bool, true, List, length, get_or, sym, ap, ◌∙◌, subst, arith}
-use Rattle.std.specs.Prelude.{Some, slice_get, nat_lt}
-use Rattle.std.specs.List.{list_all}
-use Rattle.std.proofs.lemmas.Bool.{cases_Bool, cases_lt, lt-ltb, ltb-true}
+use Rattle.homology_files.proofs.Common.{AreFaceNumbers, AreEdgeNumbers, EdgeNumber, FaceNumber, ◌≡◌, inl, inr, ℕ, ◌-◌, ◌<◌, Bool, true, List, length, get_or, sym, ap, ◌∙◌, subst, arith, cases_Bool, cases_lt, lt-ltb, ltb-true, list_all_at, list_all-from_AllPass, get_or_from_slice_get, slice_get_within, list_all, Some, slice_get, nat_lt}
 use Rattle.std.proofs.lemmas.Bool.Decides.{nat_tests}
-use Rattle.std.proofs.lemmas.List.Folds.{list_all_at}
-use Rattle.std.proofs.lemmas.List.Sums.{list_all-from_AllPass}
-use Rattle.std.proofs.lemmas.Option.{get_or_from_slice_get, slice_get_within}
-use Rattle.surf_model.specs.Edges.{IsPairBefore}
 use Rattle.surf_model.proofs.SearchLemmas.{pair_trans}
-use Rattle.homology.specs.Certificates.{AreFaceNumbers, AreEdgeNumbers}
-use Rattle.homology.specs.declared.certificate.FaceNumber.{FaceNumber}
-use Rattle.homology.specs.declared.certificate.EdgeNumber.{EdgeNumber}
+use Rattle.surf_model.specs.Edges.{IsPairBefore}
 use Rattle.homology_files.specs.HomologyTexts.{is_face_above, is_edge_before, is_edge_above}
 
 -- a test that each line passes if the last one does

@@ -1,23 +1,13 @@
 -- A certificate that was written is read again.
-use Rattle.std.proofs.Common.{◌≡◌, ℕ, ℤ, ◌+◌, ◌-◌, ◌^◌, ◌<◌, ◌≤◌, Bool, true, List, [], ◌∷◌, ◌++◌, length, map, refl, ap, sym, ◌∙◌, subst, arith, pos, negsuc, append_assoc, length-append}
-use Rattle.std.specs.Prelude.{Option, Some, Result, Ok, decimal, codes, All, AllPairs, nat_lt, unsigned_abs, get_or}
-use Rattle.std.specs.Fmt.{signed_decimal}
-use Rattle.std.specs.List.{list_all}
-use Rattle.std.proofs.lemmas.Bool.{le-leb, lt-ltb}
-use Rattle.std.proofs.lemmas.List.{append-nil}
-use Rattle.std.proofs.lemmas.List.Elements.{All-head, All-tail, All-cons, All-map}
-use Rattle.std.proofs.lemmas.List.Sums.{list_all-from_AllPass}
-use Rattle.std.proofs.lemmas.Grind.{common_steps}
-use Rattle.text_scan.specs.Lines.{Line, unmarked, lines_from, full_lines, end_line}
-use Rattle.text_scan.specs.Numbers.{fits_i64}
-use Rattle.text_scan.specs.Plain.{line_of}
-use Rattle.text_scan.proofs.WrittenLemmas.{IsWritable, IsLine, numbered, lines_from-written, all_writable, number-read, number-writable, integer-writable, integer-read}
-use Rattle.homology.specs.Certificates.{AreFaceNumbers, AreEdgeNumbers}
-use Rattle.homology.specs.declared.certificate.FaceNumber.{FaceNumber}
-use Rattle.homology.specs.declared.certificate.EdgeNumber.{EdgeNumber}
+use Rattle.homology_files.proofs.Common.{AreFaceNumbers, AreEdgeNumbers, EdgeNumber, FaceNumber, ◌≡◌, ℕ, ℤ, ◌+◌, ◌-◌, ◌^◌, ◌<◌, ◌≤◌, Bool, true, List, [], ◌∷◌, ◌++◌, length, map, refl, ap, sym, ◌∙◌, subst, arith, pos, negsuc, append_assoc, length-append, le-leb, lt-ltb, append-nil, All-head, All-tail, All-cons, All-map, list_all-from_AllPass, list_all, Option, Some, Result, Ok, decimal, codes, All, AllPairs, nat_lt, unsigned_abs, Line, unmarked, lines_from, full_lines, end_line, line_of}
 use Rattle.homology.specs.declared.certificate.HomologyCert.{HomologyCert}
 use Rattle.homology.specs.declared.certificate.HomologyCert.TheVariants.{Chain, Cocycle}
 use Rattle.homology.specs.declared.certificate.TheConstants.{MOST_NUMBER}
+use Rattle.std.proofs.lemmas.Grind.{common_steps}
+use Rattle.std.specs.Fmt.{signed_decimal}
+use Rattle.std.specs.Prelude.{get_or}
+use Rattle.text_scan.proofs.WrittenLemmas.{IsWritable, IsLine, numbered, lines_from-written, all_writable, number-read, number-writable, integer-writable, integer-read}
+use Rattle.text_scan.specs.Numbers.{fits_i64}
 use Rattle.homology_files.specs.declared.fault.HomologyFault.{HomologyFault}
 use Rattle.homology_files.specs.declared.head.Kind.{Kind}
 use Rattle.homology_files.specs.declared.head.Kind.TheVariants.{OfFaces, OfEdges}

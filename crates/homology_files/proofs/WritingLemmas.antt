@@ -1,14 +1,6 @@
 -- The lines of a certificate, written one by one.
-use Rattle.std.proofs.Common.{◌≡◌, ℕ, List, [], ◌∷◌, ◌++◌, ◌+◌, length, take, sym, ap, subst, ◌∙◌, map}
-use Rattle.std.specs.Prelude.{flat_map, All, Option, Some, Result, decimal, slice_get}
-use Rattle.std.proofs.lemmas.List.Elements.{All-more}
-use Rattle.std.proofs.lemmas.List.Folds.{flat_map-map}
-use Rattle.std.proofs.lemmas.Option.{slice_get_within, get_or_from_slice_get}
+use Rattle.homology_files.proofs.Common.{EdgeNumber, FaceNumber, ◌≡◌, ℕ, List, [], ◌∷◌, ◌++◌, ◌+◌, length, take, sym, ap, subst, ◌∙◌, map, All-more, flat_map-map, slice_get_within, get_or_from_slice_get, flat_map, All, Option, Some, Result, decimal, slice_get, only-none, gathers-none, gathers-put, puts-then, puts-same, line_of}
 use Rattle.surf_io.specs.Gathered.{Puts}
-use Rattle.surf_io.proofs.Gathering.{only-none, gathers-none, gathers-put, puts-then, puts-same}
-use Rattle.text_scan.specs.Plain.{line_of}
-use Rattle.homology.specs.declared.certificate.FaceNumber.{FaceNumber}
-use Rattle.homology.specs.declared.certificate.EdgeNumber.{EdgeNumber}
 use Rattle.homology_files.specs.WrittenTexts.{face_words, edge_words}
 
 abbrev pub face_line : FaceNumber → List ℕ

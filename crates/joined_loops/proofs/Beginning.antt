@@ -1,20 +1,7 @@
 -- A cyclically canonical list that is gone along from the start has its cyclic turns for its word, behind a start direction, and
 -- spokes that are put behind it leave as many of them as one likes.
-use Rattle.std.proofs.Common.{◌≡◌, ℕ, ◌+◌, ◌-◌, ◌<◌, ◌≤◌, arith, refl, sym, ◌∙◌, ap, subst, zero, suc, List, [], ◌∷◌, length, reverse}
-use Rattle.std.proofs.lemmas.List.{length-reverse}
-use Rattle.turn_words.specs.Modulo.{add}
-use Rattle.turn_words.specs.PutTurns.{put}
-use Rattle.turn_words.specs.FormLaws.{led}
-use Rattle.turn_words.specs.HyperStates.{empty_state, hyper_next, BelongsTo}
-use Rattle.turn_words.specs.Lemmas.Sums.{add-lt, add-zero}
-use Rattle.turn_words.specs.Lemmas.WordEnds.{IsGood, good-cons}
-use Rattle.turn_words.specs.Lemmas.PutLaws.{put-back}
-use Rattle.turn_words.specs.Lemmas.HyperLaws.{hyper_starts}
-use Rattle.turn_words.proofs.Reading.{state}
-use Rattle.settling.specs.TurnRows.{IsCanonicalRow}
-use Rattle.settling.proofs.Rows.{along, upto, upto-cons}
-use Rattle.settling.proofs.Settling.{upto-shut, row-follows}
-use Rattle.spoke_rings.specs.CyclicWords.{IsLoop, IsFullWheel, cyclic_turn}
+use Rattle.joined_loops.proofs.Common.{along, upto, upto-cons, upto-shut, row-follows, IsCanonicalRow, IsLoop, IsFullWheel, cyclic_turn, ◌≡◌, ℕ, ◌+◌, ◌-◌, ◌<◌, ◌≤◌, arith, refl, sym, ◌∙◌, ap, subst, zero, suc, List, [], ◌∷◌, length, reverse, length-reverse, state, led, empty_state, hyper_next, BelongsTo, hyper_starts, put-back, add-lt, add-zero, good-cons, add, put}
+use Rattle.turn_words.specs.Lemmas.WordEnds.{IsGood}
 use Rattle.joined_loops.proofs.Times.{times, times-some, times-add}
 use Rattle.joined_loops.proofs.Keeping.{EndsIn, ends-later, begins, begins-ends, Anchors, anchors, led-rounds}
 use Rattle.joined_loops.proofs.Going.{gone, began, began-sound, rowed}

@@ -1,19 +1,6 @@
 -- The quad path of a closed walk, and what a change of its start makes of it.
-use Rattle.std.proofs.Common.{◌≡◌, ℕ, ◌+◌, ◌-◌, ◌%◌, arith, refl, sym, ◌∙◌, ap, ap₂, List, [], ◌∷◌, ◌++◌, length, get_or, append_assoc}
-use Rattle.std.specs.Prelude.{Some}
-use Rattle.std.proofs.Math.Seq.{get_or-append_seam}
-use Rattle.std.proofs.lemmas.List.{append-nil, length-append}
-use Rattle.surf_model.specs.FaceLists.{FaceList}
-use Rattle.flat_forms.specs.Pairs.{spokes_of}
-use Rattle.labellings.specs.Labellings.{LabellingView}
-use Rattle.labellings.specs.GoodLabellings.{IsGood}
-use Rattle.labellings.specs.QuadPaths.{spokes, quad_path}
-use Rattle.labellings.specs.WalkWords.{in_pairs}
-use Rattle.labellings.proofs.WalkWordLemmas.{quad_path_below, quad_path_in_pairs}
-use Rattle.labellings.proofs.FoldLemmas.{quad_path-append}
-use Rattle.spoke_rings.specs.CyclicWords.{IsLoop}
+use Rattle.joined_loops.proofs.Common.{IsClosedWalk, from_next, spokes_of, quad_path-append, quad_path_below, quad_path_in_pairs, IsGood, LabellingView, spokes, quad_path, in_pairs, IsLoop, ◌≡◌, ℕ, ◌+◌, ◌-◌, ◌%◌, arith, refl, sym, ◌∙◌, ap, ap₂, List, [], ◌∷◌, ◌++◌, length, get_or, append_assoc, get_or-append_seam, append-nil, length-append, Some, FaceList}
 use Rattle.spoke_rings.proofs.Pushing.{last-apart}
-use Rattle.closed_walks.specs.FreeHomotopy.{IsClosedWalk, from_next}
 
 pairs-even : (pairs : List (ℕ × ℕ)) → length (spokes_of pairs) % 2 ≡ 0
 pairs-even [] = refl

@@ -1,25 +1,11 @@
 -- Freely homotopic closed walks have one sum over the degree 4.
-use Rattle.std.proofs.Common.{◌≡◌, ℕ, arith, sym, ◌∙◌, ap, ap₂, List, [], ◌∷◌, ◌++◌}
-use Rattle.std.specs.Prelude.{Some, option_and_then, ℤ}
-use Rattle.std.proofs.lemmas.Int.{ints}
-use Rattle.surf_model.specs.FaceLists.{FaceList, IsFaceList}
-use Rattle.surf_model.specs.Moves.{apply_all}
-use Rattle.surf_model.proofs.ContextLemmas.{first_answer}
-use Rattle.turn_words.specs.declared.word.Word.{Word}
-use Rattle.turn_words.specs.declared.word.Word.TheVariants.{Turns, Flat}
-use Rattle.flat_forms.specs.Vectors.{Vector, origin, plus, less, unit_step}
-use Rattle.flat_forms.specs.Pairs.{spokes_of, sum_of_pairs}
+use Rattle.joined_loops.proofs.Common.{step_keeps, IsClosedWalk, FreeStep, Moved, Rotated, after_free, after_all_free, FreelyHomotopic, spokes_of, sum_of_pairs, PutLaws, moves_keep, quad_path_in_pairs, quad_path_leads_to_sum, flat_wheel_of_good, IsGood, LabellingView, quad_path, in_pairs, IsWordOf, ◌≡◌, ℕ, arith, sym, ◌∙◌, ap, ap₂, List, [], ◌∷◌, ◌++◌, Some, option_and_then, ℤ, first_answer, FaceList, IsFaceList, apply_all}
 use Rattle.flat_forms.specs.FlatStates.{IsFlatWheel, IsEven, flat_next}
 use Rattle.flat_forms.specs.Lemmas.FlatLaws.{flat_starts, flat_stays, flat_there_and_back, flat_across}
-use Rattle.labellings.specs.Labellings.{LabellingView}
-use Rattle.labellings.specs.GoodLabellings.{IsGood}
-use Rattle.labellings.specs.QuadPaths.{quad_path}
-use Rattle.labellings.specs.WalkWords.{in_pairs, IsWordOf}
-use Rattle.labellings.proofs.FoldLemmas.{PutLaws}
-use Rattle.labellings.proofs.KeepingLemmas.{moves_keep}
-use Rattle.labellings.proofs.WalkWordLemmas.{quad_path_in_pairs, quad_path_leads_to_sum, flat_wheel_of_good}
-use Rattle.closed_walks.specs.FreeHomotopy.{IsClosedWalk, FreeStep, Moved, Rotated, after_free, after_all_free, FreelyHomotopic}
-use Rattle.closed_walks.proofs.FreeStepLemmas.{step_keeps}
+use Rattle.flat_forms.specs.Vectors.{Vector, origin, plus, less, unit_step}
+use Rattle.std.proofs.lemmas.Int.{ints}
+use Rattle.turn_words.specs.declared.word.Word.{Word}
+use Rattle.turn_words.specs.declared.word.Word.TheVariants.{Turns, Flat}
 use Rattle.joined_loops.proofs.ClosedPaths.{goes-last}
 
 abbrev vector : ℤ → ℤ → Vector

@@ -1,22 +1,5 @@
 -- Freely homotopic closed walks have joined quad paths, so on a full wheel they have one cyclic form.
-use Rattle.std.proofs.Common.{◌≡◌, ℕ, sym, ◌∙◌, ap, subst, List, [], ◌∷◌, ◌++◌, append_assoc}
-use Rattle.std.specs.Prelude.{Some, option_and_then}
-use Rattle.surf_model.specs.FaceLists.{FaceList, IsFaceList}
-use Rattle.surf_model.specs.Moves.{apply_all}
-use Rattle.surf_model.proofs.ContextLemmas.{first_answer}
-use Rattle.turn_words.specs.FormLaws.{led}
-use Rattle.turn_words.specs.HyperStates.{IsEven, hyper_next, BelongsTo}
-use Rattle.turn_words.specs.Lemmas.HyperLaws.{hyper_stays, hyper_there_and_back, hyper_across}
-use Rattle.labellings.specs.Labellings.{LabellingView}
-use Rattle.labellings.specs.GoodLabellings.{IsGood}
-use Rattle.labellings.specs.QuadPaths.{quad_path}
-use Rattle.labellings.proofs.FoldLemmas.{PutLaws}
-use Rattle.labellings.proofs.KeepingLemmas.{moves_keep}
-use Rattle.spoke_rings.specs.CyclicWords.{IsFullWheel, IsCyclicallyCanonical}
-use Rattle.spoke_rings.specs.LoopSteps.{LoopLeads}
-use Rattle.spoke_rings.specs.Rotations.{IsRotation}
-use Rattle.closed_walks.specs.FreeHomotopy.{IsClosedWalk, FreeStep, Moved, Rotated, after_free, after_all_free, FreelyHomotopic}
-use Rattle.closed_walks.proofs.FreeStepLemmas.{step_keeps}
+use Rattle.joined_loops.proofs.Common.{step_keeps, IsClosedWalk, FreeStep, Moved, Rotated, after_free, after_all_free, FreelyHomotopic, PutLaws, moves_keep, IsGood, LabellingView, quad_path, IsFullWheel, IsCyclicallyCanonical, LoopLeads, IsRotation, ◌≡◌, ℕ, sym, ◌∙◌, ap, subst, List, [], ◌∷◌, ◌++◌, append_assoc, Some, option_and_then, first_answer, FaceList, IsFaceList, apply_all, led, IsEven, hyper_next, BelongsTo, hyper_stays, hyper_there_and_back, hyper_across}
 use Rattle.joined_loops.specs.JoinedLists.{Joined}
 use Rattle.joined_loops.proofs.Joining.{same-joined, joined-itself, joined-back, joined-on}
 use Rattle.joined_loops.proofs.Stepping.{leads-loop, leads-joined}

@@ -1,24 +1,5 @@
 -- A closed list that is gone along again and again: the states on the way, and the row of its cyclic turns that they put along a word.
-use Rattle.std.proofs.Common.{◌≡◌, ℕ, ◌+◌, ◌-◌, ◌%◌, ◌<◌, ◌≤◌, inl, inr, arith, refl, sym, ◌∙◌, ap, ap₂, subst, zero, suc, true, not, List, [], ◌∷◌, length, reverse, get_or}
-use Rattle.std.proofs.lemmas.Bool.{cases_eq}
-use Rattle.std.proofs.lemmas.List.{reverse-reverse}
-use Rattle.turn_words.specs.Modulo.{add, minus}
-use Rattle.turn_words.specs.PutTurns.{Put, put}
-use Rattle.turn_words.specs.FormLaws.{led}
-use Rattle.turn_words.specs.HyperStates.{HyperState, IsEven, turn_to, hyper_next, BelongsTo}
-use Rattle.turn_words.specs.Lemmas.Sums.{add-lt, minus-lt}
-use Rattle.turn_words.specs.Lemmas.Lists.{InRange}
-use Rattle.turn_words.specs.Lemmas.FromEnd.{in-range-from}
-use Rattle.turn_words.specs.Lemmas.HyperLaws.{good_word, next_belongs, length-next}
-use Rattle.turn_words.proofs.Reading.{IsSound, state}
-use Rattle.turn_words.proofs.Spokes.{Stands, Counts, counts-next, counts-turn}
-use Rattle.turn_words.proofs.Led.{led-append}
-use Rattle.settling.specs.TurnRows.{entries}
-use Rattle.settling.proofs.Rows.{along}
-use Rattle.spoke_rings.specs.CyclicWords.{IsLoop, IsFullWheel, spoke_along, stands_before, cyclic_turn}
-use Rattle.spoke_rings.proofs.Along.{along-first, along-round}
-use Rattle.spoke_rings.proofs.Fine.{along-below}
-use Rattle.spoke_rings.proofs.RingTurns.{stands-even, stands-odd}
+use Rattle.joined_loops.proofs.Common.{along, entries, along-first, along-round, along-below, stands-even, stands-odd, IsLoop, IsFullWheel, spoke_along, stands_before, cyclic_turn, ◌≡◌, ℕ, ◌+◌, ◌-◌, ◌%◌, ◌<◌, ◌≤◌, inl, inr, arith, refl, sym, ◌∙◌, ap, ap₂, subst, zero, suc, true, not, List, [], ◌∷◌, length, reverse, get_or, cases_eq, reverse-reverse, led-append, IsSound, state, Stands, Counts, counts-next, counts-turn, led, HyperState, IsEven, turn_to, hyper_next, BelongsTo, in-range-from, good_word, next_belongs, length-next, InRange, add-lt, minus-lt, add, minus, Put, put}
 use Rattle.joined_loops.specs.JoinedLists.{JoinedBy}
 use Rattle.joined_loops.proofs.Numbers.{take-back}
 use Rattle.joined_loops.proofs.Times.{times, times-even, later-rounds}

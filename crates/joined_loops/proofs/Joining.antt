@@ -1,14 +1,5 @@
 -- To be joined is an equivalence of closed lists, and lists that are joined stay so where each is gone along again.
-use Rattle.std.proofs.Common.{◌≡◌, ℕ, ◌%◌, ◌<◌, arith, refl, sym, ◌∙◌, ap, subst, zero, suc, List, [], ◌∷◌, ◌++◌, length, reverse, append_assoc}
-use Rattle.std.proofs.lemmas.List.{reverse-reverse, length-reverse, length-append, append-nil}
-use Rattle.std.proofs.lemmas.List.Elements.{All-append, All-nil}
-use Rattle.turn_words.specs.FormLaws.{led}
-use Rattle.turn_words.specs.HyperStates.{HyperState, IsEven, hyper_next, BelongsTo}
-use Rattle.turn_words.specs.Lemmas.Lists.{InRange, reverse-cons}
-use Rattle.turn_words.specs.Lemmas.FromEnd.{all-from, in-range-reverse}
-use Rattle.turn_words.specs.Lemmas.HyperLaws.{next_belongs, hyper_there_and_back}
-use Rattle.turn_words.proofs.Led.{led-append}
-use Rattle.spoke_rings.specs.CyclicWords.{IsLoop}
+use Rattle.joined_loops.proofs.Common.{IsLoop, ◌≡◌, ℕ, ◌%◌, ◌<◌, arith, refl, sym, ◌∙◌, ap, subst, zero, suc, List, [], ◌∷◌, ◌++◌, length, reverse, append_assoc, reverse-reverse, length-reverse, length-append, append-nil, All-append, All-nil, led-append, led, HyperState, IsEven, hyper_next, BelongsTo, all-from, in-range-reverse, next_belongs, hyper_there_and_back, InRange, reverse-cons}
 use Rattle.joined_loops.specs.JoinedLists.{JoinedBy, Joined, repeated}
 use Rattle.joined_loops.proofs.Going.{loop-range, led-belongs, led-even}
 

@@ -1,17 +1,6 @@
 -- A put does not reach behind a turn that is neither 2 nor -2, nor behind a 2 that no bracket is open at. Such a turn comes in each
 -- round of a canonical row, so a put takes away one round of a word at most. Words are read from their end.
-use Rattle.std.proofs.Common.{◌≡◌, ◌≢◌, ℕ, ◌+◌, ◌-◌, ◌<◌, ◌≤◌, ◌⊎◌, inl, inr, arith, refl, sym, ◌∙◌, ap, subst, zero, suc, true, false, List, [], ◌∷◌, ◌++◌, length, reverse, append_assoc}
-use Rattle.std.proofs.lemmas.Bool.{cases_eq}
-use Rattle.std.proofs.lemmas.List.{reverse-reverse}
-use Rattle.turn_words.specs.Modulo.{add, minus}
-use Rattle.turn_words.specs.PutTurns.{is_open, flipped, closed, put}
-use Rattle.turn_words.specs.FormLaws.{led}
-use Rattle.turn_words.specs.HyperStates.{HyperState, turn_to, hyper_next}
-use Rattle.turn_words.specs.Lemmas.Sums.{minus-two}
-use Rattle.turn_words.specs.Lemmas.WordEnds.{IsCons, flipped-run, flipped-end, closed-two, open-cases, open-two, open-other, put-flip, put-close, put-else}
-use Rattle.turn_words.specs.Lemmas.PutLaws.{cases, spur, flip, close, other}
-use Rattle.settling.specs.TurnRows.{IsCanonicalRow}
-use Rattle.settling.proofs.Rows.{upto, upto-cons}
+use Rattle.joined_loops.proofs.Common.{upto, upto-cons, IsCanonicalRow, ◌≡◌, ◌≢◌, ℕ, ◌+◌, ◌-◌, ◌<◌, ◌≤◌, ◌⊎◌, inl, inr, arith, refl, sym, ◌∙◌, ap, subst, zero, suc, true, false, List, [], ◌∷◌, ◌++◌, length, reverse, append_assoc, cases_eq, reverse-reverse, led, HyperState, turn_to, hyper_next, cases, spur, flip, close, other, minus-two, IsCons, flipped-run, flipped-end, closed-two, open-cases, open-two, open-other, put-flip, put-close, put-else, add, minus, is_open, flipped, closed, put}
 use Rattle.joined_loops.proofs.Times.{times, later-rounds, everywhere, find}
 
 -- the word begins with an earlier one

@@ -1,22 +1,6 @@
 -- On a full wheel the number of a state that was reached from the start belongs to its word: it tells where the last spoke comes that the
 -- word spells.
-use Rattle.std.proofs.Common.{◌≡◌, ℕ, ◌%◌, ◌<◌, ◌≤◌, arith, refl, sym, ◌∙◌, ap, ap₂, subst, Bool, true, false, not, List, [], ◌∷◌, All, length, reverse, get_or}
-use Rattle.std.proofs.lemmas.Bool.{eq-eqb, ne_eqb}
-use Rattle.std.proofs.lemmas.List.{reverse-reverse}
-use Rattle.turn_words.specs.Modulo.{add, minus}
-use Rattle.turn_words.specs.PutTurns.{put}
-use Rattle.turn_words.specs.SpokePaths.{place_round}
-use Rattle.turn_words.specs.FormLaws.{led}
-use Rattle.turn_words.specs.HyperStates.{HyperState, empty_state, value_at, turn_to, hyper_next, BelongsTo}
-use Rattle.turn_words.specs.Lemmas.Sums.{add-cases, minus-cases, minus-one, add-lt, minus-lt, add-minus}
-use Rattle.turn_words.specs.Lemmas.Lists.{InRange}
-use Rattle.turn_words.specs.Lemmas.FromEnd.{in-range-from}
-use Rattle.turn_words.specs.Lemmas.WordEnds.{put-flip, put-close, put-else}
-use Rattle.turn_words.specs.Lemmas.PutLaws.{cases, spur, flip, close, other}
-use Rattle.turn_words.specs.Lemmas.HyperLaws.{hyper_starts}
-use Rattle.turn_words.proofs.Spokes.{Stands, counts-next}
-use Rattle.spoke_rings.specs.CyclicWords.{IsFullWheel}
-use Rattle.spoke_rings.proofs.RingTurns.{turn_at, place-below}
+use Rattle.joined_loops.proofs.Common.{turn_at, place-below, IsFullWheel, ◌≡◌, ℕ, ◌%◌, ◌<◌, ◌≤◌, arith, refl, sym, ◌∙◌, ap, ap₂, subst, Bool, true, false, not, List, [], ◌∷◌, All, length, reverse, get_or, eq-eqb, ne_eqb, reverse-reverse, Stands, counts-next, led, HyperState, empty_state, value_at, turn_to, hyper_next, BelongsTo, in-range-from, hyper_starts, InRange, cases, spur, flip, close, other, add-cases, minus-cases, minus-one, add-lt, minus-lt, add-minus, put-flip, put-close, put-else, add, minus, put, place_round}
 use Rattle.joined_loops.proofs.Spelling.{Spells, Spelled, by-round, no-turn, last-in, spell-cons, flips, closes}
 
 -- where the last spoke of a list comes, or 0 where there is none

@@ -1,23 +1,6 @@
 -- On a full wheel joined lists that are cyclically canonical are rotations of one another.
-use Rattle.std.proofs.Common.{◌≡◌, ℕ, ◌+◌, ◌-◌, ◌%◌, ◌<◌, ◌≤◌, inl, inr, arith, refl, sym, ◌∙◌, ap, ap₂, subst, zero, suc, true, not, List, [], ◌∷◌, ◌++◌, take, drop, length, reverse, get_or}
-use Rattle.std.specs.Prelude.{◌==◌, if◌then◌else◌}
-use Rattle.std.proofs.Math.Seq.{drop-append_seam, take-append_seam}
+use Rattle.joined_loops.proofs.Common.{along, upto, IsCanonicalRow, along-first, along-round, rotated, rotated-length, rotated-along, along-below, turn_at, place-below, stands-even, IsLoop, IsFullWheel, IsCyclicallyCanonical, spoke_along, stands_before, cyclic_turn, IsRotation, ◌≡◌, ℕ, ◌+◌, ◌-◌, ◌%◌, ◌<◌, ◌≤◌, inl, inr, arith, refl, sym, ◌∙◌, ap, ap₂, subst, zero, suc, true, not, List, [], ◌∷◌, ◌++◌, take, drop, length, reverse, get_or, drop-append_seam, take-append_seam, cases_lt, cases_eq, reverse-reverse, length-reverse, length-append, length-drop, take-append-drop, nil_from_length, ◌==◌, if◌then◌else◌, state, led, HyperState, IsEven, empty_state, hyper_next, BelongsTo, hyper_starts, add, minus, place_round}
 use Rattle.std.proofs.lemmas.Grind.{same_number_lists}
-use Rattle.std.proofs.lemmas.Bool.{cases_lt, cases_eq}
-use Rattle.std.proofs.lemmas.List.{reverse-reverse, length-reverse, length-append, length-drop, take-append-drop, nil_from_length}
-use Rattle.turn_words.specs.Modulo.{add, minus}
-use Rattle.turn_words.specs.SpokePaths.{place_round}
-use Rattle.turn_words.specs.FormLaws.{led}
-use Rattle.turn_words.specs.HyperStates.{HyperState, IsEven, empty_state, hyper_next, BelongsTo}
-use Rattle.turn_words.specs.Lemmas.HyperLaws.{hyper_starts}
-use Rattle.turn_words.proofs.Reading.{state}
-use Rattle.settling.specs.TurnRows.{IsCanonicalRow}
-use Rattle.settling.proofs.Rows.{along, upto}
-use Rattle.spoke_rings.specs.CyclicWords.{IsLoop, IsFullWheel, IsCyclicallyCanonical, spoke_along, stands_before, cyclic_turn}
-use Rattle.spoke_rings.specs.Rotations.{IsRotation}
-use Rattle.spoke_rings.proofs.Along.{along-first, along-round, rotated, rotated-length, rotated-along}
-use Rattle.spoke_rings.proofs.Fine.{along-below}
-use Rattle.spoke_rings.proofs.RingTurns.{turn_at, place-below, stands-even}
 use Rattle.joined_loops.specs.JoinedLists.{JoinedBy, Joined}
 use Rattle.joined_loops.proofs.Times.{times, times-some, times-add, times-even, later-rounds}
 use Rattle.joined_loops.proofs.Spelling.{by-round}

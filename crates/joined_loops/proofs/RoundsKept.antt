@@ -1,17 +1,6 @@
 -- What is kept of a word where turns or spokes are put behind it, said of words that are written from their start.
-use Rattle.std.proofs.Common.{◌≡◌, ◌≢◌, ℕ, ◌+◌, ◌*◌, ◌≤◌, inl, inr, arith, refl, sym, ◌∙◌, ap, ap₂, zero, suc, true, List, [], ◌∷◌, ◌++◌, replicate, take, length, reverse}
-use Rattle.std.proofs.lemmas.Bool.{cases_Bool}
-use Rattle.std.proofs.lemmas.List.{append-nil, reverse-append, reverse-reverse, length-reverse, take-append-le}
-use Rattle.turn_words.specs.Modulo.{minus}
-use Rattle.turn_words.specs.PutTurns.{is_open, put, put_last}
+use Rattle.joined_loops.proofs.Common.{IsCanonicalRow, IsLoop, IsFullWheel, cyclic_turn, ◌≡◌, ◌≢◌, ℕ, ◌+◌, ◌*◌, ◌≤◌, inl, inr, arith, refl, sym, ◌∙◌, ap, ap₂, zero, suc, true, List, [], ◌∷◌, ◌++◌, replicate, take, length, reverse, cases_Bool, append-nil, reverse-append, reverse-reverse, length-reverse, take-append-le, led-append, led, HyperState, empty_state, hyper_next, reverse-next, open-cases, minus, is_open, put, put_last}
 use Rattle.turn_words.specs.FiveCases.{EndsOpen}
-use Rattle.turn_words.specs.FormLaws.{led}
-use Rattle.turn_words.specs.HyperStates.{HyperState, empty_state, hyper_next}
-use Rattle.turn_words.specs.Lemmas.Lists.{reverse-next}
-use Rattle.turn_words.specs.Lemmas.WordEnds.{open-cases}
-use Rattle.turn_words.proofs.Led.{led-append}
-use Rattle.settling.specs.TurnRows.{IsCanonicalRow}
-use Rattle.spoke_rings.specs.CyclicWords.{IsLoop, IsFullWheel, cyclic_turn}
 use Rattle.joined_loops.specs.JoinedLists.{repeated}
 use Rattle.joined_loops.proofs.Times.{times}
 use Rattle.joined_loops.proofs.Keeping.{EndsIn, ends-later, put-keeps}

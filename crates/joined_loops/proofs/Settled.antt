@@ -1,16 +1,5 @@
 -- A cyclically canonical list that is gone along behind the joining list: before long it only puts its turns last.
-use Rattle.std.proofs.Common.{◌≡◌, ℕ, ◌+◌, ◌-◌, ◌<◌, ◌≤◌, inl, inr, arith, refl, sym, ◌∙◌, ap, zero, suc, List, ◌∷◌, length, reverse}
-use Rattle.std.proofs.lemmas.List.{length-reverse}
-use Rattle.std.proofs.lemmas.Bool.{cases_lt}
-use Rattle.turn_words.specs.PutTurns.{Put}
-use Rattle.turn_words.specs.FormLaws.{led}
-use Rattle.turn_words.specs.HyperStates.{HyperState, IsEven, empty_state, hyper_next, BelongsTo}
-use Rattle.turn_words.specs.Lemmas.HyperLaws.{length-next, hyper_starts}
-use Rattle.turn_words.proofs.Reading.{state}
-use Rattle.settling.specs.TurnRows.{IsCanonicalRow}
-use Rattle.settling.proofs.Rows.{along, upto}
-use Rattle.settling.proofs.Settling.{within_budget}
-use Rattle.spoke_rings.specs.CyclicWords.{IsLoop, IsFullWheel, spoke_along, cyclic_turn}
+use Rattle.joined_loops.proofs.Common.{along, upto, within_budget, IsCanonicalRow, IsLoop, IsFullWheel, spoke_along, cyclic_turn, ◌≡◌, ℕ, ◌+◌, ◌-◌, ◌<◌, ◌≤◌, inl, inr, arith, refl, sym, ◌∙◌, ap, zero, suc, List, ◌∷◌, length, reverse, cases_lt, length-reverse, state, led, HyperState, IsEven, empty_state, hyper_next, BelongsTo, length-next, hyper_starts, Put}
 use Rattle.joined_loops.specs.JoinedLists.{JoinedBy}
 use Rattle.joined_loops.proofs.Times.{times, times-more, times-above, times-some, times-add}
 use Rattle.joined_loops.proofs.Going.{gone, began, began-sound, rowed, gone-belongs, meets, loop-range, led-belongs, led-even, led-longer}

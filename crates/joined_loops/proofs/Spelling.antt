@@ -1,15 +1,7 @@
 -- The spokes that a word spells, both read from their end, and what a push at the end of the list makes of it.
-use Rattle.std.proofs.Common.{◌≡◌, ◌≢◌, ℕ, ◌<◌, ◌≤◌, inl, inr, arith, refl, sym, ◌∙◌, ap, subst, Bool, true, false, not, List, [], ◌∷◌, length, get_or}
-use Rattle.std.proofs.lemmas.Bool.{cases_eq}
-use Rattle.std.proofs.Math.Bool.{not-not}
-use Rattle.turn_words.specs.Modulo.{add, minus}
-use Rattle.turn_words.specs.PutTurns.{is_open, flipped, closed}
-use Rattle.turn_words.specs.SpokePaths.{place_round}
-use Rattle.turn_words.specs.Lemmas.Sums.{add-cases, minus-cases, minus-one, minus-two, add-lt}
-use Rattle.turn_words.specs.Lemmas.WordEnds.{flipped-run, flipped-end, open-cases}
+use Rattle.joined_loops.proofs.Common.{turn_at, place-below, IsFullWheel, ◌≡◌, ◌≢◌, ℕ, ◌<◌, ◌≤◌, inl, inr, arith, refl, sym, ◌∙◌, ap, subst, Bool, true, false, not, List, [], ◌∷◌, length, get_or, cases_eq, add-cases, minus-cases, minus-one, minus-two, add-lt, flipped-run, flipped-end, open-cases, add, minus, is_open, flipped, closed, place_round}
 use Rattle.spoke_paths.proofs.Ways.{up-one, down-one, less-one, more-one, turn-up, turn-down}
-use Rattle.spoke_rings.specs.CyclicWords.{IsFullWheel}
-use Rattle.spoke_rings.proofs.RingTurns.{turn_at, place-below}
+use Rattle.std.proofs.Math.Bool.{not-not}
 
 -- the list of spokes has the word, and it is told whether it ends at the vertex
 abbrev pub Spells : List ℕ → Bool → List ℕ → List ℕ → Type 0

@@ -1,22 +1,10 @@
 -- Steps on closed lists lead from a list to one that is joined to it.
-use Rattle.std.proofs.Common.{◌≡◌, ℕ, ◌+◌, ◌%◌, ◌<◌, inl, inr, arith, refl, sym, ◌∙◌, ap, subst, zero, suc, Bool, true, false, not, ltb, eqb, ◌&&◌, List, [], ◌∷◌, ◌++◌, All, take, drop, length, append_assoc}
-use Rattle.std.specs.Prelude.{Some, option_and_then}
-use Rattle.std.proofs.lemmas.Option.{option_and_then_some}
-use Rattle.std.proofs.lemmas.Bool.{cases_Bool, cases_lt, eq-eqb, lt-ltb, le-ltb, ltb-true, eqb-true, and_parts}
-use Rattle.std.proofs.lemmas.List.{length-take-le, take-append-drop}
-use Rattle.std.proofs.lemmas.List.Elements.{All-take}
-use Rattle.turn_words.specs.FormLaws.{StartsWell, StaysWell, led}
-use Rattle.turn_words.specs.HyperStates.{HyperState, IsHyperWheel, IsEven, empty_state, hyper_next, BelongsTo}
-use Rattle.turn_words.specs.Lemmas.Lists.{InRange}
-use Rattle.turn_words.specs.Lemmas.FromEnd.{in-range-from, all-from}
-use Rattle.turn_words.specs.Lemmas.HyperLaws.{hyper_starts, hyper_stays, hyper_there_and_back, hyper_across}
+use Rattle.joined_loops.proofs.Common.{loop-rotated, IsLoop, LoopStep, spur_out, spur_in, across, rotate, spur_comes, across_quad, after_loop_step, after_loop_steps, LoopLeads, ◌≡◌, ℕ, ◌+◌, ◌%◌, ◌<◌, inl, inr, arith, refl, sym, ◌∙◌, ap, subst, zero, suc, Bool, true, false, not, ltb, eqb, ◌&&◌, List, [], ◌∷◌, ◌++◌, All, take, drop, length, append_assoc, cases_Bool, cases_lt, eq-eqb, lt-ltb, le-ltb, ltb-true, eqb-true, and_parts, length-take-le, take-append-drop, All-take, Some, option_and_then, StartsWell, StaysWell, led, HyperState, IsHyperWheel, IsEven, empty_state, hyper_next, BelongsTo, in-range-from, all-from, hyper_starts, hyper_stays, hyper_there_and_back, hyper_across, InRange}
+use Rattle.spoke_paths.proofs.StepsKeep.{mapped-is, spokes-stay-below, state-stays}
 use Rattle.spoke_paths.specs.PathSteps.{from_spoke, spur_goes, quad_turned, after_path_step, PathLeads}
 use Rattle.spoke_paths.specs.declared.step.PathStep.{PathStep}
 use Rattle.spoke_paths.specs.declared.step.PathStep.TheVariants.{Spur, Turn}
-use Rattle.spoke_paths.proofs.StepsKeep.{mapped-is, spokes-stay-below, state-stays}
-use Rattle.spoke_rings.specs.CyclicWords.{IsLoop}
-use Rattle.spoke_rings.specs.LoopSteps.{LoopStep, spur_out, spur_in, across, rotate, spur_comes, across_quad, after_loop_step, after_loop_steps, LoopLeads}
-use Rattle.spoke_rings.proofs.RingTurns.{loop-rotated}
+use Rattle.std.proofs.lemmas.Option.{option_and_then_some}
 use Rattle.joined_loops.specs.JoinedLists.{Joined}
 use Rattle.joined_loops.proofs.Going.{led-parity}
 use Rattle.joined_loops.proofs.Joining.{same-joined, joined-itself, joined-on}

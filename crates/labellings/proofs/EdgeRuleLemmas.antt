@@ -1,12 +1,5 @@
 -- An edge meets a rule exactly where its entry in the table of the mesh has two sides that do.
-use Rattle.std.proofs.Common.{◌≡◌, ◌≢◌, ◌⊎◌, inl, inr, ℕ, zero, suc, ◌<◌, List, [], ◌∷◌, length, get_or, sym, ◌∙◌, subst, arith}
-use Rattle.std.specs.Prelude.{Contains, IsTrue}
-use Rattle.surf_model.specs.FaceLists.{FaceList, is_edge}
-use Rattle.surf_model.specs.Edges.{Edge, IsTableOf, IsEdgeOf, IsPairBefore, edge_in}
-use Rattle.surf_model.specs.Surfaces.{ArePartners}
-use Rattle.surf_model.specs.declared.edges.Side.{Side}
-use Rattle.surf_model.proofs.PartnerLemmas.{HasSideEnds, side_of_edge, edge_has_side, partners_of_edge, ends_agree}
-use Rattle.surf_model.proofs.TableEdgeLemmas.{IsEdgeBetween, edge_between, table_pair, sides_of_edge, sides_between_swap, same_pair, place_before}
+use Rattle.labellings.proofs.Common.{◌≡◌, ◌≢◌, ◌⊎◌, inl, inr, ℕ, zero, suc, ◌<◌, List, [], ◌∷◌, length, get_or, sym, ◌∙◌, subst, arith, Contains, IsTrue, HasSideEnds, side_of_edge, edge_has_side, partners_of_edge, ends_agree, IsEdgeBetween, edge_between, table_pair, sides_of_edge, sides_between_swap, same_pair, place_before, Edge, IsTableOf, IsEdgeOf, IsPairBefore, edge_in, FaceList, is_edge, ArePartners, Side}
 use Rattle.labellings.specs.Labellings.{LabellingView}
 use Rattle.labellings.specs.GoodLabellings.{MeetsSomeRule, SidesMeetRule, EdgeMeetsRule}
 use Rattle.labellings.specs.LabelFaults.{IsLeastAgainstRules}

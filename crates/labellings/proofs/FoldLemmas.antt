@@ -1,19 +1,9 @@
 -- The spokes of a dart act on the states of a form that meets the laws of puts, and once round a face they change nothing: a side puts the
 -- label at its tail and then the one at its head, so round a face the labels telescope.
-use Rattle.std.proofs.Common.{◌≡◌, inl, inr, ℕ, zero, suc, ◌<◌, Bool, true, false, ◌&&◌, eqb, List, [], ◌∷◌, ◌++◌, length, get_or, refl, ap, sym, ◌∙◌, subst, arith, append_assoc}
-use Rattle.std.specs.Prelude.{cond}
-use Rattle.std.proofs.lemmas.Bool.{cases_Bool, eqb-true, and_parts}
-use Rattle.surf_model.specs.FaceLists.{FaceList, IsFaceList, face_at, next_corner, corners_from}
-use Rattle.surf_model.specs.Darts.{IsSide, side_after, tail_of, head_of}
-use Rattle.surf_model.specs.Surfaces.{start_under, end_under, is_flipped}
-use Rattle.surf_model.specs.declared.edges.Side.{Side}
-use Rattle.surf_model.proofs.EdgeLemmas.{step_within}
+use Rattle.labellings.proofs.Common.{◌≡◌, inl, inr, ℕ, zero, suc, ◌<◌, Bool, true, false, ◌&&◌, eqb, List, [], ◌∷◌, ◌++◌, length, get_or, refl, ap, sym, ◌∙◌, subst, arith, append_assoc, cases_Bool, eqb-true, and_parts, cond, step_within, IsSide, side_after, tail_of, head_of, FaceList, IsFaceList, face_at, next_corner, corners_from, start_under, end_under, is_flipped, Side, IsQuad, led, add, walked, run as run_from, beyond}
 use Rattle.surf_model.proofs.RoundLemmas.{corner_after}
-use Rattle.walk_actions.specs.Actions.{walked, run as run_from, beyond}
 use Rattle.walk_actions.proofs.Corners.{once_round}
 use Rattle.walk_actions.proofs.Runs.{walked-round}
-use Rattle.turn_words.specs.Modulo.{add}
-use Rattle.turn_words.specs.FormLaws.{IsQuad, led}
 use Rattle.labellings.specs.Labellings.{LabellingView, signs_of, labels_at, label_at, tail_label, head_label}
 use Rattle.labellings.specs.GoodLabellings.{IsGood, MeetsSomeRule}
 use Rattle.labellings.specs.QuadPaths.{spokes, spokes_by_labels, quad_path}

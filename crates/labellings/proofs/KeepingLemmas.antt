@@ -1,20 +1,7 @@
 -- Moves keep the state: a walk and the walk after moves lead each state at the vertex to one state. The spokes of darts act on such states.
-use Rattle.std.proofs.Common.{◌≡◌, ◌⊎◌, inl, inr, ℕ, suc, ◌<◌, Bool, true, false, ◌&&◌, eqb, List, [], ◌∷◌, length, refl, ap, sym, ◌∙◌, subst, arith}
-use Rattle.std.specs.Prelude.{IsTrue, Contains, Option, Some, None, find}
-use Rattle.std.proofs.lemmas.Bool.{cases_Bool, or_cases, eqb-true, and_parts}
-use Rattle.std.proofs.lemmas.List.Folds.{Any-from_list_any}
-use Rattle.surf_model.specs.FaceLists.{FaceList, FaceSide, IsFaceList, all_sides, joins, is_edge}
-use Rattle.surf_model.specs.Edges.{side_name}
-use Rattle.surf_model.specs.Darts.{IsSide, tail_of, head_of}
-use Rattle.surf_model.specs.Surfaces.{start_under, end_under, is_flipped}
-use Rattle.surf_model.specs.Walks.{IsWalk}
-use Rattle.surf_model.specs.Moves.{apply_all}
-use Rattle.surf_model.specs.declared.edges.Side.{Side}
+use Rattle.labellings.proofs.Common.{◌≡◌, ◌⊎◌, inl, inr, ℕ, suc, ◌<◌, Bool, true, false, ◌&&◌, eqb, List, [], ◌∷◌, length, refl, ap, sym, ◌∙◌, subst, arith, cases_Bool, or_cases, eqb-true, and_parts, Any-from_list_any, IsTrue, Contains, Option, Some, None, find, IsListed, all_listed, IsSide, tail_of, head_of, side_name, FaceList, FaceSide, IsFaceList, all_sides, joins, is_edge, apply_all, start_under, end_under, is_flipped, IsWalk, Side, led, IsEdge}
 use Rattle.surf_model.specs.declared.moves.Move.{Move}
-use Rattle.surf_model.proofs.ListedLemmas.{IsListed, all_listed}
-use Rattle.walk_actions.specs.Actions.{IsEdge}
 use Rattle.walk_actions.proofs.Actions.{acts_exactly, moves_act, crosses_any}
-use Rattle.turn_words.specs.FormLaws.{led}
 use Rattle.labellings.specs.Labellings.{LabellingView, signs_of, tail_label, head_label}
 use Rattle.labellings.specs.GoodLabellings.{IsGood}
 use Rattle.labellings.specs.QuadPaths.{side_from, spokes, spokes_of_sides, quad_path}

@@ -1,3 +1,4 @@
+pub mod Common
 pub mod SideLemmas
 pub mod FoldLemmas
 pub mod KeepingLemmas

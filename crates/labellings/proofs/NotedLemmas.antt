@@ -1,10 +1,9 @@
 -- Spokes put into a form, and what is noted there.
-use Rattle.std.proofs.Common.{◌≡◌, ℕ, refl, List, [], ◌∷◌, ◌++◌, Option, subst, sym, ◌∙◌, ap}
-use Rattle.turn_words.specs.FormLaws.{led, NotesAlong}
-use Rattle.turn_words.specs.Recorded.{TellsMore}
-use Rattle.turn_words.specs.declared.step.Step.{Step}
+use Rattle.labellings.proofs.Common.{◌≡◌, ℕ, refl, List, [], ◌∷◌, ◌++◌, subst, sym, ◌∙◌, ap, led, NotesAlong, TellsMore}
+use Rattle.std.proofs.Common.{Option}
 use Rattle.turn_words.proofs.Led.{led-append, notes-append, notes-one}
 use Rattle.turn_words.proofs.Telling.{tells-both}
+use Rattle.turn_words.specs.declared.step.Step.{Step}
 
 module _ {State : Type 0} (next : List ℕ → State → ℕ → State) (Notes : List ℕ → State → ℕ → List Step → Type 0) (places : List ℕ) where
   -- two spokes

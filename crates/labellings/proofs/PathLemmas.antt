@@ -1,8 +1,5 @@
 -- The quad path of a walk, dart after dart.
-use Rattle.std.proofs.Common.{◌≡◌, ℕ, zero, suc, ◌+◌, ◌<◌, List, [], ◌∷◌, ◌++◌, All, length, get_or, take, ap, sym, ◌∙◌, subst, arith, append_assoc}
-use Rattle.std.specs.Prelude.{Option, Some, None, IfSome, MatchOption}
-use Rattle.std.proofs.lemmas.List.{append-nil}
-use Rattle.surf_model.specs.FaceLists.{FaceList}
+use Rattle.labellings.proofs.Common.{◌≡◌, ℕ, zero, suc, ◌+◌, ◌<◌, List, [], ◌∷◌, ◌++◌, All, length, get_or, take, ap, sym, ◌∙◌, subst, arith, append_assoc, append-nil, Option, Some, None, IfSome, MatchOption, FaceList}
 use Rattle.surf_model.specs.declared.names.Spoke.{Spoke}
 use Rattle.labellings.specs.Labellings.{LabellingView}
 use Rattle.labellings.specs.GoodLabellings.{IsGood}

@@ -1,11 +1,5 @@
 -- The word of a walk is one, and what a denial that holds excludes.
-use Rattle.std.proofs.Common.{◌≡◌, ◌⊎◌, inl, inr, ℕ, ◌<◌, Bool, List, [], length, refl, sym, ap, ap₂, subst, ◌∙◌, arith}
-use Rattle.std.specs.Prelude.{◌↔◌, IsTrue}
-use Rattle.surf_model.specs.FaceLists.{FaceList, IsFaceList}
-use Rattle.surf_model.specs.Walks.{IsWalk}
-use Rattle.surf_model.specs.Edges.{IsPairBefore}
-use Rattle.turn_words.specs.Wheels.{IsFirstTwice}
-use Rattle.turn_words.specs.declared.word.Word.{Word}
+use Rattle.labellings.proofs.Common.{◌≡◌, ◌⊎◌, inl, inr, ℕ, ◌<◌, Bool, List, [], length, refl, sym, ap, ap₂, subst, ◌∙◌, arith, ◌↔◌, IsTrue, IsPairBefore, FaceList, IsFaceList, IsWalk, IsFirstTwice, Word}
 use Rattle.labellings.specs.Labellings.{LabellingView}
 use Rattle.labellings.specs.GoodLabellings.{IsGood, HasPlaces}
 use Rattle.labellings.specs.LabelFaults.{IsFirstFault, IsLeastAgainstRules}

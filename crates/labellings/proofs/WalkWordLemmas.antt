@@ -1,29 +1,13 @@
 -- Under a good labelling, homotopic walks have one word: moves keep the state to which the spokes lead, and the word is that of the state.
-use Rattle.std.proofs.Common.{◌≡◌, inl, inr, ℕ, ◌<◌, ◌≤◌, ◌&&◌, eqb, List, [], ◌∷◌, ◌++◌, length, refl, ap, sym, ◌∙◌, subst, arith}
-use Rattle.std.specs.Prelude.{All, Option, Some, None}
-use Rattle.std.proofs.lemmas.Bool.{cases_Bool}
-use Rattle.std.proofs.lemmas.List.Elements.{All-append, All-nil, All-cons}
-use Rattle.surf_model.specs.FaceLists.{FaceList, FaceSide, IsFaceList}
-use Rattle.surf_model.specs.Edges.{side_name}
-use Rattle.surf_model.specs.Darts.{IsSide}
-use Rattle.surf_model.specs.Walks.{IsWalk}
-use Rattle.surf_model.specs.Moves.{Homotopic}
-use Rattle.turn_words.specs.Wheels.{IsWheel}
-use Rattle.turn_words.specs.Canonical.{IsCanonicalOf}
-use Rattle.turn_words.specs.SpokePaths.{turn_word_of}
-use Rattle.turn_words.specs.FormLaws.{led}
-use Rattle.turn_words.specs.HyperStates.{HyperState, IsHyperWheel, BelongsTo, IsEven, empty_state, hyper_next}
-use Rattle.turn_words.specs.Lemmas.HyperLaws.{hyper_starts, hyper_stays, hyper_there_and_back, hyper_across}
-use Rattle.turn_words.specs.declared.word.Word.{Word}
-use Rattle.turn_words.specs.declared.word.Word.TheVariants.{Turns, Flat}
-use Rattle.turn_words.proofs.Unique.{unique}
-use Rattle.turn_words.proofs.Spokes.{turns, canonical}
-use Rattle.flat_forms.specs.Vectors.{Vector, origin}
-use Rattle.flat_forms.specs.Pairs.{spokes_of, sum_of_pairs}
+use Rattle.labellings.proofs.Common.{IsFlatWheel, flat_next, Vector, origin, ◌≡◌, inl, inr, ℕ, ◌<◌, ◌≤◌, ◌&&◌, eqb, List, [], ◌∷◌, ◌++◌, length, refl, ap, sym, ◌∙◌, subst, arith, cases_Bool, Option, Some, None, IsSide, side_name, FaceList, FaceSide, IsFaceList, Homotopic, IsWalk, turns, canonical, IsCanonicalOf, led, HyperState, IsHyperWheel, BelongsTo, IsEven, empty_state, hyper_next, turn_word_of, IsWheel, Word, Turns, Flat}
 use Rattle.flat_forms.proofs.SumsOfPairs.{leads-to-sum}
-use Rattle.flat_forms.specs.FlatStates.{IsFlatWheel, flat_next}
-use Rattle.flat_forms.specs.FlatStates as flat
 use Rattle.flat_forms.specs.Lemmas.FlatLaws.{flat_starts, flat_stays, flat_there_and_back, flat_across}
+use Rattle.flat_forms.specs.Pairs.{spokes_of, sum_of_pairs}
+use Rattle.std.proofs.lemmas.List.Elements.{All-append, All-nil, All-cons}
+use Rattle.std.specs.Prelude.{All}
+use Rattle.turn_words.proofs.Unique.{unique}
+use Rattle.turn_words.specs.Lemmas.HyperLaws.{hyper_starts, hyper_stays, hyper_there_and_back, hyper_across}
+use Rattle.flat_forms.specs.FlatStates as flat
 use Rattle.labellings.specs.Labellings.{LabellingView, tail_label, head_label}
 use Rattle.labellings.specs.GoodLabellings.{IsGood}
 use Rattle.labellings.specs.QuadPaths.{side_from, spokes, spokes_of_sides, spokes_by_labels, quad_path}

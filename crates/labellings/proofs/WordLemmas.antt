@@ -1,15 +1,5 @@
 -- The word of a walk, from the state to which the spokes of the walk lead.
-use Rattle.std.proofs.Common.{◌≡◌, ℕ, ◌≤◌, List, sym, ◌∙◌, subst}
-use Rattle.std.specs.Prelude.{ℤ}
-use Rattle.surf_model.specs.FaceLists.{FaceList}
-use Rattle.turn_words.specs.FormLaws.{led}
-use Rattle.turn_words.specs.Canonical.{IsCanonicalOf}
-use Rattle.turn_words.specs.SpokePaths.{turn_word_of}
-use Rattle.turn_words.specs.HyperStates.{empty_state, hyper_next}
-use Rattle.turn_words.specs.declared.word.Word.TheVariants.{Turns, Flat}
-use Rattle.turn_words.proofs.Spokes.{canonical}
-use Rattle.flat_forms.specs.Vectors.{Vector, origin}
-use Rattle.flat_forms.specs.FlatStates.{flat_next}
+use Rattle.labellings.proofs.Common.{flat_next, Vector, origin, ◌≡◌, ℕ, ◌≤◌, List, sym, ◌∙◌, subst, ℤ, FaceList, canonical, IsCanonicalOf, led, empty_state, hyper_next, turn_word_of, Turns, Flat}
 use Rattle.labellings.specs.Labellings.{LabellingView}
 use Rattle.labellings.specs.GoodLabellings.{IsGood}
 use Rattle.labellings.specs.QuadPaths.{quad_path}

@@ -1,21 +1,18 @@
 -- Free homotopy on a component of a mesh, and on the whole mesh.
-use Rattle.std.proofs.Common.{◌≡◌, ◌↔◌, ℕ, ◌<◌, List, [], ◌∷◌, ◌++◌, length, get_or, refl, ap, sym, ◌∙◌, subst, arith}
-use Rattle.std.specs.Prelude.{Some}
-use Rattle.surf_model.specs.FaceLists.{FaceList}
-use Rattle.surf_model.specs.Moves.{Homotopic}
-use Rattle.surf_model.specs.Walks.{HaveCommonEnds}
-use Rattle.surf_model.proofs.ContextLemmas.{first_answer}
-use Rattle.surf_model.proofs.WayBackLemmas.{keeps_ends}
-use Rattle.surf_model.specs.ComponentParts.{PartsView, AreParts, component_at, component_mesh}
-use Rattle.manifold_check.proofs.PartPieces.{IsOfComponent, piece_of_parts, walk_alone, walk_whole, walk_same_place}
-use Rattle.manifold_check.proofs.PieceMoves.{homotopic_alike}
-use Rattle.closed_surfaces.specs.SignedSurfaces.{IsPart, IsComponentOf, surface_of}
+use Rattle.loop_commands.proofs.Common.{IsPart, IsComponentOf, surface_of, IsClosedWalk, FreeStep, Moved, Rotated, after_free, after_all_free, FreelyLeads, FreelyHomotopic, ◌≡◌, ℕ, ◌<◌, List, [], ◌∷◌, ◌++◌, length, get_or, refl, ap, sym, ◌∙◌, subst, arith, Some, FaceList}
 use Rattle.closed_surfaces.specs.declared.component.Component.{Component}
 use Rattle.closed_surfaces.specs.declared.component.Component.TheVariants.{Whole, Alone}
 use Rattle.closed_surfaces.specs.declared.component.Part.{Part}
-use Rattle.closed_walks.specs.FreeHomotopy.{IsClosedWalk, FreeStep, Moved, Rotated, after_free, after_all_free, FreelyLeads, FreelyHomotopic}
 use Rattle.closed_walks.proofs.FreeStepLemmas.{on, step_keeps}
 use Rattle.closed_walks.proofs.MovedSteps.{freely}
+use Rattle.manifold_check.proofs.PartPieces.{IsOfComponent, piece_of_parts, walk_alone, walk_whole, walk_same_place}
+use Rattle.manifold_check.proofs.PieceMoves.{homotopic_alike}
+use Rattle.std.proofs.Common.{◌↔◌}
+use Rattle.surf_model.proofs.ContextLemmas.{first_answer}
+use Rattle.surf_model.proofs.WayBackLemmas.{keeps_ends}
+use Rattle.surf_model.specs.ComponentParts.{PartsView, AreParts, component_at, component_mesh}
+use Rattle.surf_model.specs.Moves.{Homotopic}
+use Rattle.surf_model.specs.Walks.{HaveCommonEnds}
 
 module _ (mesh : FaceList) (parts : PartsView) (part : ℕ) (h : AreParts mesh parts) (l : part < length parts.components) where
   -- a closed walk that starts in the component

@@ -1,22 +1,11 @@
 -- How the checks of `loops` end, and what they leave to be answered.
-use Rattle.std.proofs.Common.{◌≡◌, ◌⊎◌, inl, inr, ℕ, List, [], get_or, refl, sym, ap, ◌∙◌, subst}
-use Rattle.std.specs.Prelude.{◌↔◌, Option, Some, slice_get}
-use Rattle.std.proofs.lemmas.Option.{get_or_from_slice_get}
-use Rattle.surf_io.specs.Files.{Files}
-use Rattle.surf_model.specs.FaceLists.{FaceList}
-use Rattle.closed_walks.specs.FreeHomotopy.{IsClosedWalk, FreelyHomotopic}
-use Rattle.walk_files.specs.ClosedPairs.{IsClosedPair}
-use Rattle.free_loops.specs.declared.deciding.FreeAnswer.{FreeAnswer}
-use Rattle.free_loops.specs.declared.deciding.FreeAnswer.TheVariants.{Freely, NotFreely}
-use Rattle.surface_commands.proofs.SurfaceRows.{sound-surface_in}
+use Rattle.loop_commands.proofs.Common.{IsClosedWalk, FreelyHomotopic, IsSound, IsYesOrNo, sound-decided_by, sound-then, Check, Passes, Outcome, IsAnswerOf, Status, Freely, NotFreely, ◌≡◌, ◌⊎◌, inl, inr, ℕ, List, [], get_or, refl, sym, ap, ◌∙◌, subst, ◌↔◌, Option, Some, slice_get, Files, FaceList, sound-surface_in, IsClosedPair}
 use Rattle.commands.proofs.RightAnswers.{IsRightLine, right_line}
-use Rattle.commands.proofs.Sound.{IsSound, IsYesOrNo, sound-decided_by, sound-then}
 use Rattle.commands.specs.Answers.{Answer}
-use Rattle.commands.specs.Checks.{Check, Passes}
 use Rattle.commands.specs.Inputs.{walk_at}
-use Rattle.commands.specs.Outcomes.{Outcome, IsAnswerOf}
+use Rattle.free_loops.specs.declared.deciding.FreeAnswer.{FreeAnswer}
+use Rattle.std.proofs.lemmas.Option.{get_or_from_slice_get}
 use Rattle.surface_commands.specs.SurfaceInput.{surface_in}
-use Rattle.commands.specs.declared.status.Status.{Status}
 use Rattle.loop_commands.specs.Loops.{free_status, free_line, free_answer, freely_decided, loops_in, loops}
 use Rattle.loop_commands.proofs.LoopChecks.{sound-loops_in}
 

@@ -1,15 +1,8 @@
 -- How the check of two closed walks ends.
-use Rattle.std.proofs.Common.{◌≡◌, ℕ, List, [], ◌∷◌, length, refl}
-use Rattle.std.specs.Prelude.{Option}
-use Rattle.surf_io.specs.Files.{Files}
-use Rattle.surf_model.specs.FaceLists.{FaceList}
-use Rattle.walk_files.specs.ClosedPairs.{IsClosedPair, loops_fault, of_entry, open_fault}
-use Rattle.walk_files.specs.declared.loops.LoopFault.TheVariants.{NotTwo}
+use Rattle.loop_commands.proofs.Common.{IsSound, held, no_fault_passes, sound-walks, walks_passed, walks_told, Passes, Holds, IsTold, ◌≡◌, ℕ, List, [], ◌∷◌, length, refl, Option, Files, FaceList, IsClosedPair, loops_fault, of_entry, open_fault}
 use Rattle.walk_files.proofs.ClosedPairLemmas.{none_of_loops}
 use Rattle.walk_files.proofs.TwoWalkLemmas.{two_fault-two}
-use Rattle.commands.proofs.Sound.{IsSound, held}
-use Rattle.commands.proofs.WalkInputs.{no_fault_passes, sound-walks, walks_passed, walks_told}
-use Rattle.commands.specs.Checks.{Passes, Holds, IsTold}
+use Rattle.walk_files.specs.declared.loops.LoopFault.TheVariants.{NotTwo}
 use Rattle.commands.specs.declared.refusal.Input.TheVariants as inputs
 use Rattle.loop_commands.specs.Loops.{SpellsLoops, loops_line, loops_in}
 

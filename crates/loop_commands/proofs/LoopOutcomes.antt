@@ -1,14 +1,8 @@
 -- `loops` in the words of the mesh.
-use Rattle.std.proofs.Common.{◌≡◌, ℕ, List, [], ◌∷◌, codes}
-use Rattle.std.specs.Prelude.{Option}
-use Rattle.surf_io.specs.Files.{Files}
-use Rattle.surf_model.specs.FaceLists.{FaceList}
+use Rattle.loop_commands.proofs.Common.{AnswersTo, Status, ◌≡◌, ℕ, List, [], ◌∷◌, codes, Option, Files, FaceList, outcome_behind}
 use Rattle.loop_commands.proofs.LoopAnswers.{IsRightAnswer, right_answer, after_pair}
 use Rattle.loop_commands.proofs.LoopChecks.{sound-loops_in, loops_in_told, spelled_loops}
-use Rattle.surface_commands.proofs.SurfaceRows.{outcome_behind}
 use Rattle.loop_commands.specs.Loops.{loops, loops_in, IsLoopsAnswered, IsLoopsInput, SpellsLoops}
-use Rattle.commands.specs.Outcomes.{AnswersTo}
-use Rattle.commands.specs.declared.status.Status.{Status}
 
 -- what `loops` is for, where the words are answered by its check
 pub loops_so : (files : Option Files) (words : List (List ℕ)) (status : Status) (text : List ℕ)

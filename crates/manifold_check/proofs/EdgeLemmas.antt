@@ -1,11 +1,5 @@
 -- Edges of a mesh that have not two sides, by its table.
-use Rattle.std.proofs.Common.{◌≡◌, ℕ, ◌<◌, List, length, sym, ◌∙◌, subst}
-use Rattle.surf_model.specs.FaceLists.{FaceList}
-use Rattle.surf_model.specs.Edges.{Edge, IsTableOf, IsEdgeOf, IsPairBefore, edge_in}
-use Rattle.surf_model.specs.Surfaces.{EachEdgeHasTwoSides}
-use Rattle.surf_model.specs.declared.names.VertexName.{VertexName}
-use Rattle.surf_model.proofs.TableEdgeLemmas.{IsEdgeBetween, edge_between, table_pair, sides_of_edge, same_pair, place_before}
-use Rattle.connectivity.proofs.EdgeCounts.{sides_by_table}
+use Rattle.manifold_check.proofs.Common.{sides_by_table, ◌≡◌, ℕ, ◌<◌, List, length, sym, ◌∙◌, subst, IsEdgeBetween, edge_between, table_pair, sides_of_edge, same_pair, place_before, Edge, IsTableOf, IsEdgeOf, IsPairBefore, edge_in, FaceList, EachEdgeHasTwoSides, VertexName}
 use Rattle.manifold_check.specs.Faults.{IsFirstFault, IsLeastUnevenEdge}
 use Rattle.manifold_check.specs.UnevenEdges.{IsFirstUneven}
 use Rattle.manifold_check.specs.declared.fault.SurfaceFault.TheVariants.{EdgeSides}

@@ -1,12 +1,7 @@
 -- First faults exclude each other, and a closed manifold.
-use Rattle.std.proofs.Common.{◌≡◌, ◌⊎◌, inl, inr, ℕ, ◌<◌, refl, ap, sym, ◌∙◌, arith}
-use Rattle.std.proofs.lemmas.Bool.{cases_order}
-use Rattle.surf_model.specs.FaceLists.{FaceList}
-use Rattle.surf_model.specs.Edges.{IsPairBefore}
-use Rattle.surf_model.specs.Surfaces.{IsClosedManifold, sides_between}
-use Rattle.surf_model.specs.declared.names.VertexName.{VertexName}
-use Rattle.manifold_check.specs.Faults.{IsFirstFault, IsLeastUnevenEdge}
+use Rattle.manifold_check.proofs.Common.{◌≡◌, ◌⊎◌, inl, inr, ℕ, ◌<◌, refl, ap, sym, ◌∙◌, arith, cases_order, IsPairBefore, FaceList, IsClosedManifold, sides_between, VertexName}
 use Rattle.connectivity.specs.Joined.{IsLeastPinch}
+use Rattle.manifold_check.specs.Faults.{IsFirstFault, IsLeastUnevenEdge}
 use Rattle.manifold_check.specs.declared.fault.SurfaceFault.{SurfaceFault}
 use Rattle.manifold_check.specs.declared.fault.SurfaceFault.TheVariants.{NoFace, EdgeSides, Pinched, OutOfMemory}
 

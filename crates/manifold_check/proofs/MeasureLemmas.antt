@@ -1,28 +1,9 @@
 -- The vertices and the edges of each component, counted as those of the whole mesh are gone through.
-use Rattle.std.proofs.Common.{◌≡◌, ◌≢◌, ◌⊎◌, inl, inr, ℕ, zero, suc, ◌+◌, ◌<◌, Bool, true, false, eqb, cond, List, [], ◌∷◌, length, get_or, set, refl, ap, sym, ◌∙◌, subst, arith, add-one, length-append}
-use Rattle.std.specs.Prelude.{Contains, filter, map}
-use Rattle.std.specs.List.{range_with_len}
-use Rattle.std.proofs.lemmas.Bool.{cases_Bool, both_ways, eq-eqb, eqb-true}
-use Rattle.std.proofs.lemmas.Bool.Decides.{nat_tests}
-use Rattle.std.proofs.lemmas.List.{ext_get_or, length-map, get_or-map, get_or_default}
-use Rattle.std.proofs.lemmas.List.Elements.{All-filter, All-map, filter-append, filter_agree, filter_passes}
-use Rattle.std.proofs.lemmas.List.Kept.{AllPairs-filter}
-use Rattle.std.proofs.lemmas.List.FromFn.{length-map-range_with_len, get_or-map-range_with_len}
-use Rattle.surf_model.specs.FaceLists.{FaceList, FaceSide, all_sides, joins, is_edge, is_used}
-use Rattle.surf_model.specs.Edges.{Edge, IsEdgeOf, IsPairBefore, IsTableOf, edge_in, side_name}
-use Rattle.surf_model.specs.Building.{IsCounted}
-use Rattle.surf_model.specs.Darts.{tail_of}
-use Rattle.surf_model.proofs.EdgeLemmas.{tail_used, head_used}
-use Rattle.surf_model.proofs.FilterLemmas.{filter-map}
+use Rattle.manifold_check.proofs.Common.{◌≡◌, ◌≢◌, ◌⊎◌, inl, inr, ℕ, zero, suc, ◌+◌, ◌<◌, Bool, true, false, eqb, cond, List, [], ◌∷◌, length, get_or, set, refl, ap, sym, ◌∙◌, subst, arith, add-one, length-append, cases_Bool, both_ways, eq-eqb, eqb-true, nat_tests, ext_get_or, length-map, get_or-map, get_or_default, All-filter, All-map, filter-append, filter_agree, filter_passes, length-map-range_with_len, get_or-map-range_with_len, AllPairs-filter, range_with_len, Contains, filter, map, tail_used, head_used, filter-map, IsEdgeBetween, edge_between, table_pair, sides_of_edge, Contains-filter, counted_more, group_of-other, IsCounted, PartsView, AreParts, component_at, component_mesh, tail_of, Edge, IsEdgeOf, IsPairBefore, IsTableOf, edge_in, side_name, FaceList, FaceSide, all_sides, joins, is_edge, is_used, submesh}
+use Rattle.connectivity.proofs.Forests.{range_more}
 use Rattle.surf_model.proofs.ListedLemmas.{IsListed, all_listed}
 use Rattle.surf_model.proofs.OneTableLemmas.{one_table}
-use Rattle.surf_model.proofs.TableEdgeLemmas.{IsEdgeBetween, edge_between, table_pair, sides_of_edge}
-use Rattle.surf_model.proofs.TableLemmas.{Contains-filter}
-use Rattle.surf_model.proofs.TallyLemmas.{counted_more, group_of-other}
 use Rattle.surf_model.specs.Numbers.{count_below}
-use Rattle.surf_model.specs.ComponentParts.{PartsView, AreParts, component_at, component_mesh}
-use Rattle.surf_model.specs.Submeshes.{submesh}
-use Rattle.connectivity.proofs.Forests.{range_more}
 use Rattle.manifold_check.proofs.PieceLemmas.{IsPiece, edge_of_side, edge_up, used_up, used_down}
 use Rattle.manifold_check.proofs.PieceSides.{sides_alike}
 use Rattle.manifold_check.proofs.PartPieces.{IsOfComponent, piece_of_parts}

@@ -1,16 +1,7 @@
 -- Components by number: a component comes after those with lesser least vertices.
-use Rattle.std.proofs.Common.{◌≡◌, ◌⊎◌, inl, inr, ℕ, zero, suc, ◌+◌, ◌-◌, ◌<◌, ◌≤◌, Bool, true, false, eqb, cond, List, ◌++◌, [], ◌∷◌, length, get_or, refl, ap, sym, ◌∙◌, subst, arith}
-use Rattle.std.specs.Prelude.{◌&&◌}
-use Rattle.std.proofs.lemmas.Bool.{cases_Bool, cases_lt, cases_order, both_ways, and_parts, eq-eqb, eqb-true}
-use Rattle.std.proofs.lemmas.List.{get_or_append_left, get_or_push, length_push}
-use Rattle.surf_model.specs.FaceLists.{FaceList, IsFaceList, is_used}
-use Rattle.surf_model.specs.Walks.{darts}
-use Rattle.surf_model.specs.Surfaces.{IsWalkBetween, AreJoinedByWalk}
-use Rattle.surf_model.specs.Components.{IsLeastOfComponent, ArePlacesOfComponents}
-use Rattle.surf_model.proofs.EdgeLemmas.{used_below}
+use Rattle.manifold_check.proofs.Common.{walk_from_joined, same_from_walk, walk_from_same, AreComponents, ◌≡◌, ◌⊎◌, inl, inr, ℕ, zero, suc, ◌+◌, ◌-◌, ◌<◌, ◌≤◌, Bool, true, false, eqb, cond, List, ◌++◌, [], ◌∷◌, length, get_or, refl, ap, sym, ◌∙◌, subst, arith, cases_Bool, cases_lt, cases_order, both_ways, and_parts, eq-eqb, eqb-true, get_or_append_left, get_or_push, length_push, ◌&&◌, IsLeastOfComponent, ArePlacesOfComponents, FaceList, IsFaceList, is_used, IsWalkBetween, AreJoinedByWalk, darts}
 use Rattle.connectivity.specs.Classes.{AreLeastMembers}
-use Rattle.connectivity.specs.Partitions.{AreComponents}
-use Rattle.connectivity.proofs.WalkLemmas.{walk_from_joined, same_from_walk, walk_from_same}
+use Rattle.surf_model.proofs.EdgeLemmas.{used_below}
 
 -- how many numbers below n pass
 pub rank : (ℕ → Bool) → ℕ → ℕ

@@ -1,13 +1,8 @@
 -- No face list is without the one or the other: it is a closed manifold, or it has a first fault. Nothing is decided for this.
-use Rattle.std.proofs.Common.{◌≡◌, inl, inr, ℕ, zero, suc, ◌<◌, true, length, refl, sym, ◌∙◌, subst, arith}
-use Rattle.std.proofs.lemmas.Bool.{cases_Bool, cases_lt, cases_eq, both_ways}
-use Rattle.surf_model.specs.FaceLists.{FaceList, IsFaceList, is_edge, is_used}
-use Rattle.surf_model.specs.Surfaces.{IsClosedManifold, EachEdgeHasTwoSides, HasOneRing, sides_between}
+use Rattle.manifold_check.proofs.Common.{edge_swap, edge_differs, used_below, ◌≡◌, inl, inr, ℕ, zero, suc, ◌<◌, true, length, refl, sym, ◌∙◌, subst, arith, cases_Bool, cases_lt, cases_eq, both_ways, sides_between_swap, FaceList, IsFaceList, is_edge, is_used, IsClosedManifold, EachEdgeHasTwoSides, HasOneRing, sides_between}
 use Rattle.manifold_check.specs.Faults.{IsFirstFault}
 use Rattle.manifold_check.specs.declared.fault.SurfaceFault.{SurfaceFault}
 use Rattle.manifold_check.specs.declared.fault.SurfaceFault.TheVariants.{NoFace, EdgeSides, Pinched}
-use Rattle.surf_model.proofs.TableEdgeLemmas.{sides_between_swap}
-use Rattle.connectivity.proofs.EdgeLemmas.{edge_swap, edge_differs, used_below}
 
 -- nothing is a first fault of the mesh
 abbrev HasNoFault : FaceList → Type 0

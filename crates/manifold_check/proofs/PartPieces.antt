@@ -1,20 +1,7 @@
 -- Each component of a mesh is a part that no edge joins to the rest.
-use Rattle.std.proofs.Common.{◌≡◌, inl, inr, ℕ, zero, suc, ◌+◌, ◌<◌, ◌≤◌, true, eqb, List, [], length, get_or, refl, ap, sym, ◌∙◌, subst, arith, add-one}
-use Rattle.std.specs.Prelude.{All}
-use Rattle.std.proofs.lemmas.Bool.{cases_lt, eq-eqb, eqb-true}
-use Rattle.std.proofs.lemmas.List.{get_or_default}
-use Rattle.std.proofs.lemmas.Bool.Decides.{nat_tests}
-use Rattle.surf_model.specs.FaceLists.{FaceList, IsFace, IsFaceList, face_at, next_corner, is_edge}
-use Rattle.surf_model.specs.Components.{ArePlacesOfComponents, HasLeastVertex, EachTwoAreJoined, place_of_face, faces_of_component}
-use Rattle.surf_model.specs.Surfaces.{AreJoinedByWalk, IsWalkBetween, IsClosedManifold, IsClosed}
-use Rattle.surf_model.specs.Walks.{IsWalk}
-use Rattle.surf_model.proofs.EdgeLemmas.{step_edge, corner_used, tail_used, head_used}
-use Rattle.surf_model.specs.ComponentParts.{PartsView, AreParts, component_at, component_mesh}
-use Rattle.connectivity.specs.Partitions.{IsEdgeStep}
-use Rattle.surf_model.specs.Submeshes.{submesh}
+use Rattle.manifold_check.proofs.Common.{used_corner, walk_from_joined, IsEdgeStep, ◌≡◌, inl, inr, ℕ, zero, suc, ◌+◌, ◌<◌, ◌≤◌, true, eqb, List, [], length, get_or, refl, ap, sym, ◌∙◌, subst, arith, add-one, cases_lt, eq-eqb, eqb-true, nat_tests, get_or_default, All, step_edge, tail_used, head_used, PartsView, AreParts, component_at, component_mesh, ArePlacesOfComponents, HasLeastVertex, EachTwoAreJoined, place_of_face, faces_of_component, FaceList, IsFace, IsFaceList, face_at, next_corner, is_edge, submesh, AreJoinedByWalk, IsWalkBetween, IsClosedManifold, IsClosed, IsWalk}
 use Rattle.connectivity.proofs.Joining.{joined_step}
-use Rattle.connectivity.proofs.WalkLemmas.{walk_from_joined}
-use Rattle.connectivity.proofs.CornerLemmas.{used_corner}
+use Rattle.surf_model.proofs.EdgeLemmas.{corner_used}
 use Rattle.manifold_check.proofs.PieceLemmas.{IsPiece, HasPlaceAmong, piece_by_test, walk_down, walk_up, used_up}
 use Rattle.manifold_check.proofs.PieceSurfaces.{manifold_alone}
 

@@ -1,21 +1,6 @@
 -- Some faces of a mesh that no edge joins to others: sides, edges and walks of these faces alone and of the whole mesh.
-use Rattle.std.proofs.Common.{◌≡◌, ◌⊎◌, inl, inr, ℕ, zero, suc, ◌+◌, ◌<◌, Bool, true, List, [], length, get_or, refl, ap, sym, ◌∙◌, subst, arith, add-one}
-use Rattle.std.specs.Prelude.{All, AllPairs, Contains, filter}
-use Rattle.std.specs.List.{range_with_len}
-use Rattle.std.proofs.lemmas.Bool.{cases_order}
-use Rattle.std.proofs.lemmas.List.{length-map, get_or-map, get_or_default}
-use Rattle.std.proofs.lemmas.List.Elements.{All-filter, filter_passes}
-use Rattle.std.proofs.lemmas.List.Kept.{AllPairs-filter}
-use Rattle.std.proofs.lemmas.List.FromFn.{length-range_with_len, get_or-range_with_len}
-use Rattle.surf_model.specs.FaceLists.{FaceList, face_at, next_corner, is_edge, is_used}
-use Rattle.surf_model.specs.Walks.{IsWalk}
-use Rattle.surf_model.specs.Darts.{IsSide, side_after, tail_of, head_of}
-use Rattle.surf_model.specs.declared.edges.Side.{Side}
-use Rattle.surf_model.proofs.EdgeLemmas.{edge_swap, step_edge}
-use Rattle.surf_model.proofs.TableLemmas.{Contains-filter}
-use Rattle.surf_model.specs.Submeshes.{submesh}
-use Rattle.connectivity.proofs.CornerLemmas.{after_in_mesh, corner_used, used_corner}
-use Rattle.connectivity.proofs.EdgeLemmas.{HasSideBetween, side_between}
+use Rattle.manifold_check.proofs.Common.{after_in_mesh, corner_used, used_corner, HasSideBetween, side_between, ◌≡◌, ◌⊎◌, inl, inr, ℕ, zero, suc, ◌+◌, ◌<◌, Bool, true, List, [], length, get_or, refl, ap, sym, ◌∙◌, subst, arith, add-one, cases_order, length-map, get_or-map, get_or_default, All-filter, filter_passes, length-range_with_len, get_or-range_with_len, AllPairs-filter, range_with_len, All, AllPairs, Contains, filter, step_edge, Contains-filter, IsSide, side_after, tail_of, head_of, FaceList, face_at, next_corner, is_edge, is_used, submesh, IsWalk, Side}
+use Rattle.surf_model.proofs.EdgeLemmas.{edge_swap}
 
 -- a face by its place among some faces
 pub record HasPlaceAmong (names : List ℕ) (f : ℕ) : Type 0 where

@@ -1,18 +1,13 @@
 -- Moves of a part of a mesh that no edge joins to the rest: on its own faces, and on those of the whole mesh.
-use Rattle.std.proofs.Common.{◌≡◌, ◌↔◌, ℕ, ◌+◌, ◌-◌, ◌<◌, ◌≤◌, Bool, List, [], ◌∷◌, ◌++◌, length, get_or, refl, ap, sym, ◌∙◌, subst, arith, append_assoc, length-append}
-use Rattle.std.specs.Prelude.{max, not, Some}
-use Rattle.surf_model.specs.FaceLists.{FaceList, face_at, corners_from}
-use Rattle.surf_model.specs.Walks.{IsWalk, darts}
+use Rattle.manifold_check.proofs.Common.{◌≡◌, ◌↔◌, ℕ, ◌+◌, ◌-◌, ◌<◌, ◌≤◌, Bool, List, [], ◌∷◌, ◌++◌, length, get_or, refl, ap, sym, ◌∙◌, subst, arith, append_assoc, length-append, get_or-append-add, max, not, Some, FaceList, face_at, corners_from, submesh, renamed_move, renamed_moves, IsWalk, darts}
+use Rattle.surf_model.proofs.ContextLemmas.{first_answer, stays_walk}
+use Rattle.surf_model.proofs.ReplacementLemmas.{by_replacing}
+use Rattle.surf_model.proofs.RoundLemmas.{first_corner}
+use Rattle.surf_model.proofs.WayBackLemmas.{keeps_walk, keeps_ends}
 use Rattle.surf_model.specs.Moves.{apply, apply_all, Leads, Homotopic, greatest_darts}
 use Rattle.surf_model.specs.Replacements.{Replaces, place_of}
 use Rattle.surf_model.specs.declared.moves.Move.{Move}
 use Rattle.surf_model.specs.declared.moves.Move.TheVariants.{Insert, Remove, Across}
-use Rattle.surf_model.proofs.ReplacementLemmas.{by_replacing}
-use Rattle.surf_model.proofs.ContextLemmas.{first_answer, stays_walk}
-use Rattle.surf_model.proofs.RoundLemmas.{first_corner}
-use Rattle.surf_model.proofs.WayBackLemmas.{keeps_walk, keeps_ends}
-use Rattle.std.proofs.lemmas.List.{get_or-append-add}
-use Rattle.surf_model.specs.Submeshes.{submesh, renamed_move, renamed_moves}
 use Rattle.manifold_check.proofs.PieceLemmas.{IsPiece, HasPlaceAmong, length-submesh, face-submesh, edge_up, edge_down, walk_inside}
 
 place_renamed : (names : List ℕ) (move : Move) → place_of (renamed_move names move) ≡ place_of move

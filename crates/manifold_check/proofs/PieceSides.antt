@@ -1,20 +1,7 @@
 -- How many sides join two vertices of a part of a mesh that no edge joins to the rest: on its own faces as many as on those of the
 -- whole mesh.
-use Rattle.std.proofs.Common.{◌≡◌, ◌⊎◌, inl, inr, ℕ, ◌+◌, ◌<◌, ◌≤◌, Bool, true, false, List, [], ◌∷◌, length, get_or, take, refl, ap, sym, ◌∙◌, subst, arith, length-append}
-use Rattle.std.specs.Prelude.{All, filter, map, flat_map, sum_by}
-use Rattle.std.specs.List.{enumerate_from, range_with_len}
-use Rattle.std.proofs.lemmas.Bool.{cases_Bool, cond-true, cond-false, both_ways}
-use Rattle.std.proofs.lemmas.Bool.Decides.{nat_tests}
-use Rattle.std.proofs.lemmas.List.{length-map, ext_get_or, get_or-map}
-use Rattle.std.proofs.lemmas.List.Elements.{filter-append, All-tail}
-use Rattle.std.proofs.lemmas.List.FromFn.{length-range_with_len, get_or-range_with_len, length-map-range_with_len, get_or-map-range_with_len}
-use Rattle.std.proofs.lemmas.List.Sums.{sum_by-cons, sum_by_more_le}
-use Rattle.surf_model.specs.FaceLists.{FaceList, FaceSide, face_at, next_corner, all_sides, sides_of_face, joins, total_sides, IsFace, IsFaceList, HasFileSize}
-use Rattle.surf_model.specs.Surfaces.{sides_between}
-use Rattle.surf_model.proofs.FilterLemmas.{filter-map, filter_none}
+use Rattle.manifold_check.proofs.Common.{◌≡◌, ◌⊎◌, inl, inr, ℕ, ◌+◌, ◌<◌, ◌≤◌, Bool, true, false, List, [], ◌∷◌, length, get_or, take, refl, ap, sym, ◌∙◌, subst, arith, length-append, cases_Bool, cond-true, cond-false, both_ways, nat_tests, length-map, ext_get_or, get_or-map, filter-append, All-tail, length-range_with_len, get_or-range_with_len, length-map-range_with_len, get_or-map-range_with_len, sum_by-cons, sum_by_more_le, enumerate_from, range_with_len, All, filter, map, flat_map, sum_by, filter-map, filter_none, next_within, FaceList, FaceSide, face_at, next_corner, all_sides, sides_of_face, joins, total_sides, IsFace, IsFaceList, HasFileSize, submesh, sides_between}
 use Rattle.surf_model.proofs.NumberLemmas.{face_side}
-use Rattle.surf_model.proofs.TableLemmas.{next_within}
-use Rattle.surf_model.specs.Submeshes.{submesh}
 use Rattle.manifold_check.proofs.PieceLemmas.{IsPiece, length-submesh}
 
 -- how many sides of a ring join the two vertices

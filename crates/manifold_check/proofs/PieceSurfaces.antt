@@ -1,13 +1,5 @@
 -- A part of a mesh that no edge joins to the rest keeps the conditions of a closed manifold, and coherent signs.
-use Rattle.std.proofs.Common.{◌≡◌, ◌⊎◌, inl, inr, ℕ, ◌<◌, false, Bool, cond, List, [], ◌∷◌, length, get_or, refl, ap, sym, ◌∙◌, subst, arith}
-use Rattle.std.proofs.lemmas.List.{length-map, get_or-map}
-use Rattle.surf_model.specs.FaceLists.{FaceList}
-use Rattle.surf_model.specs.Darts.{IsSide, side_after, tail_of, head_of}
-use Rattle.surf_model.specs.Surfaces.{IsPath, AreJoined, EachEdgeHasTwoSides, ArePartners, IsCornerOfSide, IsStepAround, HasOneRing, IsClosedManifold, IsCoherent, RunOppositely, is_flipped, start_under, end_under}
-use Rattle.surf_model.specs.declared.edges.Side.{Side}
-use Rattle.surf_model.proofs.EdgeLemmas.{tail_used}
-use Rattle.surf_model.specs.Submeshes.{submesh, signs_among}
-use Rattle.connectivity.proofs.CornerLemmas.{corner_end, corner_in_mesh}
+use Rattle.manifold_check.proofs.Common.{corner_end, corner_in_mesh, ◌≡◌, ◌⊎◌, inl, inr, ℕ, ◌<◌, false, Bool, cond, List, [], ◌∷◌, length, get_or, refl, ap, sym, ◌∙◌, subst, arith, length-map, get_or-map, tail_used, IsSide, side_after, tail_of, head_of, FaceList, submesh, signs_among, IsPath, AreJoined, EachEdgeHasTwoSides, ArePartners, IsCornerOfSide, IsStepAround, HasOneRing, IsClosedManifold, IsCoherent, RunOppositely, is_flipped, start_under, end_under, Side}
 use Rattle.manifold_check.proofs.PieceLemmas.{IsPiece, IsRenamed, ComesFrom, renamed_side, named_once, renamed, comes_from_end, edge_up, used_up, length-submesh}
 use Rattle.manifold_check.proofs.PieceSides.{sides_alike}
 

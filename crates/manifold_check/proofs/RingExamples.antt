@@ -1,7 +1,5 @@
 -- Steps and rings on two small meshes.
-use Rattle.std.proofs.Common.{◌≡◌, inl, inr, ℕ, refl, ap, arith, lit<}
-use Rattle.surf_model.specs.Surfaces.{IsStepAround}
-use Rattle.surf_model.specs.declared.edges.Side.{Side}
+use Rattle.manifold_check.proofs.Common.{◌≡◌, inl, inr, ℕ, refl, ap, arith, lit<, IsStepAround, Side}
 use Rattle.surf_model.specs.Meshes.{tetrahedron}
 use Rattle.manifold_check.specs.Examples.{slit}
 

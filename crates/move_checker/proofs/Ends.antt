@@ -1,10 +1,5 @@
 -- The entries at both ends of a part that goes round a face the other way: the new part has them too.
-use Rattle.std.proofs.Common.{◌≡◌, inl, inr, ℕ, zero, suc, ◌+◌, ◌-◌, ◌<◌, ◌≤◌, Bool, not, List, [], ◌∷◌, ◌++◌, length, take, drop, get_or, refl, ap, sym, ◌∙◌, arith, append_assoc}
-use Rattle.std.specs.Prelude.{min}
-use Rattle.std.proofs.lemmas.Bool.{cases_lt}
-use Rattle.std.proofs.lemmas.List.{take_more, drop_more, get_or-take, get_or-drop}
-use Rattle.surf_model.specs.FaceLists.{next_corner, corners_from}
-use Rattle.surf_model.specs.Moves.{replaced}
+use Rattle.move_checker.proofs.Common.{◌≡◌, inl, inr, ℕ, zero, suc, ◌+◌, ◌-◌, ◌<◌, ◌≤◌, Bool, not, List, [], ◌∷◌, ◌++◌, length, take, drop, get_or, refl, ap, sym, ◌∙◌, arith, append_assoc, cases_lt, take_more, drop_more, get_or-take, get_or-drop, min, next_corner, corners_from, replaced}
 use Rattle.surf_model.proofs.RoundLemmas.{corner_after, corners_before, first_corner, last_corner, meet}
 
 -- the first entry of a part stays where it is

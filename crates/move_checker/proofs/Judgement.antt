@@ -1,11 +1,6 @@
 -- The verdict, move by move, and what it says of the walks.
-use Rattle.std.proofs.Common.{◌≡◌, ℕ, ◌+◌, ◌<◌, ◌≤◌, ◌≢◌, max, true, false, List, [], ◌∷◌, refl, ap, sym, ◌∙◌, arith, inl, inr}
-use Rattle.std.specs.Prelude.{◌↔◌, nat_le, Some, None, Ok, Err}
-use Rattle.std.proofs.lemmas.Bool.{le-leb, lt-leb, cases_lt, cases_Bool, both_ways}
-use Rattle.surf_model.specs.FaceLists.{FaceList}
-use Rattle.surf_model.specs.Walks.{darts}
-use Rattle.surf_model.specs.Moves.{PeakedMoves, apply, apply_all, Leads, greatest_darts, same_walk}
-use Rattle.surf_model.specs.declared.moves.Move.{Move}
+use Rattle.move_checker.proofs.Common.{◌≡◌, ℕ, ◌+◌, ◌<◌, ◌≤◌, ◌≢◌, max, true, false, List, [], ◌∷◌, refl, ap, sym, ◌∙◌, arith, inl, inr, le-leb, lt-leb, cases_lt, cases_Bool, both_ways, ◌↔◌, nat_le, None, Ok, Err, FaceList, PeakedMoves, apply, apply_all, Leads, greatest_darts, same_walk, darts, Move}
+use Rattle.std.specs.Prelude.{Some}
 use Rattle.move_checker.specs.Refusals.{step_of}
 use Rattle.move_checker.specs.Verdicts.{verdict_from, verdict_of}
 use Rattle.move_checker.specs.declared.fault.MoveFault.{MoveFault}

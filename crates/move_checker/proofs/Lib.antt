@@ -1,3 +1,4 @@
+pub mod Common
 pub mod Ways
 pub mod SameWalks
 pub mod Replacements

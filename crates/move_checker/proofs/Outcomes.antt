@@ -1,10 +1,6 @@
 -- What the answer of a step says in terms of the table of moves.
-use Rattle.std.proofs.Common.{◌≡◌, ℕ, ◌<◌, ◌≤◌, List, subst, sym, refl, ap, arith}
-use Rattle.std.specs.Prelude.{◌↔◌, Some, Result, Ok, Err, IsOk, OnOk, MatchResult}
-use Rattle.surf_model.specs.FaceLists.{FaceList}
-use Rattle.surf_model.specs.Walks.{darts}
-use Rattle.surf_model.specs.Moves.{apply}
-use Rattle.surf_model.specs.declared.moves.Move.{Move}
+use Rattle.move_checker.proofs.Common.{◌≡◌, ℕ, ◌<◌, ◌≤◌, List, subst, sym, refl, ap, arith, ◌↔◌, Result, Ok, Err, IsOk, OnOk, MatchResult, FaceList, apply, darts, Move}
+use Rattle.std.specs.Prelude.{Some}
 use Rattle.move_checker.specs.Refusals.{step_of}
 use Rattle.move_checker.specs.declared.fault.MoveFault.{MoveFault}
 use Rattle.move_checker.specs.declared.fault.MoveFault.TheVariants.{OverPeak}

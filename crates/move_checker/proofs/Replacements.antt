@@ -1,8 +1,5 @@
 -- A list with some entries replaced by others, by cuts and pushes.
-use Rattle.std.proofs.Common.{◌≡◌, ℕ, ◌+◌, ◌<◌, ◌≤◌, List, [], ◌∷◌, ◌++◌, length, take, drop, get_or, ap, sym, ◌∙◌, arith, append_assoc, length-append, append-nil}
-use Rattle.std.proofs.lemmas.List.{length-take-le, length-drop, take_more, drop_more, drop_at, take_at}
-use Rattle.chain_pool.specs.Chains.{inserted, cut}
-use Rattle.surf_model.specs.Moves.{replaced}
+use Rattle.move_checker.proofs.Common.{inserted, cut, ◌≡◌, ℕ, ◌+◌, ◌<◌, ◌≤◌, List, [], ◌∷◌, ◌++◌, length, take, drop, get_or, ap, sym, ◌∙◌, arith, append_assoc, length-append, append-nil, length-take-le, length-drop, take_more, drop_more, drop_at, take_at, replaced}
 
 pub length-replaced : (at n : ℕ) (others walk : List ℕ) → at + n ≤ length walk
     → length (replaced at n others walk) + n ≡ length walk + length others

@@ -1,9 +1,6 @@
 -- Tests of walks and of vertices, and what they mean.
-use Rattle.std.proofs.Common.{◌≡◌, ℕ, ◌≢◌, true, false, not, List}
-use Rattle.std.specs.Prelude.{◌==◌}
-use Rattle.std.proofs.lemmas.Bool.{not-true, not-false, eqb-true, eqb-false, false_from_ne_true}
+use Rattle.move_checker.proofs.Common.{◌≡◌, ℕ, ◌≢◌, true, false, not, List, not-true, not-false, eqb-true, eqb-false, false_from_ne_true, ◌==◌, same_walk}
 use lib.Pointwise.{bytes_decides}
-use Rattle.surf_model.specs.Moves.{same_walk}
 
 pub same_vertex : (a b : ℕ) → not (a == b) ≡ false → a ≡ b
 same_vertex a b h = eqb-true a b (not-false (a == b) h)

@@ -1,6 +1,5 @@
 -- The two sides of a chain, entry by entry against a walk.
-use Rattle.std.proofs.Common.{◌≡◌, ◌≢◌, ℕ, ◌+◌, ◌-◌, ◌<◌, ◌≤◌, List, ◌++◌, length, reverse, take, drop, get_or, ap, sym, ◌∙◌, arith, below_more}
-use Rattle.std.proofs.lemmas.List.{ext_get_or, get_or-reverse, get_or-take, get_or-drop, length-reverse, length-take-le, length-drop, drop-drop, drop-take, take-take, drop_at, take_at}
+use Rattle.move_checker.proofs.Common.{◌≡◌, ◌≢◌, ℕ, ◌+◌, ◌-◌, ◌<◌, ◌≤◌, List, ◌++◌, length, reverse, take, drop, get_or, ap, sym, ◌∙◌, arith, below_more, ext_get_or, get_or-reverse, get_or-take, get_or-drop, length-reverse, length-take-le, length-drop, drop-drop, drop-take, take-take, drop_at, take_at}
 use Rattle.std.proofs.Math.Seq.{take-add}
 
 -- so many entries were looked at, and are the walk's

@@ -1,14 +1,8 @@
 -- What a step gives, case by case.
-use Rattle.std.proofs.Common.{◌≡◌, ℕ, ◌+◌, ◌-◌, ◌<◌, ◌≤◌, ◌≢◌, Bool, true, false, not, List, [], ◌∷◌, length, take, drop, get_or, refl, inl, inr}
-use Rattle.std.specs.Prelude.{cond, ◌==◌, ◌&&◌, nat_lt, nat_le, Option, Some, None, Ok, Err}
-use Rattle.std.proofs.lemmas.Bool.{le-leb, lt-leb, cases_lt}
-use Rattle.surf_model.specs.FaceLists.{FaceList, face_at, corners_from, is_edge}
-use Rattle.surf_model.specs.Walks.{darts}
-use Rattle.surf_model.specs.Moves.{apply, replaced, same_walk}
-use Rattle.surf_model.specs.declared.moves.Move.{Move}
-use Rattle.surf_model.specs.declared.moves.Move.TheVariants.{Insert, Remove, Across}
-use Rattle.surf_model.specs.declared.names.VertexName.{VertexName}
+use Rattle.move_checker.proofs.Common.{◌≡◌, ℕ, ◌+◌, ◌-◌, ◌<◌, ◌≤◌, ◌≢◌, Bool, true, false, not, List, [], ◌∷◌, length, take, drop, get_or, refl, inl, inr, le-leb, lt-leb, cases_lt, cond, ◌==◌, ◌&&◌, nat_lt, nat_le, Option, None, Ok, Err, FaceList, face_at, corners_from, is_edge, apply, replaced, same_walk, darts, Move, Insert, Remove, Across}
+use Rattle.std.specs.Prelude.{Some}
 use Rattle.surf_model.specs.declared.names.FaceName.{FaceName}
+use Rattle.surf_model.specs.declared.names.VertexName.{VertexName}
 use Rattle.move_checker.specs.Refusals.{need, refusal, step_of}
 use Rattle.move_checker.specs.declared.fault.MoveFault.{MoveFault}
 use Rattle.move_checker.specs.declared.fault.MoveFault.TheVariants.{Place, NoEdge, NotSpur, NotOnFace, OverPeak}

@@ -1,11 +1,6 @@
 -- When each verdict comes, in the words of the mesh.
-use Rattle.std.proofs.Common.{◌≡◌, ◌≢◌, ℕ, zero, suc, ◌+◌, ◌-◌, ◌<◌, ◌≤◌, List, [], ◌∷◌, take, refl, ap, sym, ◌∙◌, subst, arith, inl, inr}
-use Rattle.std.specs.Prelude.{◌↔◌, Some, Err, slice_get}
-use Rattle.std.proofs.lemmas.Bool.{cases_lt, cases_Bool, both_ways}
-use Rattle.surf_model.specs.FaceLists.{FaceList}
-use Rattle.surf_model.specs.Walks.{darts}
-use Rattle.surf_model.specs.Moves.{PeakedMoves, apply, same_walk}
-use Rattle.surf_model.specs.declared.moves.Move.{Move}
+use Rattle.move_checker.proofs.Common.{◌≡◌, ◌≢◌, ℕ, zero, suc, ◌+◌, ◌-◌, ◌<◌, ◌≤◌, List, [], ◌∷◌, take, refl, ap, sym, ◌∙◌, subst, arith, inl, inr, cases_lt, cases_Bool, both_ways, ◌↔◌, Err, slice_get, FaceList, PeakedMoves, apply, same_walk, darts, Move}
+use Rattle.std.specs.Prelude.{Some}
 use Rattle.move_checker.specs.Refusals.{step_of}
 use Rattle.move_checker.specs.Verdicts.{verdict_from, verdict_of, LeadsWithin, IsRefusedAt, EndsElsewhere}
 use Rattle.move_checker.specs.declared.fault.MoveFault.{MoveFault}

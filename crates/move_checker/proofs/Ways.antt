@@ -1,8 +1,5 @@
 -- Ways round a face, corner by corner.
-use Rattle.std.proofs.Common.{◌≡◌, ℕ, zero, suc, ◌+◌, ◌-◌, ◌<◌, ◌≤◌, ◌≢◌, Bool, List, length, get_or, refl, ap, sym, ◌∙◌, arith, below_more, add-one}
-use Rattle.std.proofs.lemmas.List.{ext_get_or}
-use Rattle.surf_model.specs.FaceLists.{next_corner, corners_from}
-use Rattle.surf_model.proofs.ReplacementLemmas.{length-corners_from}
+use Rattle.move_checker.proofs.Common.{◌≡◌, ℕ, zero, suc, ◌+◌, ◌-◌, ◌<◌, ◌≤◌, ◌≢◌, Bool, List, length, get_or, refl, ap, sym, ◌∙◌, arith, below_more, add-one, ext_get_or, length-corners_from, next_corner, corners_from}
 
 -- a step, so many times
 abbrev pub repeated : (ℕ → ℕ) → ℕ → ℕ → ℕ

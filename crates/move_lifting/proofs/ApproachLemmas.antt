@@ -1,29 +1,5 @@
 -- The loops of spokes, as walks without spurs.
-use Rattle.std.proofs.Common.{◌≡◌, ◌⊎◌, inl, inr, ℕ, suc, ◌+◌, ◌-◌, ◌<◌, Bool, true, false, List, [], ◌∷◌, ◌++◌, length, drop, get_or, refl, ap, sym, ◌∙◌, subst, arith, append_assoc, length-append}
-use Rattle.std.specs.Prelude.{IsTrue, Some, if◌then◌else◌}
-use Rattle.std.proofs.lemmas.Bool.{cases_lt, both_ways}
-use Rattle.std.proofs.lemmas.List.{drop_more, get_or_append_left, get_or-append-add, get_or_past}
-use Rattle.surf_model.specs.FaceLists.{FaceList, is_used}
-use Rattle.surf_model.specs.Walks.{IsWalk}
-use Rattle.surf_model.specs.Moves.{apply_all}
-use Rattle.surf_model.specs.declared.moves.Move.{Move}
-use Rattle.surf_model.specs.FreeWalks.{AreFreelyEqual, HasNoSpur}
-use Rattle.surf_model.proofs.WayBackLemmas.{list_keeps_walk, list_keeps_ends}
-use Rattle.halfedge_map.specs.OrientedMeshes.{OrientedMesh, IsOrientedSurface}
-use Rattle.halfedge_map.specs.DartMaps.{darts_of, origin_of}
-use Rattle.halfedge_map.proofs.SystemLemmas.{names_all}
-use Rattle.tree_cotree.specs.Splits.{SplitView, IsSplit}
-use Rattle.polygon_cut.specs.Polygons.{PolygonView, IsCutFrom, side_at}
-use Rattle.polygon_cut.specs.SpokeLoops.{AreWaysUp, backward, by_loop, dart_loop, last_side, spoke_loop, path_loop}
-use Rattle.polygon_cut.proofs.FreeLawLemmas.{root_is, up_is, loop_list, side_in, spoke_list, path_list, backward_is}
-use Rattle.polygon_cut.proofs.CongruenceLemmas.{before, behind, home_and_there, there_and_home}
-use Rattle.polygon_cut.proofs.FreeLoopLemmas.{free_equality}
-use Rattle.polygon_cut.proofs.FreeProductLemmas.{way_end}
-use Rattle.polygon_cut.proofs.WayLemmas.{IsWay, HasWays, loop_mul, loop_inv, loop_one, back, back_back, back-append, way_home, way_on, way_walk}
-use Rattle.polygon_cut.proofs.RelatorLemmas.{spoke_product}
-use Rattle.polygon_cut.proofs.DartLoopLemmas.{value, spoke}
-use Rattle.polygon_cut.proofs.TreeWayLemmas.{up, up_path, tree_ways}
-use Rattle.polygon_cut.proofs.WalkLemmas.{walk_way, other_way}
+use Rattle.move_lifting.proofs.Common.{names_all, darts_of, origin_of, OrientedMesh, IsOrientedSurface, before, behind, home_and_there, there_and_home, value, spoke, root_is, up_is, loop_list, side_in, spoke_list, path_list, backward_is, free_equality, way_end, spoke_product, up, up_path, tree_ways, walk_way, other_way, IsWay, HasWays, loop_mul, loop_inv, loop_one, back, back_back, back-append, way_home, way_on, way_walk, PolygonView, IsCutFrom, side_at, AreWaysUp, backward, by_loop, dart_loop, last_side, spoke_loop, path_loop, ◌≡◌, ◌⊎◌, inl, inr, ℕ, suc, ◌+◌, ◌-◌, ◌<◌, Bool, true, false, List, [], ◌∷◌, ◌++◌, length, drop, get_or, refl, ap, sym, ◌∙◌, subst, arith, append_assoc, length-append, cases_lt, both_ways, drop_more, get_or_append_left, get_or-append-add, get_or_past, IsTrue, Some, if◌then◌else◌, list_keeps_walk, list_keeps_ends, FaceList, is_used, AreFreelyEqual, HasNoSpur, apply_all, IsWalk, Move, SplitView, IsSplit}
 use Rattle.move_lifting.specs.SpokeWalks.{IsSpokeWalk, AreSpokeWalks, HasWalk}
 use Rattle.move_lifting.specs.Tracks.{last_of}
 use Rattle.move_lifting.proofs.BackLemmas.{way_of}

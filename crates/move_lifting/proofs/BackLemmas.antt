@@ -1,15 +1,5 @@
 -- Ways back as lists.
-use Rattle.std.proofs.Common.{◌≡◌, inl, inr, ℕ, suc, ◌+◌, ◌-◌, ◌<◌, ◌≤◌, List, [], ◌∷◌, ◌++◌, length, take, drop, get_or, refl, ap, sym, ◌∙◌, subst, arith, append_assoc, length-append}
-use Rattle.std.proofs.lemmas.Bool.{cases_lt}
-use Rattle.std.proofs.lemmas.List.{append-nil, get_or_append_left, get_or-append-add, get_or-drop, get_or-take, take_more, take-take, take-append-drop, drop_more, drop-drop, drop-map, drop-append-le, length-drop, length-take-le}
-use Rattle.surf_model.specs.FaceLists.{FaceList}
-use Rattle.surf_model.specs.Vertices.{numbers}
-use Rattle.surf_model.specs.Walks.{IsWalk}
-use Rattle.surf_model.specs.declared.names.VertexName.{VertexName}
-use Rattle.polygon_cut.specs.SpokeLoops.{backward}
-use Rattle.polygon_cut.proofs.WayLemmas.{IsWay, back, start_used}
-use Rattle.polygon_cut.proofs.WalkLemmas.{walk_way}
-use Rattle.common_ends.proofs.TrimLemmas.{last_entry}
+use Rattle.move_lifting.proofs.Common.{last_entry, walk_way, IsWay, back, start_used, backward, ◌≡◌, inl, inr, ℕ, suc, ◌+◌, ◌-◌, ◌<◌, ◌≤◌, List, [], ◌∷◌, ◌++◌, length, take, drop, get_or, refl, ap, sym, ◌∙◌, subst, arith, append_assoc, length-append, cases_lt, append-nil, get_or_append_left, get_or-append-add, get_or-drop, get_or-take, take_more, take-take, take-append-drop, drop_more, drop-drop, drop-map, drop-append-le, length-drop, length-take-le, FaceList, numbers, IsWalk, VertexName}
 use Rattle.move_lifting.specs.Tracks.{last_of}
 use Rattle.move_lifting.proofs.ExpandLemmas.{one_pending, length-numbers}
 

@@ -1,14 +1,6 @@
 -- How long a walk gets on the way off the cotree, and how great the peak, in numbers of darts.
-use Rattle.std.proofs.Common.{◌≡◌, ℕ, ◌+◌, ◌*◌, ◌-◌, ◌<◌, ◌≤◌, max, List, [], ◌∷◌, length, sym, ap, subst, arith}
-use Rattle.std.proofs.Math.Nat.{mul-le-mul_left, mul-le-mul_right}
-use Rattle.std.proofs.lemmas.List.Sums.{get_or-le-sum_by}
+use Rattle.move_lifting.proofs.Common.{dart_between, darts_of, OrientedMesh, IsOrientedSurface, ◌≡◌, ℕ, ◌+◌, ◌*◌, ◌-◌, ◌<◌, ◌≤◌, max, List, [], ◌∷◌, length, sym, ap, subst, arith, mul-le-mul_left, mul-le-mul_right, get_or-le-sum_by, PeakedMoves, IsWalk, darts, SplitView, IsSplit}
 use Rattle.std.proofs.lemmas.Nat.{mul-le}
-use Rattle.surf_model.specs.Moves.{PeakedMoves}
-use Rattle.surf_model.specs.Walks.{IsWalk, darts}
-use Rattle.halfedge_map.specs.OrientedMeshes.{OrientedMesh, IsOrientedSurface}
-use Rattle.halfedge_map.specs.DartMaps.{darts_of}
-use Rattle.halfedge_map.proofs.EdgeLemmas.{dart_between}
-use Rattle.tree_cotree.specs.Splits.{SplitView, IsSplit}
 use Rattle.move_lifting.specs.Loads.{load_of, AreWeights, StaysWithin}
 use Rattle.move_lifting.specs.declared.expanding.TheConstants.{MOST_LIFTED_SIDES, MOST_LIFTED_DARTS, MOST_LOW_PEAK, MOST_SHORT_MOVES}
 use Rattle.move_lifting.proofs.ExpandLemmas.{IsRest, rest_of_step}

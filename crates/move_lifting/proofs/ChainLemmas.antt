@@ -1,13 +1,9 @@
 -- A walk as the list of a chain that is alone in its pool.
-use Rattle.std.proofs.Common.{◌≡◌, ◌≢◌, inl, inr, refl, ℕ, zero, suc, ◌+◌, ◌<◌, ◌≤◌, ◌^◌, max, List, [], ◌∷◌, ◌++◌, length, take, drop, set, is_some, Option, Some, None, ap, sym, ◌∙◌, subst, arith, append_assoc, length-append}
-use mathlib.Core.Bool.{true≢false}
-use Rattle.std.specs.Prelude.{Result, Ok, Err, OnOk, OnErr}
-use Rattle.std.proofs.lemmas.List.{length-take-le, length-drop, get_or-set_other}
-use Rattle.std.proofs.lemmas.Bool.{cases_eq}
-use Rattle.chain_pool.specs.Chains.{Chains, under, IsUnder, IsEdit, IsAlike, list_of, cells_of, cells_in, inserted, cut, spliced}
-use Rattle.chain_pool.specs.declared.cells.CellName.{CellName}
+use Rattle.move_lifting.proofs.Common.{Chains, under, IsUnder, IsEdit, IsAlike, list_of, cells_of, cells_in, inserted, cut, spliced, ◌≡◌, ◌≢◌, inl, inr, refl, ℕ, zero, suc, ◌+◌, ◌<◌, ◌≤◌, ◌^◌, max, List, [], ◌∷◌, ◌++◌, length, take, drop, set, is_some, ap, sym, ◌∙◌, subst, arith, append_assoc, length-append, cases_eq, length-take-le, length-drop, get_or-set_other, Result, Ok, Err, OnOk, OnErr, true≢false}
 use Rattle.chain_pool.proofs.Lists.{list_under-is, list_is, edit_twice}
 use Rattle.chain_pool.proofs.Lookups.{cells_in-edit, cells_in-alike}
+use Rattle.chain_pool.specs.declared.cells.CellName.{CellName}
+use Rattle.std.proofs.Common.{Option, Some, None}
 use Rattle.move_lifting.specs.PooledWalks.{IsAlone, IsPushed}
 
 pub live_from : (lists : List (Option (List ℕ))) (name : ℕ) (list : List ℕ) → under lists name ≡ Some list → IsUnder lists name

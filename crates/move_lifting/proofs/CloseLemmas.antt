@@ -1,12 +1,5 @@
 -- The second walk comes behind the first, backward and forward.
-use Rattle.std.proofs.Common.{◌≡◌, ℕ, ◌+◌, ◌-◌, ◌<◌, ◌≤◌, max, true, List, [], ◌∷◌, ◌++◌, length, drop, get_or, ap, sym, ◌∙◌, subst, arith}
-use Rattle.std.proofs.lemmas.List.{drop_more, length-drop}
-use Rattle.surf_model.specs.FaceLists.{FaceList, is_edge}
-use Rattle.surf_model.specs.Walks.{IsWalk}
-use Rattle.surf_model.specs.Moves.{PeakedMoves}
-use Rattle.surf_model.specs.declared.moves.Move.TheVariants.{Insert}
-use Rattle.surf_model.specs.declared.names.VertexName.{VertexName}
-use Rattle.surf_model.proofs.EdgeLemmas.{edge_swap}
+use Rattle.move_lifting.proofs.Common.{◌≡◌, ℕ, ◌+◌, ◌-◌, ◌<◌, ◌≤◌, max, true, List, [], ◌∷◌, ◌++◌, length, drop, get_or, ap, sym, ◌∙◌, subst, arith, drop_more, length-drop, edge_swap, FaceList, is_edge, PeakedMoves, IsWalk, Insert, VertexName}
 use Rattle.move_lifting.specs.Lifts.{LeadsAtPeak}
 use Rattle.move_lifting.specs.Tracks.{last_of}
 use Rattle.move_lifting.proofs.InsertLemmas.{spur_in_last}

@@ -1,27 +1,6 @@
 -- A closed walk that follows the steps on its spokes, and what holds on the way.
-use Rattle.std.proofs.Common.{◌≡◌, ◌≢◌, ◌⊎◌, inl, inr, ℕ, ◌+◌, ◌-◌, ◌<◌, ◌≤◌, Bool, true, false, not, List, [], ◌∷◌, length, get_or, take, drop, ap, sym, ◌∙◌, subst, arith, Some}
-use Rattle.std.specs.Prelude.{if◌then◌else◌, ◌==◌, slice_index, All, option_and_then, Result, Ok, Err, IfOk}
-use Rattle.std.proofs.lemmas.Bool.{cases_eq, eq-eqb, ne_eqb}
-use Rattle.std.proofs.lemmas.List.{drop_more, drop_all}
-use Rattle.std.proofs.lemmas.List.Elements.{All-append, All-nil, All-cons, All-take}
-use Rattle.surf_model.specs.FreeWalks.{HasNoSpur}
-use Rattle.surf_model.specs.Walks.{IsWalk}
-use Rattle.surf_model.proofs.WayBackLemmas.{list_keeps_ends}
-use Rattle.halfedge_map.specs.OrientedMeshes.{OrientedMesh, IsOrientedSurface}
-use Rattle.halfedge_map.specs.RotationSystems.{rotations_of}
-use Rattle.halfedge_map.proofs.SystemLemmas.{rotation_system}
-use Rattle.tree_cotree.specs.SpanningTrees.{after_dart}
-use Rattle.tree_cotree.specs.Splits.{SplitView, IsSplit, in_cotree, is_left}
-use Rattle.turn_words.specs.FormLaws.{IsQuad}
-use Rattle.polygon_cut.specs.Polygons.{PolygonView, IsCutFrom, across}
-use Rattle.polygon_cut.specs.SpokeLoops.{AreWaysUp, by_loop, path_loop, put_behind}
-use Rattle.polygon_cut.proofs.PlaceLemmas.{Crosses, sides_cross}
-use Rattle.polygon_cut.proofs.TreeWayLemmas.{up, up_path}
-use Rattle.spoke_paths.specs.PathSteps.{after_path_step, after_path_steps, PathLeads}
-use Rattle.spoke_paths.specs.PathTurns.{from_vertex}
-use Rattle.spoke_paths.specs.declared.step.PathStep.{PathStep}
-use Rattle.spoke_paths.specs.declared.step.PathStep.TheVariants.{Spur, Turn}
-use Rattle.spoke_paths.proofs.StepsKeep.{later-is, spokes-stay-below}
+use Rattle.move_lifting.proofs.Common.{rotation_system, OrientedMesh, IsOrientedSurface, rotations_of, Crosses, sides_cross, up, up_path, PolygonView, IsCutFrom, across, AreWaysUp, by_loop, path_loop, put_behind, later-is, spokes-stay-below, after_path_step, after_path_steps, PathLeads, from_vertex, PathStep, Spur, Turn, ◌≡◌, ◌≢◌, ◌⊎◌, inl, inr, ℕ, ◌+◌, ◌-◌, ◌<◌, ◌≤◌, Bool, true, false, not, List, [], ◌∷◌, length, get_or, take, drop, ap, sym, ◌∙◌, subst, arith, cases_eq, eq-eqb, ne_eqb, drop_more, drop_all, All-append, All-nil, All-cons, All-take, if◌then◌else◌, ◌==◌, slice_index, All, option_and_then, Result, Ok, Err, IfOk, list_keeps_ends, HasNoSpur, IsWalk, after_dart, SplitView, IsSplit, in_cotree, is_left, IsQuad}
+use Rattle.std.proofs.Common.{Some}
 use Rattle.move_lifting.specs.Contractions.{IsLedFrom}
 use Rattle.move_lifting.specs.LoopFronts.{spokes_in_front}
 use Rattle.move_lifting.specs.LoopsPutIn.{signed_loop, IsFreelyPath, HasLoopIn}

@@ -1,7 +1,5 @@
 -- Counts of tests that no number passes twice.
-use Rattle.std.proofs.Common.{◌≡◌, ◌≢◌, inl, inr, ℕ, zero, suc, ◌+◌, ◌<◌, ◌≤◌, Bool, true, false, not, ◌&&◌, eqb, cond, refl, ap, sym, ◌∙◌, arith}
-use Rattle.std.proofs.lemmas.Bool.{cases_Bool, cases_eq, both_ways, eqb-true, eq-eqb}
-use Rattle.surf_model.specs.Numbers.{count_below}
+use Rattle.move_lifting.proofs.Common.{◌≡◌, ◌≢◌, inl, inr, ℕ, zero, suc, ◌+◌, ◌<◌, ◌≤◌, Bool, true, false, not, ◌&&◌, eqb, cond, refl, ap, sym, ◌∙◌, arith, cases_Bool, cases_eq, both_ways, eqb-true, eq-eqb, count_below}
 use Rattle.tree_cotree.proofs.ClassLemmas.{count_less}
 
 -- the first n values together

@@ -1,28 +1,9 @@
 -- The step across the face below a cotree edge, and the vertices of the rest of the face.
-use Rattle.std.proofs.Common.{◌≡◌, ◌⊎◌, inl, inr, ℕ, zero, suc, ◌+◌, ◌-◌, ◌<◌, Bool, true, false, List, [], ◌∷◌, ◌++◌, length, get_or, refl, ap, sym, ◌∙◌, subst, arith, append_assoc, length-append}
-use Rattle.std.specs.Prelude.{Some, None}
-use Rattle.std.proofs.lemmas.List.{map-append, length-map}
-use Rattle.surf_model.specs.FaceLists.{FaceList, face_at, next_corner}
-use Rattle.surf_model.specs.Darts.{IsSide, side_number}
-use Rattle.surf_model.specs.Vertices.{numbers}
-use Rattle.surf_model.specs.declared.edges.Side.{Side}
-use Rattle.surf_model.specs.declared.names.VertexName.{VertexName}
-use Rattle.surf_model.proofs.RoundLemmas.{corner_after, corners_before}
-use Rattle.surf_model.proofs.EdgeLemmas.{step_within}
+use Rattle.move_lifting.proofs.Common.{corner_back, face_at_number, vertex_at, IsNumberOf, rotation_system, names_all, origin-twin, darts_of, twin_of, origin_of, target_of, edge_of, face_of, OrientedMesh, IsOrientedSurface, rotations_of, IsRotationSystem, IsDartFrom, ◌≡◌, ◌⊎◌, inl, inr, ℕ, zero, suc, ◌+◌, ◌-◌, ◌<◌, Bool, true, false, List, [], ◌∷◌, ◌++◌, length, get_or, refl, ap, sym, ◌∙◌, subst, arith, append_assoc, length-append, map-append, length-map, Some, None, step_within, corner_after, corners_before, IsSide, side_number, FaceList, face_at, next_corner, numbers, Side, VertexName, SplitView, IsSplit, below_edge, in_cotree, after_more}
 use Rattle.surf_model.proofs.PartnerLemmas.{ends_agree}
-use Rattle.halfedge_map.specs.OrientedMeshes.{OrientedMesh, IsOrientedSurface}
-use Rattle.halfedge_map.specs.DartMaps.{darts_of, twin_of, origin_of, target_of, edge_of, face_of}
-use Rattle.halfedge_map.specs.RotationSystems.{rotations_of, IsRotationSystem, IsDartFrom}
-use Rattle.halfedge_map.proofs.NumberLemmas.{IsNumberOf}
-use Rattle.halfedge_map.proofs.CornerLemmas.{corner_back}
-use Rattle.halfedge_map.proofs.DartLemmas.{face_at_number, vertex_at}
-use Rattle.halfedge_map.proofs.TwinLemmas.{origin-twin}
-use Rattle.halfedge_map.proofs.SystemLemmas.{rotation_system, names_all}
-use Rattle.tree_cotree.specs.Splits.{SplitView, IsSplit, below_edge, in_cotree}
 use Rattle.move_lifting.specs.Crossings.{beyond, GoesAlong, IsOneIn, IsFaceBelow}
 use Rattle.move_lifting.specs.declared.crossing.FaceStep.{FaceStep}
 use Rattle.move_lifting.proofs.RestLemmas.{side_ends}
-use Rattle.walk_actions.proofs.Corners.{after_more}
 
 -- one corner more before the last
 pub before-suc : (ring : List ℕ) (rising : Bool) (t k : ℕ)

@@ -1,26 +1,5 @@
 -- A walk that is led off the cotree, step by step: what holds on the way.
-use Rattle.std.proofs.Common.{◌≡◌, inl, inr, ℕ, suc, ◌+◌, ◌-◌, ◌<◌, ◌≤◌, Bool, true, false, not, max, List, [], ◌∷◌, ◌++◌, length, take, drop, get_or, refl, ap, sym, ◌∙◌, subst, arith, append_assoc, length-append}
-use Rattle.std.specs.Prelude.{Some, reverse}
-use Rattle.std.proofs.lemmas.Bool.{cases_lt}
-use Rattle.std.proofs.lemmas.List.{map-append, length-map, drop_more, drop_all, length-drop, append-nil, reverse-append, length-reverse, get_or-map, get_or-append-add, get_or_append_left}
-use Rattle.surf_model.specs.FaceLists.{FaceList, face_at, next_corner, corners_from, is_edge, IsFaceList, IsFace}
-use Rattle.surf_model.specs.FreeWalks.{HasNoSpur}
-use Rattle.surf_model.specs.Walks.{IsWalk, darts}
-use Rattle.surf_model.specs.Moves.{PeakedMoves, apply}
-use Rattle.surf_model.specs.declared.moves.Move.TheVariants.{Across}
-use Rattle.surf_model.specs.Vertices.{numbers}
-use Rattle.surf_model.specs.declared.names.VertexName.{VertexName}
-use Rattle.surf_model.proofs.ReplacementLemmas.{by_replacing, length-corners_from}
-use Rattle.surf_model.proofs.RoundLemmas.{corner_after, corners_before, last_corner}
-use Rattle.surf_model.proofs.LinkLemmas.{Linked, together, round_linked}
-use Rattle.halfedge_map.specs.OrientedMeshes.{OrientedMesh, IsOrientedSurface}
-use Rattle.halfedge_map.specs.DartMaps.{darts_of, edge_of}
-use Rattle.halfedge_map.specs.RotationSystems.{rotations_of, IsDartFrom}
-use Rattle.halfedge_map.proofs.EdgeLemmas.{dart_between}
-use Rattle.tree_cotree.specs.Splits.{SplitView, IsSplit, in_cotree}
-use Rattle.common_ends.proofs.PeakLemmas.{one_more, leads_nowhere}
-use Rattle.common_ends.proofs.TrimLemmas.{last_entry}
-use Rattle.polygon_cut.specs.SpokeLoops.{IsOffCotree}
+use Rattle.move_lifting.proofs.Common.{one_more, leads_nowhere, last_entry, dart_between, darts_of, edge_of, OrientedMesh, IsOrientedSurface, rotations_of, IsDartFrom, IsOffCotree, ◌≡◌, inl, inr, ℕ, suc, ◌+◌, ◌-◌, ◌<◌, ◌≤◌, Bool, true, false, not, max, List, [], ◌∷◌, ◌++◌, length, take, drop, get_or, refl, ap, sym, ◌∙◌, subst, arith, append_assoc, length-append, cases_lt, map-append, length-map, drop_more, drop_all, length-drop, append-nil, reverse-append, length-reverse, get_or-map, get_or-append-add, get_or_append_left, Some, reverse, Linked, together, round_linked, by_replacing, length-corners_from, corner_after, corners_before, last_corner, FaceList, face_at, next_corner, corners_from, is_edge, IsFaceList, IsFace, HasNoSpur, PeakedMoves, apply, numbers, IsWalk, darts, Across, VertexName, SplitView, IsSplit, in_cotree}
 use Rattle.move_lifting.specs.Lifts.{LeadsAtPeak, MoreRemove, MoreLeaveCotree}
 use Rattle.move_lifting.specs.Loads.{load_of, StaysWithin}
 use Rattle.move_lifting.specs.Tracks.{TrackView, GoesOn, GrowsOrShrinks, last_of}

@@ -1,11 +1,5 @@
 -- The tree of the faces: each face hangs below the face across its parent edge. What hangs below a cotree edge, counted in darts.
-use Rattle.std.proofs.Common.{◌≡◌, ◌⊎◌, inl, inr, ℕ, suc, ◌<◌, ◌≤◌, Bool, true, false, ◌||◌, eqb, List, [], ◌∷◌, length, refl, ap, sym, ◌∙◌, subst, arith}
-use Rattle.std.proofs.lemmas.Bool.{cases_lt, both_ways, eqb-true, eq-eqb, or_cases, or_left, or_right}
-use Rattle.surf_model.specs.Surfaces.{IsPath}
-use Rattle.halfedge_map.specs.OrientedMeshes.{OrientedMesh, IsOrientedSurface}
-use Rattle.halfedge_map.specs.RotationSystems.{Rotations, rotations_of, IsRotationSystem}
-use Rattle.halfedge_map.proofs.SystemLemmas.{rotation_system, names_all}
-use Rattle.tree_cotree.specs.Splits.{SplitView, IsSplit, StepsUp}
+use Rattle.move_lifting.proofs.Common.{rotation_system, names_all, OrientedMesh, IsOrientedSurface, Rotations, rotations_of, IsRotationSystem, ◌≡◌, ◌⊎◌, inl, inr, ℕ, suc, ◌<◌, ◌≤◌, Bool, true, false, ◌||◌, eqb, List, [], ◌∷◌, length, refl, ap, sym, ◌∙◌, subst, arith, cases_lt, both_ways, eqb-true, eq-eqb, or_cases, or_left, or_right, IsPath, SplitView, IsSplit, StepsUp}
 
 -- a list names a number
 abbrev pub names : ℕ → List ℕ → Bool

@@ -1,46 +1,23 @@
 -- The walk along one of two homotopic walks and back along the other leads each form back to where it starts, so that nothing is left
 -- of its
 -- spokes; and a walk whose spokes are gone goes nowhere.
-use Rattle.std.proofs.Common.{◌≡◌, ◌⊎◌, inl, inr, ℕ, suc, ◌-◌, ◌<◌, ◌≤◌, true, List, [], ◌∷◌, ◌++◌, length, drop, take, ap, sym, ◌∙◌, subst, arith, append_assoc}
-use Rattle.std.specs.Prelude.{All, slice_index}
-use Rattle.std.proofs.lemmas.Bool.{cases_lt}
-use Rattle.std.proofs.lemmas.List.{drop_more}
-use Rattle.surf_model.specs.FaceLists.{is_used}
-use Rattle.surf_model.specs.FreeWalks.{AreFreelyEqual, HasNoSpur}
-use Rattle.surf_model.specs.Walks.{IsWalk}
-use Rattle.surf_model.specs.Moves.{Homotopic}
-use Rattle.surf_model.proofs.FreeWalkLemmas.{one_reduced_walk}
-use Rattle.halfedge_map.specs.OrientedMeshes.{OrientedMesh, IsOrientedSurface}
-use Rattle.turn_words.specs.FormLaws.{led}
+use Rattle.move_lifting.proofs.Common.{last_entry, OrientedMesh, IsOrientedSurface, there_and_home, backward_is, free_equality, up, tree_ways, up_path, IsWay, PolygonView, IsCutFrom, HaveFreeSpokes, spokes_along, backward, free_walk_leads, free_walk_below, PathLeads, PathStep, ◌≡◌, ◌⊎◌, inl, inr, ℕ, suc, ◌-◌, ◌<◌, ◌≤◌, true, List, [], ◌∷◌, ◌++◌, length, drop, take, ap, sym, ◌∙◌, subst, arith, append_assoc, cases_lt, drop_more, All, slice_index, one_reduced_walk, is_used, AreFreelyEqual, HasNoSpur, Homotopic, IsWalk, SplitView, IsSplit, led}
+use Rattle.flat_forms.specs.FlatStates.{IsFlatWheel, flat_next, IsEven as IsEvenPoint}
+use Rattle.flat_forms.specs.Lemmas.FlatLaws.{flat_starts, flat_stays, flat_there_and_back, flat_across}
+use Rattle.flat_forms.specs.Vectors.{origin}
+use Rattle.labellings.proofs.FoldLemmas.{PutLaws, run, run_on}
+use Rattle.labellings.proofs.KeepingLemmas.{moves_keep, run_ready}
+use Rattle.labellings.proofs.WalkWordLemmas.{quad_path_below, hyper_wheel_of_good, flat_wheel_of_good}
+use Rattle.labellings.specs.GoodLabellings.{IsGood}
+use Rattle.labellings.specs.Labellings.{LabellingView}
+use Rattle.labellings.specs.QuadPaths.{quad_path}
+use Rattle.quad_system.proofs.PolygonLabelLemmas.{polygon_good}
+use Rattle.quad_system.specs.PolygonLabellings.{labelling_from}
+use Rattle.spoke_paths.proofs.LeavingNothing.{turns-leave, flat-leave}
+use Rattle.spoke_paths.specs.ReducedWords.{IsReduced}
 use Rattle.turn_words.specs.HyperStates.{HyperState, IsHyperWheel, BelongsTo, IsEven, empty_state, hyper_next}
 use Rattle.turn_words.specs.Lemmas.HyperLaws.{hyper_starts, hyper_stays, hyper_there_and_back, hyper_across}
 use Rattle.turn_words.specs.SpokePaths.{turn_word_of}
-use Rattle.flat_forms.specs.Vectors.{origin}
-use Rattle.flat_forms.specs.FlatStates.{IsFlatWheel, flat_next}
-use Rattle.flat_forms.specs.FlatStates.{IsEven as IsEvenPoint}
-use Rattle.flat_forms.specs.Lemmas.FlatLaws.{flat_starts, flat_stays, flat_there_and_back, flat_across}
-use Rattle.tree_cotree.specs.Splits.{SplitView, IsSplit}
-use Rattle.polygon_cut.specs.Polygons.{PolygonView, IsCutFrom}
-use Rattle.polygon_cut.specs.SpokeLoops.{HaveFreeSpokes, spokes_along, backward}
-use Rattle.polygon_cut.proofs.WayLemmas.{IsWay}
-use Rattle.polygon_cut.proofs.CongruenceLemmas.{there_and_home}
-use Rattle.polygon_cut.proofs.FreeLoopLemmas.{free_equality}
-use Rattle.polygon_cut.proofs.FreeLawLemmas.{backward_is}
-use Rattle.polygon_cut.proofs.TreeWayLemmas.{up, tree_ways, up_path}
-use Rattle.labellings.specs.Labellings.{LabellingView}
-use Rattle.labellings.specs.GoodLabellings.{IsGood}
-use Rattle.labellings.specs.QuadPaths.{quad_path}
-use Rattle.quad_system.specs.PolygonLabellings.{labelling_from}
-use Rattle.labellings.proofs.FoldLemmas.{PutLaws, run, run_on}
-use Rattle.quad_system.proofs.FreePathLemmas.{free_walk_leads, free_walk_below}
-use Rattle.labellings.proofs.KeepingLemmas.{moves_keep, run_ready}
-use Rattle.quad_system.proofs.PolygonLabelLemmas.{polygon_good}
-use Rattle.labellings.proofs.WalkWordLemmas.{quad_path_below, hyper_wheel_of_good, flat_wheel_of_good}
-use Rattle.spoke_paths.specs.PathSteps.{PathLeads}
-use Rattle.spoke_paths.specs.ReducedWords.{IsReduced}
-use Rattle.spoke_paths.specs.declared.step.PathStep.{PathStep}
-use Rattle.spoke_paths.proofs.LeavingNothing.{turns-leave, flat-leave}
-use Rattle.common_ends.proofs.TrimLemmas.{last_entry}
 use Rattle.move_lifting.specs.LoopsPutIn.{IsFreelyPath}
 use Rattle.move_lifting.specs.Tracks.{last_of}
 

@@ -1,13 +1,5 @@
 -- Spurs that are taken out of a walk in place: what stands in front has none, and the rest is as it was.
-use Rattle.std.proofs.Common.{◌≡◌, inr, refl, ℕ, ◌+◌, ◌-◌, ◌<◌, ◌≤◌, max, List, [], ◌∷◌, ◌++◌, length, take, drop, get_or, ap, sym, ◌∙◌, subst, arith, length-append}
-use Rattle.std.proofs.lemmas.List.{take_more, take_all, drop_all, length-take-le, length-drop, get_or-take, get_or-drop, take-append-le, drop-append-le, drop-drop}
-use Rattle.chain_pool.specs.Chains.{cut}
-use Rattle.surf_model.specs.FaceLists.{FaceList}
-use Rattle.surf_model.specs.FreeWalks.{AreFreelyEqual, HasNoSpur}
-use Rattle.surf_model.specs.Moves.{PeakedMoves}
-use Rattle.surf_model.specs.Walks.{darts}
-use Rattle.surf_model.specs.declared.moves.Move.TheVariants.{Remove}
-use Rattle.surf_model.specs.declared.names.VertexName.{VertexName}
+use Rattle.move_lifting.proofs.Common.{cut, ◌≡◌, inr, refl, ℕ, ◌+◌, ◌-◌, ◌<◌, ◌≤◌, max, List, [], ◌∷◌, ◌++◌, length, take, drop, get_or, ap, sym, ◌∙◌, subst, arith, length-append, take_more, take_all, drop_all, length-take-le, length-drop, get_or-take, get_or-drop, take-append-le, drop-append-le, drop-drop, FaceList, AreFreelyEqual, HasNoSpur, PeakedMoves, darts, Remove, VertexName}
 use Rattle.move_lifting.specs.Tracks.{TrackView, GoesOn, IsStepBack, IsNextPut, last_of}
 use Rattle.move_lifting.proofs.MoveLemmas.{step_back_goes, step_back_no_spur}
 use Rattle.move_lifting.proofs.SpurLemmas.{IsReducedSoFar, reduced_first, reduced_more, reduced_all}

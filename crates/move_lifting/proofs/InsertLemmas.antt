@@ -1,17 +1,5 @@
 -- A spur put in at the end of what is laid of a walk, and a list of moves done further on in a walk.
-use Rattle.std.proofs.Common.{◌≡◌, ℕ, ◌+◌, ◌-◌, ◌<◌, max, true, List, [], ◌∷◌, ◌++◌, length, take, refl, ap, sym, ◌∙◌, subst, arith, append_assoc, length-append}
-use Rattle.std.specs.Prelude.{Some}
-use Rattle.std.proofs.lemmas.List.{append-nil}
-use Rattle.surf_model.specs.FaceLists.{FaceList, is_edge}
-use Rattle.surf_model.specs.Walks.{darts}
-use Rattle.surf_model.specs.Moves.{PeakedMoves, apply_all, greatest_darts}
-use Rattle.surf_model.specs.Rewriting.{all_raised}
-use Rattle.surf_model.specs.declared.moves.Move.{Move}
-use Rattle.surf_model.specs.declared.moves.Move.TheVariants.{Insert}
-use Rattle.surf_model.specs.declared.names.VertexName.{VertexName}
-use Rattle.surf_model.proofs.ContextLemmas.{one_after_another, list_in_context}
-use Rattle.common_ends.proofs.PeakLemmas.{spur_comes, one_more, greatest_raised, greatest_both}
-use Rattle.common_ends.proofs.TrimLemmas.{last_entry}
+use Rattle.move_lifting.proofs.Common.{spur_comes, one_more, greatest_raised, greatest_both, last_entry, ◌≡◌, ℕ, ◌+◌, ◌-◌, ◌<◌, max, true, List, [], ◌∷◌, ◌++◌, length, take, refl, ap, sym, ◌∙◌, subst, arith, append_assoc, length-append, append-nil, Some, one_after_another, list_in_context, FaceList, is_edge, PeakedMoves, apply_all, greatest_darts, all_raised, darts, Move, Insert, VertexName}
 use Rattle.move_lifting.specs.Lifts.{LeadsAtPeak}
 use Rattle.move_lifting.specs.Tracks.{last_of}
 

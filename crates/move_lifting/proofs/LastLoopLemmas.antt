@@ -1,41 +1,5 @@
 -- All round the root face from the last side, in either direction.
-use Rattle.std.proofs.Common.{◌≡◌, inl, inr, ℕ, suc, ◌+◌, ◌-◌, ◌<◌, ◌≤◌, Bool, true, false, not, max, List, [], ◌∷◌, ◌++◌, length, drop, get_or, refl, ap, sym, ◌∙◌, subst, arith, ◌⊎◌}
-use mathlib.Core.Bool.{beq}
-use Rattle.std.specs.Prelude.{Some, IsTrue, if◌then◌else◌}
-use Rattle.std.proofs.lemmas.List.{append-nil}
-use Rattle.std.proofs.lemmas.List.Sums.{get_or-le-sum_by}
-use Rattle.surf_model.specs.FaceLists.{FaceList, face_at, next_corner, corners_from, is_used}
-use Rattle.surf_model.specs.Darts.{IsSide, side_number}
-use Rattle.surf_model.specs.FreeWalks.{AreFreelyEqual}
-use Rattle.surf_model.specs.Surfaces.{is_flipped}
-use Rattle.surf_model.specs.Vertices.{numbers}
-use Rattle.surf_model.specs.Walks.{IsWalk, darts}
-use Rattle.surf_model.specs.Moves.{PeakedMoves, apply, apply_all}
-use Rattle.surf_model.specs.declared.edges.Side.{Side}
-use Rattle.surf_model.specs.declared.moves.Move.{Move}
-use Rattle.surf_model.specs.declared.moves.Move.TheVariants.{Across}
-use Rattle.surf_model.specs.declared.names.FaceName.{FaceName}
-use Rattle.surf_model.specs.declared.names.VertexName.{VertexName}
-use Rattle.surf_model.proofs.ContextLemmas.{first_answer}
-use Rattle.surf_model.proofs.LinkLemmas.{walk_from, all_more, none_yet}
-use Rattle.surf_model.proofs.ReplacementLemmas.{by_replacing, length-corners_from}
-use Rattle.surf_model.proofs.RoundLemmas.{corner_after, corners_before, last_corner}
-use Rattle.surf_model.proofs.WayBackLemmas.{keeps_walk}
-use Rattle.halfedge_map.specs.OrientedMeshes.{OrientedMesh, IsOrientedSurface}
-use Rattle.halfedge_map.specs.DartMaps.{darts_of, face_of, origin_of, start_corner_of}
-use Rattle.halfedge_map.proofs.NumberLemmas.{IsNumberOf}
-use Rattle.halfedge_map.proofs.DartLemmas.{face_at_number, start_kept, start_flipped}
-use Rattle.halfedge_map.proofs.SystemLemmas.{names_all}
-use Rattle.tree_cotree.specs.Splits.{SplitView, IsSplit}
-use Rattle.polygon_cut.specs.Polygons.{PolygonView, IsCutFrom}
-use Rattle.polygon_cut.specs.SpokeLoops.{AreWaysUp, backward, by_loop, last_side, way_round, way_back_round, IsOffCotree}
-use Rattle.walk_actions.proofs.Corners.{once_round}
-use Rattle.polygon_cut.proofs.FaceRoundLemmas.{at_face}
-use Rattle.polygon_cut.proofs.FreeLawLemmas.{backward_is, side_in, led_round, led_back_round}
-use Rattle.walk_actions.proofs.Runs.{end_from as end_of}
-use Rattle.polygon_cut.proofs.FreeRoundLemmas.{read_back}
-use Rattle.polygon_cut.proofs.WayLemmas.{back}
-use Rattle.common_ends.proofs.PeakLemmas.{leads_nowhere, one_more}
+use Rattle.move_lifting.proofs.Common.{leads_nowhere, one_more, face_at_number, start_kept, start_flipped, IsNumberOf, names_all, darts_of, face_of, origin_of, start_corner_of, OrientedMesh, IsOrientedSurface, at_face, backward_is, side_in, led_round, led_back_round, read_back, back, PolygonView, IsCutFrom, AreWaysUp, backward, by_loop, last_side, way_round, way_back_round, IsOffCotree, ◌≡◌, inl, inr, ℕ, suc, ◌+◌, ◌-◌, ◌<◌, ◌≤◌, Bool, true, false, not, max, List, [], ◌∷◌, ◌++◌, length, drop, get_or, refl, ap, sym, ◌∙◌, subst, arith, ◌⊎◌, append-nil, get_or-le-sum_by, Some, IsTrue, if◌then◌else◌, first_answer, walk_from, all_more, none_yet, by_replacing, length-corners_from, corner_after, corners_before, last_corner, keeps_walk, IsSide, side_number, FaceList, face_at, next_corner, corners_from, is_used, AreFreelyEqual, PeakedMoves, apply, apply_all, is_flipped, numbers, IsWalk, darts, Side, Move, Across, FaceName, VertexName, SplitView, IsSplit, once_round, end_from as end_of, beq}
 use Rattle.move_lifting.specs.Crossings.{IsStepOf, IsStepFrom}
 use Rattle.move_lifting.specs.Lifts.{LeadsAtPeak, MoreLeaveCotree}
 use Rattle.move_lifting.specs.Loads.{load_of}

@@ -1,11 +1,5 @@
 -- Walks laid without spurs, up to spurs.
-use Rattle.std.proofs.Common.{◌≡◌, ◌≢◌, inr, ℕ, ◌+◌, ◌-◌, ◌<◌, List, [], ◌∷◌, ◌++◌, length, take, drop, get_or, ap, sym, ◌∙◌, subst, arith, append_assoc, length-append}
-use Rattle.std.proofs.lemmas.List.{append-nil, map-append, drop-map, get_or_append_left, take_all, take_more, take_rest}
-use Rattle.surf_model.specs.FaceLists.{FaceList}
-use Rattle.surf_model.specs.FreeWalks.{AreFreelyEqual, HasNoSpur}
-use Rattle.surf_model.specs.Vertices.{numbers}
-use Rattle.surf_model.specs.declared.names.VertexName.{VertexName}
-use Rattle.polygon_cut.proofs.FreeLoopLemmas.{free_equality}
+use Rattle.move_lifting.proofs.Common.{free_equality, ◌≡◌, ◌≢◌, inr, ℕ, ◌+◌, ◌-◌, ◌<◌, List, [], ◌∷◌, ◌++◌, length, take, drop, get_or, ap, sym, ◌∙◌, subst, arith, append_assoc, length-append, append-nil, map-append, drop-map, get_or_append_left, take_all, take_more, take_rest, FaceList, AreFreelyEqual, HasNoSpur, numbers, VertexName}
 use Rattle.move_lifting.specs.Tracks.{last_of}
 use Rattle.move_lifting.proofs.ExpandLemmas.{length-numbers, one_pending}
 use Rattle.move_lifting.proofs.ListLemmas.{no_spur_front}

@@ -1,13 +1,5 @@
 -- Moves that come to a list of moves: removals, and moves that lead off the cotree.
-use Rattle.std.proofs.Common.{ℕ, ◌-◌, List, [], ◌∷◌, ◌++◌, refl, ap, sym, ◌∙◌, append_assoc}
-use Rattle.std.proofs.lemmas.List.{append-nil}
-use Rattle.std.proofs.lemmas.List.Elements.{All-append, All-nil, All-cons}
-use Rattle.surf_model.specs.Walks.{darts}
-use Rattle.surf_model.specs.declared.moves.Move.{Move}
-use Rattle.surf_model.specs.declared.moves.Move.TheVariants.{Insert, Remove, Across}
-use Rattle.halfedge_map.specs.OrientedMeshes.{OrientedMesh}
-use Rattle.tree_cotree.specs.Splits.{SplitView}
-use Rattle.polygon_cut.specs.SpokeLoops.{LeavesCotree}
+use Rattle.move_lifting.proofs.Common.{OrientedMesh, LeavesCotree, ℕ, ◌-◌, List, [], ◌∷◌, ◌++◌, refl, ap, sym, ◌∙◌, append_assoc, append-nil, All-append, All-nil, All-cons, darts, Move, Insert, Remove, Across, SplitView}
 use Rattle.move_lifting.specs.Lifts.{IsRemoval, MoreRemove, MoreLeaveCotree}
 use Rattle.move_lifting.specs.Tracks.{TrackView}
 use Rattle.move_lifting.specs.Crossings.{IsFaceBelow, IsCrossed}

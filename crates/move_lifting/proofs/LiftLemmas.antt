@@ -1,25 +1,6 @@
 -- The closed walk along the first and back along the second is contracted, and the second is left.
-use Rattle.std.proofs.Common.{◌≡◌, ℕ, ◌<◌, refl, List, [], ◌∷◌, ◌++◌, length, drop, get_or, ap, sym, ◌∙◌, subst, arith}
-use Rattle.std.specs.Prelude.{All, Some, option_and_then}
+use Rattle.move_lifting.proofs.Common.{leads_nowhere, walk_front, OrientedMesh, IsOrientedSurface, PolygonView, IsCutFrom, LeavesCotree, IsOffCotree, spokes_along, free_walk_below, PathLeads, ◌≡◌, ℕ, ◌<◌, refl, List, [], ◌∷◌, ◌++◌, length, drop, get_or, ap, sym, ◌∙◌, subst, arith, drop_more, length-drop, get_or_append_left, All, Some, option_and_then, list_keeps_walk, list_keeps_ends, FaceList, HasNoSpur, PeakedMoves, Leads, Homotopic, apply, apply_all, numbers, IsWalk, HaveCommonEnds, darts, AreWalkPair, Move, VertexName, SplitView, IsSplit}
 use Rattle.std.proofs.lemmas.Option.{option_and_then_some}
-use Rattle.std.proofs.lemmas.List.{drop_more, length-drop, get_or_append_left}
-use Rattle.surf_model.specs.FaceLists.{FaceList}
-use Rattle.surf_model.specs.FreeWalks.{HasNoSpur}
-use Rattle.surf_model.specs.Walks.{IsWalk, HaveCommonEnds, darts, AreWalkPair}
-use Rattle.surf_model.specs.Moves.{PeakedMoves, Leads, Homotopic, apply, apply_all}
-use Rattle.surf_model.specs.Vertices.{numbers}
-use Rattle.surf_model.specs.declared.moves.Move.{Move}
-use Rattle.surf_model.specs.declared.names.VertexName.{VertexName}
-use Rattle.surf_model.proofs.WayBackLemmas.{list_keeps_walk, list_keeps_ends}
-use Rattle.halfedge_map.specs.OrientedMeshes.{OrientedMesh, IsOrientedSurface}
-use Rattle.tree_cotree.specs.Splits.{SplitView, IsSplit}
-use Rattle.polygon_cut.specs.SpokeLoops.{LeavesCotree, IsOffCotree}
-use Rattle.polygon_cut.specs.Polygons.{PolygonView, IsCutFrom}
-use Rattle.polygon_cut.specs.SpokeLoops.{spokes_along}
-use Rattle.quad_system.proofs.FreePathLemmas.{free_walk_below}
-use Rattle.spoke_paths.specs.PathSteps.{PathLeads}
-use Rattle.common_ends.proofs.PeakLemmas.{leads_nowhere}
-use Rattle.common_ends.proofs.TrimLemmas.{walk_front}
 use Rattle.move_lifting.specs.Contractions.{IsLedFrom, LeavesNothing}
 use Rattle.move_lifting.specs.LoopsPutIn.{IsFreelyPath}
 use Rattle.move_lifting.specs.Reductions.{IsReductionOf}

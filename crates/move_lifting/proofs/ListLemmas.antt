@@ -1,8 +1,5 @@
 -- Entries of walks that are put together, and spurs in them.
-use Rattle.std.proofs.Common.{◌≡◌, ◌≢◌, inl, inr, ℕ, ◌+◌, ◌<◌, List, [], ◌∷◌, ◌++◌, length, take, drop, get_or, ap, sym, ◌∙◌, arith, append_assoc, length-append}
-use Rattle.std.proofs.lemmas.Bool.{cases_lt}
-use Rattle.std.proofs.lemmas.List.{get_or-append-add, get_or_append_left, take_more, take_all, drop_more}
-use Rattle.surf_model.specs.FreeWalks.{HasNoSpur}
+use Rattle.move_lifting.proofs.Common.{◌≡◌, ◌≢◌, inl, inr, ℕ, ◌+◌, ◌<◌, List, [], ◌∷◌, ◌++◌, length, take, drop, get_or, ap, sym, ◌∙◌, arith, append_assoc, length-append, cases_lt, get_or-append-add, get_or_append_left, take_more, take_all, drop_more, HasNoSpur}
 
 -- a part in front of a walk without spurs has none
 pub no_spur_front : (front rest : List ℕ) → HasNoSpur (front ++ rest) → HasNoSpur front

@@ -1,18 +1,8 @@
 -- The load of a walk: for each dart on a cotree edge the number of darts that hang below the edge, and one for each other dart. Where a
 -- dart is replaced by the rest of the face below it, the load falls.
-use Rattle.std.proofs.Common.{◌≡◌, ◌≢◌, inl, inr, ℕ, ◌+◌, ◌<◌, ◌≤◌, Bool, true, eqb, refl, ap, sym, ◌∙◌, subst, arith}
-use Rattle.std.specs.Prelude.{Option, Some, None}
-use Rattle.std.proofs.lemmas.Bool.{eqb-true}
-use Rattle.surf_model.specs.Numbers.{count_below}
-use Rattle.halfedge_map.specs.OrientedMeshes.{OrientedMesh, IsOrientedSurface}
-use Rattle.halfedge_map.specs.DartMaps.{darts_of}
-use Rattle.halfedge_map.specs.RotationSystems.{Rotations, rotations_of, IsRotationSystem}
-use Rattle.halfedge_map.proofs.SystemLemmas.{rotation_system, names_all}
-use Rattle.tree_cotree.specs.Splits.{SplitView, IsSplit, below_edge, StepsUp}
-use Rattle.tree_cotree.proofs.SplittingLemmas.{option_cases}
+use Rattle.move_lifting.proofs.Common.{rotation_system, names_all, darts_of, OrientedMesh, IsOrientedSurface, Rotations, rotations_of, IsRotationSystem, count_at_most, ◌≡◌, ◌≢◌, inl, inr, ℕ, ◌+◌, ◌<◌, ◌≤◌, Bool, true, eqb, refl, ap, sym, ◌∙◌, subst, arith, eqb-true, Option, Some, None, count_below, option_cases, SplitView, IsSplit, below_edge, StepsUp}
 use Rattle.move_lifting.proofs.CountLemmas.{sum_below, sum_same, disjoint_counts, disjoint_counts_less, count_some, count_one}
 use Rattle.move_lifting.proofs.FaceTreeLemmas.{below, below_itself, below_higher, below_once, not_above, not_itself}
-use Rattle.polygon_cut.proofs.CountLemmas.{count_at_most}
 
 -- whether a dart hangs below the edge of a dart; below an edge that is not of the cotree hangs the dart alone
 hangs_at : (s : OrientedMesh) (split : SplitView) → IsSplit s split → Option ℕ → ℕ → ℕ → Bool

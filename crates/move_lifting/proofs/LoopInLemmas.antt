@@ -1,25 +1,5 @@
 -- The loop of the last side, put into a walk behind the spokes in front, by way of the tree.
-use Rattle.std.proofs.Common.{◌≡◌, ℕ, suc, ◌-◌, ◌<◌, Bool, true, false, List, [], ◌∷◌, ◌++◌, drop, get_or, ap, sym, ◌∙◌, subst, arith, append_assoc}
-use Rattle.std.specs.Prelude.{IsTrue, All, Some, if◌then◌else◌}
-use Rattle.std.proofs.lemmas.List.{append-nil}
-use Rattle.surf_model.specs.FaceLists.{FaceList, is_used}
-use Rattle.surf_model.specs.Vertices.{numbers}
-use Rattle.surf_model.specs.Walks.{IsWalk}
-use Rattle.surf_model.specs.declared.names.VertexName.{VertexName}
-use Rattle.surf_model.specs.FreeWalks.{AreFreelyEqual}
-use Rattle.surf_model.specs.Moves.{apply_all}
-use Rattle.halfedge_map.specs.OrientedMeshes.{OrientedMesh, IsOrientedSurface}
-use Rattle.halfedge_map.specs.DartMaps.{origin_of}
-use Rattle.tree_cotree.specs.Splits.{SplitView, IsSplit}
-use Rattle.polygon_cut.specs.Polygons.{PolygonView, IsCutFrom}
-use Rattle.polygon_cut.specs.SpokeLoops.{AreWaysUp, backward, by_loop, dart_loop, last_side, last_side_loop, path_loop, put_behind, spoke_loop}
-use Rattle.polygon_cut.proofs.FreeLawLemmas.{by_own_loop, root_is, side_in, backward_is}
-use Rattle.polygon_cut.proofs.CongruenceLemmas.{before, behind, home_and_there, to_loops}
-use Rattle.polygon_cut.proofs.FreeLoopLemmas.{SameFreely, loops_make_a_free_group, free_equality}
-use Rattle.polygon_cut.proofs.FreeWayLemmas.{put_in}
-use Rattle.polygon_cut.proofs.WayLemmas.{IsWay, HasWays, Loop, loop_mul, loop_inv, loop_of, back, start_used, end_used, way_home, way_on, way_walk}
-use Rattle.polygon_cut.proofs.RelatorLemmas.{loop_in}
-use Rattle.polygon_cut.proofs.TreeWayLemmas.{up, up_path}
+use Rattle.move_lifting.proofs.Common.{origin_of, OrientedMesh, IsOrientedSurface, before, behind, home_and_there, to_loops, by_own_loop, root_is, side_in, backward_is, SameFreely, loops_make_a_free_group, free_equality, put_in, loop_in, up, up_path, IsWay, HasWays, Loop, loop_mul, loop_inv, loop_of, back, start_used, end_used, way_home, way_on, way_walk, PolygonView, IsCutFrom, AreWaysUp, backward, by_loop, dart_loop, last_side, last_side_loop, path_loop, put_behind, spoke_loop, ◌≡◌, ℕ, suc, ◌-◌, ◌<◌, Bool, true, false, List, [], ◌∷◌, ◌++◌, drop, get_or, ap, sym, ◌∙◌, subst, arith, append_assoc, append-nil, IsTrue, All, Some, if◌then◌else◌, FaceList, is_used, AreFreelyEqual, apply_all, numbers, IsWalk, VertexName, SplitView, IsSplit}
 use Rattle.move_lifting.specs.Lifts.{LeadsAtPeak}
 use Rattle.move_lifting.specs.LoopsPutIn.{signed_loop, HasLoopIn}
 use Rattle.move_lifting.specs.SpokeWalks.{IsSpokeWalk, AreSpokeWalks, AreTurns, HasWalk, IsLastLoop, along_or_back, walks_loop}

@@ -1,25 +1,8 @@
 -- How high the peak rises where the loop of the last side is put in: the approach and the way back and on have no spur, so they are no
 -- longer than the short walks that they are up to spurs.
-use Rattle.std.proofs.Common.{◌≡◌, ℕ, zero, suc, ◌+◌, ◌*◌, ◌-◌, ◌<◌, ◌≤◌, true, List, ◌∷◌, ◌++◌, length, drop, get_or, ap, sym, ◌∙◌, subst, arith}
-use Rattle.std.proofs.Math.Nat.{mul-le-mul_right}
-use Rattle.std.specs.Prelude.{IsTrue, All}
-use Rattle.surf_model.specs.FaceLists.{FaceList, is_used}
-use Rattle.surf_model.specs.FreeWalks.{AreFreelyEqual, HasNoSpur}
-use Rattle.surf_model.specs.Walks.{IsWalk, darts}
-use Rattle.surf_model.proofs.WayBackLemmas.{list_keeps_walk}
-use Rattle.halfedge_map.specs.OrientedMeshes.{OrientedMesh, IsOrientedSurface}
-use Rattle.halfedge_map.specs.DartMaps.{darts_of, origin_of}
-use Rattle.tree_cotree.specs.Splits.{SplitView, IsSplit}
-use Rattle.polygon_cut.specs.Polygons.{PolygonView, IsCutFrom}
-use Rattle.polygon_cut.specs.ShortWalks.{IsFreelyShort, AreShortAround}
-use Rattle.polygon_cut.specs.SpokeLoops.{AreWaysUp, backward, by_loop, last_side, path_loop}
-use Rattle.polygon_cut.proofs.FreeLawLemmas.{by_own_loop, backward_is}
-use Rattle.polygon_cut.proofs.FreeLoopLemmas.{SameFreely, loops_make_a_free_group, free_equality}
-use Rattle.polygon_cut.proofs.FreeWayLemmas.{loop_on, loop_home}
+use Rattle.move_lifting.proofs.Common.{darts_of, origin_of, OrientedMesh, IsOrientedSurface, by_own_loop, backward_is, SameFreely, loops_make_a_free_group, free_equality, loop_on, loop_home, up, up_path, IsWay, HasWays, Loop, loop_mul, loop_inv, loop_of, back, start_used, way_home, way_on, way_walk, PolygonView, IsCutFrom, IsFreelyShort, AreShortAround, AreWaysUp, backward, by_loop, last_side, path_loop, ◌≡◌, ℕ, zero, suc, ◌+◌, ◌*◌, ◌-◌, ◌<◌, ◌≤◌, true, List, ◌∷◌, ◌++◌, length, drop, get_or, ap, sym, ◌∙◌, subst, arith, mul-le-mul_right, IsTrue, All, list_keeps_walk, FaceList, is_used, AreFreelyEqual, HasNoSpur, IsWalk, darts, SplitView, IsSplit}
 use Rattle.polygon_cut.proofs.ShortWalkLemmas.{spokes_short}
 use Rattle.polygon_cut.proofs.TreePathLemmas.{few_vertices}
-use Rattle.polygon_cut.proofs.TreeWayLemmas.{up, up_path}
-use Rattle.polygon_cut.proofs.WayLemmas.{IsWay, HasWays, Loop, loop_mul, loop_inv, loop_of, back, start_used, way_home, way_on, way_walk}
 use Rattle.move_lifting.specs.LoopsPutIn.{IsFreelyPath}
 use Rattle.move_lifting.specs.SpokeWalks.{AreSpokeWalks, HasWalk, walks_loop}
 use Rattle.move_lifting.specs.Tracks.{last_of}

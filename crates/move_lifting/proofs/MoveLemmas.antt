@@ -1,19 +1,5 @@
 -- One more move behind a list of moves, and a spur that goes out at the end of the part of a walk that is laid.
-use Rattle.std.proofs.Common.{◌≡◌, ℕ, suc, ◌+◌, ◌-◌, ◌<◌, ◌≤◌, max, List, [], ◌∷◌, ◌++◌, length, take, drop, get_or, ap, sym, ◌∙◌, subst, arith, append_assoc, length-append}
-use Rattle.std.specs.Prelude.{Some, All}
-use Rattle.std.proofs.lemmas.List.Elements.{All-push}
-use Rattle.std.proofs.lemmas.List.{get_or_append_left, length-take-le, append-nil, drop_more, drop_all}
-use Rattle.surf_model.specs.FaceLists.{FaceList}
-use Rattle.surf_model.specs.FreeWalks.{HasNoSpur}
-use Rattle.surf_model.specs.Walks.{darts, HaveCommonEnds}
-use Rattle.surf_model.specs.Moves.{PeakedMoves, apply, apply_all, greatest_darts}
-use Rattle.surf_model.specs.declared.moves.Move.{Move}
-use Rattle.surf_model.specs.declared.moves.Move.TheVariants.{Insert, Remove, Across}
-use Rattle.surf_model.specs.declared.names.VertexName.{VertexName}
-use Rattle.surf_model.proofs.ReplacementLemmas.{by_replacing}
-use Rattle.surf_model.proofs.ContextLemmas.{first_answer, stays_walk}
-use Rattle.surf_model.proofs.WayBackLemmas.{list_keeps_ends}
-use Rattle.common_ends.proofs.PeakLemmas.{greatest_darts-more, greatest_darts-none, one_more, leads_nowhere, spur_goes}
+use Rattle.move_lifting.proofs.Common.{greatest_darts-more, greatest_darts-none, one_more, leads_nowhere, spur_goes, ◌≡◌, ℕ, suc, ◌+◌, ◌-◌, ◌<◌, ◌≤◌, max, List, [], ◌∷◌, ◌++◌, length, take, drop, get_or, ap, sym, ◌∙◌, subst, arith, append_assoc, length-append, get_or_append_left, length-take-le, append-nil, drop_more, drop_all, All-push, Some, All, first_answer, stays_walk, by_replacing, list_keeps_ends, FaceList, HasNoSpur, PeakedMoves, apply, apply_all, greatest_darts, darts, HaveCommonEnds, Move, Insert, Remove, Across, VertexName}
 use Rattle.move_lifting.specs.Lifts.{LeadsAtPeak, IsRemoval}
 use Rattle.move_lifting.specs.Tracks.{TrackView, GoesOn, IsStepBack}
 use Rattle.move_lifting.proofs.ListLemmas.{front_and_last, no_spur_front, read_on}

@@ -1,28 +1,5 @@
 -- Each walk leads off the cotree: dart by dart the rest of the face below takes the place of a dart on a cotree edge.
-use Rattle.std.proofs.Common.{Bool, ◌≡◌, ◌⊎◌, inl, inr, ℕ, zero, suc, ◌+◌, ◌*◌, ◌-◌, ◌<◌, ◌≤◌, true, false, not, List, [], ◌∷◌, ◌++◌, length, get_or, refl, ap, sym, ◌∙◌, subst, arith, append_assoc}
-use Rattle.std.specs.Prelude.{IsTrue, Some, option_and_then, reverse}
-use Rattle.std.proofs.lemmas.Bool.{cases_eq}
-use Rattle.std.proofs.lemmas.List.Elements.{All-nil, All-cons}
-use Rattle.surf_model.specs.FaceLists.{is_used, face_at, next_corner, corners_from, is_edge}
-use Rattle.surf_model.specs.Darts.{tail_of}
-use Rattle.surf_model.specs.Surfaces.{is_flipped}
-use Rattle.surf_model.specs.Moves.{apply, apply_all}
-use Rattle.surf_model.specs.Walks.{IsWalk, darts}
-use Rattle.surf_model.specs.declared.edges.Side.{Side}
-use Rattle.surf_model.specs.declared.moves.Move.{Move}
-use Rattle.surf_model.specs.declared.moves.Move.TheVariants.{Across}
-use Rattle.surf_model.proofs.LinkLemmas.{walk_from, all_more, none_yet}
-use Rattle.surf_model.proofs.WayBackLemmas.{keeps_walk}
-use Rattle.halfedge_map.specs.OrientedMeshes.{OrientedMesh, IsOrientedSurface}
-use Rattle.halfedge_map.specs.DartMaps.{origin_of, start_corner_of, darts_of, twin_of, edge_of, face_of}
-use Rattle.halfedge_map.specs.RotationSystems.{rotations_of, IsDartFrom}
-use Rattle.halfedge_map.proofs.EdgeLemmas.{dart_between}
-use Rattle.halfedge_map.proofs.NumberLemmas.{HasPlace, placed}
-use Rattle.halfedge_map.proofs.SystemLemmas.{names_all, rotation_system}
-use Rattle.tree_cotree.specs.Splits.{SplitView, IsSplit, below_edge, in_cotree}
-use Rattle.tree_cotree.proofs.SplittingLemmas.{option_cases}
-use Rattle.polygon_cut.specs.SpokeLoops.{LeavesCotree, way_round, IsOffCotree}
-use Rattle.polygon_cut.proofs.FaceRoundLemmas.{at_face}
+use Rattle.move_lifting.proofs.Common.{dart_between, HasPlace, placed, names_all, rotation_system, origin_of, start_corner_of, darts_of, twin_of, edge_of, face_of, OrientedMesh, IsOrientedSurface, rotations_of, IsDartFrom, at_face, LeavesCotree, way_round, IsOffCotree, Bool, ◌≡◌, ◌⊎◌, inl, inr, ℕ, zero, suc, ◌+◌, ◌*◌, ◌-◌, ◌<◌, ◌≤◌, true, false, not, List, [], ◌∷◌, ◌++◌, length, get_or, refl, ap, sym, ◌∙◌, subst, arith, append_assoc, cases_eq, All-nil, All-cons, IsTrue, Some, option_and_then, reverse, walk_from, all_more, none_yet, keeps_walk, tail_of, is_used, face_at, next_corner, corners_from, is_edge, apply, apply_all, is_flipped, IsWalk, darts, Side, Move, Across, option_cases, SplitView, IsSplit, below_edge, in_cotree}
 use Rattle.move_lifting.specs.Crossings.{beyond, IsFaceBelow, IsOneIn, GoesAlong}
 use Rattle.move_lifting.specs.WalksOff.{LeadsOffCotree}
 use Rattle.move_lifting.specs.declared.crossing.FaceStep.{FaceStep}

@@ -1,19 +1,7 @@
 -- Where a path of spokes ends, and that the places of a polygon make quads.
-use Rattle.std.proofs.Common.{◌≡◌, ℕ, ◌<◌, true, not, List, [], ◌∷◌, length, get_or, refl, ap, sym, ◌∙◌, arith}
-use Rattle.halfedge_map.specs.OrientedMeshes.{OrientedMesh, IsOrientedSurface}
-use Rattle.halfedge_map.specs.RotationSystems.{rotations_of}
-use Rattle.tree_cotree.specs.Splits.{SplitView, IsSplit}
-use Rattle.turn_words.specs.Modulo.{add, minus}
-use Rattle.turn_words.specs.FormLaws.{IsQuad}
-use Rattle.turn_words.specs.Lemmas.Sums.{add-lt}
-use Rattle.polygon_cut.specs.Polygons.{PolygonView, IsCutFrom, place_of, across}
-use Rattle.polygon_cut.proofs.RelatorLemmas.{ends_at_vertex}
-use Rattle.polygon_cut.proofs.FreeLawLemmas.{turned_parity}
-use Rattle.quad_system.proofs.PushPathLemmas.{IsQuadWheel, add_back}
-use Rattle.quad_system.proofs.FreePathLemmas.{places_wheel}
-use Rattle.quad_system.proofs.SpokeProductLemmas.{spoke_at}
-use Rattle.spoke_paths.specs.PathTurns.{from_vertex, HasQuads}
+use Rattle.move_lifting.proofs.Common.{OrientedMesh, IsOrientedSurface, rotations_of, turned_parity, ends_at_vertex, PolygonView, IsCutFrom, place_of, across, places_wheel, IsQuadWheel, add_back, spoke_at, from_vertex, HasQuads, ◌≡◌, ℕ, ◌<◌, true, not, List, [], ◌∷◌, length, get_or, refl, ap, sym, ◌∙◌, arith, SplitView, IsSplit, IsQuad, add, minus}
 use Rattle.spoke_paths.proofs.Turning.{from-next}
+use Rattle.turn_words.specs.Lemmas.Sums.{add-lt}
 
 pub ends_at : (path : List ℕ) → ends_at_vertex true path ≡ from_vertex (length path)
 ends_at [] = refl

@@ -1,19 +1,7 @@
 -- The spokes of a walk, dart by dart, and how many are left after some steps.
-use Rattle.std.proofs.Common.{◌≡◌, ◌≢◌, inl, inr, ℕ, zero, suc, ◌+◌, ◌*◌, ◌-◌, ◌<◌, ◌≤◌, Bool, true, false, List, [], ◌∷◌, ◌++◌, length, get_or, take, refl, ap, sym, ◌∙◌, subst, arith, append_assoc, length-append, Some}
-use Rattle.std.proofs.lemmas.Bool.{cases_eq, eq-eqb, ne_eqb}
-use Rattle.std.proofs.lemmas.List.{append-nil, take_all}
-use Rattle.halfedge_map.specs.OrientedMeshes.{OrientedMesh, IsOrientedSurface}
-use Rattle.halfedge_map.specs.DartMaps.{next_of}
-use Rattle.halfedge_map.specs.RotationSystems.{rotations_of, IsDartFrom}
-use Rattle.polygon_cut.specs.Polygons.{PolygonView, label_of}
-use Rattle.polygon_cut.specs.SpokeLoops.{HasFreeSpokes, HaveFreeSpokes, spokes_along, last_side}
-use Rattle.polygon_cut.proofs.FreeRoundLemmas.{dart_from, from_is}
-use Rattle.spoke_paths.specs.PathSteps.{PathLeads, spur_goes, quad_turned, after_path_step}
-use Rattle.spoke_paths.specs.declared.step.PathStep.{PathStep}
-use Rattle.spoke_paths.specs.declared.step.PathStep.TheVariants.{Spur, Turn}
-use Rattle.spoke_paths.specs.PathTurns.{from_vertex}
-use Rattle.spoke_paths.proofs.Placing.{AtPlace, at-place, old_way, new_way, IsTurned, is-turned}
-use Rattle.spoke_paths.proofs.StepsKeep.{spur-is, later-is}
+use Rattle.move_lifting.proofs.Common.{next_of, OrientedMesh, IsOrientedSurface, rotations_of, IsDartFrom, dart_from, from_is, PolygonView, label_of, HasFreeSpokes, HaveFreeSpokes, spokes_along, last_side, AtPlace, at-place, old_way, new_way, IsTurned, is-turned, spur-is, later-is, PathLeads, quad_turned, after_path_step, from_vertex, PathStep, Spur, Turn, ◌≡◌, ◌≢◌, inl, inr, ℕ, zero, suc, ◌+◌, ◌*◌, ◌-◌, ◌<◌, ◌≤◌, Bool, true, false, List, [], ◌∷◌, ◌++◌, length, get_or, take, refl, ap, sym, ◌∙◌, subst, arith, append_assoc, length-append, cases_eq, eq-eqb, ne_eqb, append-nil, take_all}
+use Rattle.spoke_paths.specs.PathSteps.{spur_goes}
+use Rattle.std.proofs.Common.{Some}
 use Rattle.move_lifting.specs.Reductions.{spokes_of_dart, HasSpokesMore, AreSpokesOf, spurs_of}
 
 -- the spokes of the dart from u to v

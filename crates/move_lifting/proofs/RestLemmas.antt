@@ -1,28 +1,10 @@
 -- The rest of a face below a cotree edge weighs less than the edge, and all round the root face there is no more than all darts.
-use Rattle.std.proofs.Common.{◌≡◌, ◌≢◌, ◌⊎◌, inl, inr, ℕ, zero, suc, ◌+◌, ◌-◌, ◌<◌, ◌≤◌, Bool, true, false, not, List, [], ◌∷◌, ◌++◌, length, get_or, refl, ap, sym, ◌∙◌, subst, arith, append_assoc}
-use Rattle.std.specs.Prelude.{Some}
-use Rattle.surf_model.specs.FaceLists.{face_at, next_corner, corners_from}
-use Rattle.surf_model.specs.Darts.{first_side}
-use Rattle.surf_model.specs.Surfaces.{is_flipped}
-use Rattle.surf_model.proofs.RoundLemmas.{corner_after, corners_before, last_corner, meet}
-use Rattle.surf_model.proofs.EdgeLemmas.{step_within}
-use Rattle.halfedge_map.specs.OrientedMeshes.{OrientedMesh, IsOrientedSurface}
-use Rattle.halfedge_map.specs.DartMaps.{darts_of, twin_of, origin_of, target_of, edge_of}
-use Rattle.halfedge_map.specs.RotationSystems.{rotations_of, IsRotationSystem, IsDartFrom}
-use Rattle.halfedge_map.proofs.NumberLemmas.{IsNumberOf, number_below}
-use Rattle.halfedge_map.proofs.CornerLemmas.{corner_back}
-use Rattle.halfedge_map.proofs.DartLemmas.{face_at_number, origin_at, target_at, vertex_at, start_kept, start_flipped, end_kept, end_flipped}
-use Rattle.halfedge_map.proofs.TwinLemmas.{origin-twin}
-use Rattle.halfedge_map.proofs.EdgeLemmas.{edge-twin}
-use Rattle.halfedge_map.proofs.SystemLemmas.{rotation_system}
-use Rattle.tree_cotree.specs.Splits.{SplitView, IsSplit, below_edge}
+use Rattle.move_lifting.proofs.Common.{corner_back, face_at_number, origin_at, target_at, vertex_at, start_kept, start_flipped, end_kept, end_flipped, edge-twin, IsNumberOf, number_below, rotation_system, origin-twin, darts_of, twin_of, origin_of, target_of, edge_of, OrientedMesh, IsOrientedSurface, rotations_of, IsRotationSystem, IsDartFrom, dart_from, from_is, ◌≡◌, ◌≢◌, ◌⊎◌, inl, inr, ℕ, zero, suc, ◌+◌, ◌-◌, ◌<◌, ◌≤◌, Bool, true, false, not, List, [], ◌∷◌, ◌++◌, length, get_or, refl, ap, sym, ◌∙◌, subst, arith, append_assoc, Some, step_within, corner_after, corners_before, last_corner, meet, first_side, face_at, next_corner, corners_from, is_flipped, SplitView, IsSplit, below_edge, after_within, after_more, corners_apart}
 use Rattle.move_lifting.specs.Loads.{load_of}
 use Rattle.move_lifting.proofs.CountLemmas.{sum_below}
 use Rattle.move_lifting.proofs.LoadLemmas.{weight, weight_positive, weight_most, AreBeside, AreInFace, weights_fall, root_weights}
-use Rattle.walk_actions.proofs.Corners.{after_within, after_more, corners_apart}
 use Rattle.move_lifting.proofs.RoundLemmas.{corners_more}
 use Rattle.move_lifting.proofs.WithinLemmas.{load-joined, darts_weigh}
-use Rattle.polygon_cut.proofs.FreeRoundLemmas.{dart_from, from_is}
 
 -- the edge between two vertices is that of each dart with these ends
 pub record HasTheseEnds (s : OrientedMesh) (x u v : ℕ) : Type 0 where

@@ -1,11 +1,5 @@
 -- Round a face: the corners that steps one way or the other meet, and the rest of a face turned round.
-use Rattle.std.proofs.Common.{◌≡◌, ℕ, zero, suc, ◌+◌, ◌-◌, ◌<◌, Bool, not, List, [], ◌∷◌, ◌++◌, length, get_or, refl, ap, sym, ◌∙◌, arith}
-use Rattle.std.specs.Prelude.{reverse}
-use Rattle.std.proofs.lemmas.List.{reverse-append}
-use Rattle.surf_model.specs.FaceLists.{next_corner, corners_from}
-use Rattle.surf_model.proofs.RoundLemmas.{corner_after, corners_before, last_corner, meet}
-use Rattle.surf_model.proofs.EdgeLemmas.{step_within}
-use Rattle.walk_actions.proofs.Corners.{after_back}
+use Rattle.move_lifting.proofs.Common.{◌≡◌, ℕ, zero, suc, ◌+◌, ◌-◌, ◌<◌, Bool, not, List, [], ◌∷◌, ◌++◌, length, get_or, refl, ap, sym, ◌∙◌, arith, reverse-append, reverse, step_within, corner_after, corners_before, last_corner, meet, next_corner, corners_from, after_back}
 
 pub before-from : (ring : List ℕ) (rising : Bool) (t k : ℕ) → corners_before ring rising t (suc k) ≡ corners_from ring rising t k
 before-from ring rising t zero = refl

@@ -1,34 +1,8 @@
 -- Steps on paths of spokes make them no longer, and the loop of the last side goes in along ways that are short for half of their spokes
 -- and one pair more.
-use Rattle.std.proofs.Common.{◌≡◌, ◌≢◌, ◌⊎◌, inl, inr, ℕ, suc, ◌+◌, ◌*◌, ◌-◌, ◌<◌, ◌≤◌, Bool, true, false, not, List, [], ◌∷◌, ◌++◌, length, take, get_or, refl, ap, sym, ◌∙◌, subst, arith, Some, length-append}
-use Rattle.std.specs.Prelude.{All, if◌then◌else◌, ◌==◌}
-use Rattle.std.proofs.lemmas.Bool.{cases_Bool, cases_eq, eq-eqb, ne_eqb}
-use Rattle.std.proofs.lemmas.List.{get_or-append-add, get_or_append_left}
-use Rattle.std.proofs.lemmas.List.Elements.{All-cons}
-use Rattle.std.proofs.Math.Seq.{take-append_seam}
-use Rattle.surf_model.specs.Walks.{IsWalk, darts}
-use Rattle.halfedge_map.specs.OrientedMeshes.{OrientedMesh, IsOrientedSurface}
-use Rattle.halfedge_map.specs.RotationSystems.{rotations_of}
-use Rattle.halfedge_map.proofs.EdgeLemmas.{dart_between}
-use Rattle.halfedge_map.proofs.SystemLemmas.{rotation_system}
-use Rattle.tree_cotree.specs.SpanningTrees.{after_dart}
-use Rattle.tree_cotree.specs.Splits.{SplitView, IsSplit, in_cotree, is_left}
-use Rattle.polygon_cut.specs.Polygons.{PolygonView, IsCutFrom, place_of, across}
-use Rattle.polygon_cut.specs.SpokeLoops.{HasFreeSpokes, HaveFreeSpokes, across_last, comes_back, last_side, spokes_along}
-use Rattle.polygon_cut.specs.ShortWalks.{AreShortAround}
-use Rattle.polygon_cut.proofs.FreeLawLemmas.{parity}
-use Rattle.polygon_cut.proofs.PlaceLemmas.{sides_cross}
-use Rattle.polygon_cut.proofs.WalkLemmas.{walk_way}
-use Rattle.polygon_cut.proofs.WayLemmas.{IsWay}
+use Rattle.move_lifting.proofs.Common.{dart_between, rotation_system, OrientedMesh, IsOrientedSurface, rotations_of, parity, sides_cross, walk_way, IsWay, PolygonView, IsCutFrom, place_of, across, AreShortAround, HasFreeSpokes, HaveFreeSpokes, across_last, comes_back, last_side, spokes_along, IsQuadWheel, polygon_wheel, spoke_at, AtPlace, at-place, IsTurned, is-turned, quad_turned, after_path_step, from_vertex, PathStep, Turn, ◌≡◌, ◌≢◌, ◌⊎◌, inl, inr, ℕ, suc, ◌+◌, ◌*◌, ◌-◌, ◌<◌, ◌≤◌, Bool, true, false, not, List, [], ◌∷◌, ◌++◌, length, take, get_or, refl, ap, sym, ◌∙◌, subst, arith, length-append, take-append_seam, cases_Bool, cases_eq, eq-eqb, ne_eqb, get_or-append-add, get_or_append_left, All-cons, All, if◌then◌else◌, ◌==◌, IsWalk, darts, after_dart, SplitView, IsSplit, in_cotree, is_left}
 use Rattle.polygon_cut.proofs.ShortFrontLemmas.{short_behind, short_behind_one, short_behind_two}
-use Rattle.quad_system.proofs.PushPathLemmas.{IsQuadWheel}
-use Rattle.quad_system.proofs.PushWorthLemmas.{polygon_wheel}
-use Rattle.quad_system.proofs.SpokeProductLemmas.{spoke_at}
-use Rattle.spoke_paths.specs.PathSteps.{quad_turned, after_path_step}
-use Rattle.spoke_paths.specs.PathTurns.{from_vertex}
-use Rattle.spoke_paths.specs.declared.step.PathStep.{PathStep}
-use Rattle.spoke_paths.specs.declared.step.PathStep.TheVariants.{Turn}
-use Rattle.spoke_paths.proofs.Placing.{AtPlace, at-place, IsTurned, is-turned}
+use Rattle.std.proofs.Common.{Some}
 use Rattle.move_lifting.specs.LoopFronts.{spokes_in_front}
 use Rattle.move_lifting.proofs.ContractLemmas.{front_below}
 use Rattle.move_lifting.proofs.PathLemmas.{ends_at, quad_partner}

@@ -1,16 +1,5 @@
 -- Walks from which spurs are taken out as they are laid, up to spurs.
-use Rattle.std.proofs.Common.{◌≡◌, inl, inr, ℕ, ◌+◌, ◌-◌, ◌<◌, ◌≤◌, max, List, [], ◌∷◌, ◌++◌, length, take, drop, get_or, refl, ap, sym, ◌∙◌, subst, arith, append_assoc, length-append}
-use Rattle.std.proofs.lemmas.List.{append-nil, drop_all, take_all, take_more, drop_more, length-take-le, length-drop}
-use Rattle.std.proofs.lemmas.List.Elements.{All-nil, All-cons}
-use Rattle.surf_model.specs.FaceLists.{FaceList}
-use Rattle.surf_model.specs.FreeWalks.{IsSpurMove, AreFreelyEqual, HasNoSpur}
-use Rattle.surf_model.specs.Moves.{PeakedMoves}
-use Rattle.surf_model.specs.Walks.{darts}
-use Rattle.surf_model.specs.declared.moves.Move.{Move}
-use Rattle.surf_model.specs.declared.moves.Move.TheVariants.{Remove}
-use Rattle.polygon_cut.proofs.FreeLoopLemmas.{free_equality}
-use Rattle.common_ends.proofs.PeakLemmas.{spur_goes}
-use Rattle.common_ends.proofs.TrimLemmas.{last_entry}
+use Rattle.move_lifting.proofs.Common.{spur_goes, last_entry, free_equality, ◌≡◌, inl, inr, ℕ, ◌+◌, ◌-◌, ◌<◌, ◌≤◌, max, List, [], ◌∷◌, ◌++◌, length, take, drop, get_or, refl, ap, sym, ◌∙◌, subst, arith, append_assoc, length-append, append-nil, drop_all, take_all, take_more, drop_more, length-take-le, length-drop, All-nil, All-cons, FaceList, IsSpurMove, AreFreelyEqual, HasNoSpur, PeakedMoves, darts, Move, Remove}
 use Rattle.move_lifting.specs.Lifts.{LeadsAtPeak}
 use Rattle.move_lifting.specs.Tracks.{TrackView, GoesOn, GrowsOrShrinks, last_of}
 use Rattle.move_lifting.proofs.ListLemmas.{read_on, one_no_spur}

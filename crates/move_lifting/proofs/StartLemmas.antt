@@ -1,29 +1,6 @@
 -- A closed walk that is led off the cotree, with a tail behind it, is the loop of its spokes, up to spurs.
-use Rattle.std.proofs.Common.{◌≡◌, ℕ, ◌-◌, ◌<◌, true, List, [], ◌∷◌, ◌++◌, length, ap, sym, ◌∙◌, subst, arith}
-use Rattle.std.specs.Prelude.{All, slice_index}
-use Rattle.surf_model.specs.FreeWalks.{AreFreelyEqual}
-use Rattle.surf_model.specs.Walks.{IsWalk}
-use Rattle.surf_model.specs.Moves.{Leads}
-use Rattle.surf_model.specs.declared.moves.Move.{Move}
-use Rattle.surf_model.proofs.WayBackLemmas.{list_keeps_walk}
-use Rattle.halfedge_map.specs.OrientedMeshes.{OrientedMesh, IsOrientedSurface}
-use Rattle.tree_cotree.specs.Splits.{SplitView, IsSplit}
-use Rattle.polygon_cut.specs.Polygons.{PolygonView, IsCutFrom}
-use Rattle.polygon_cut.specs.SpokeLoops.{AreWaysUp, HaveFreeSpokes, LeavesCotree, by_loop, path_loop, spokes_along, IsOffCotree}
-use Rattle.polygon_cut.proofs.GroupLemmas.{IsGroup}
-use Rattle.polygon_cut.proofs.RelatorLemmas.{spoke_product}
-use Rattle.polygon_cut.proofs.WayLemmas.{IsWay, loop_mul, loop_inv, loop_one}
-use Rattle.walk_actions.proofs.Runs.{end_from as end_of}
-use Rattle.polygon_cut.proofs.FreeProductLemmas.{way_end, product_from, product_on}
-use Rattle.polygon_cut.proofs.FreeLoopLemmas.{SameFreely}
-use Rattle.polygon_cut.proofs.FreeSpokeLemmas.{free_group}
+use Rattle.move_lifting.proofs.Common.{walk_front, OrientedMesh, IsOrientedSurface, Loops, spoke, root_is, path_list, path_is, off_walk, SameFreely, way_end, product_from, product_on, step_value, free_group, path_along, path_value, IsGroup, spoke_product, walk_way, IsWay, loop_mul, loop_inv, loop_one, PolygonView, IsCutFrom, AreWaysUp, HaveFreeSpokes, LeavesCotree, by_loop, path_loop, spokes_along, IsOffCotree, ◌≡◌, ℕ, ◌-◌, ◌<◌, true, List, [], ◌∷◌, ◌++◌, length, ap, sym, ◌∙◌, subst, arith, All, slice_index, list_keeps_walk, AreFreelyEqual, Leads, IsWalk, Move, SplitView, IsSplit, end_from as end_of}
 use Rattle.polygon_cut.proofs.FreeMoveLemmas.{walk_value, moves_keep_value}
-use Rattle.polygon_cut.proofs.FreeRoundLemmas.{step_value}
-use Rattle.polygon_cut.proofs.FreeWayLemmas.{path_along, path_value}
-use Rattle.polygon_cut.proofs.FreeLawLemmas.{root_is, path_list, path_is, off_walk}
-use Rattle.polygon_cut.proofs.DartLoopLemmas.{Loops, spoke}
-use Rattle.polygon_cut.proofs.WalkLemmas.{walk_way}
-use Rattle.common_ends.proofs.TrimLemmas.{walk_front}
 use Rattle.move_lifting.specs.LoopsPutIn.{IsFreelyPath}
 use Rattle.move_lifting.specs.Tracks.{last_of}
 

@@ -1,9 +1,5 @@
 -- Walks that lie one after another, and marks for their numbers.
-use Rattle.std.proofs.Common.{◌≡◌, ℕ, ◌+◌, ◌-◌, ◌≤◌, List, [], ◌∷◌, ◌++◌, length, take, drop, refl, ap, ◌∙◌, arith}
-use Rattle.std.proofs.lemmas.List.{drop-append-le, drop_all, length-drop, map-append, take-append-le, take_all}
-use Rattle.std.proofs.lemmas.List.Elements.{All-head, All-tail}
-use Rattle.surf_model.specs.Vertices.{numbers}
-use Rattle.surf_model.specs.declared.names.VertexName.{VertexName}
+use Rattle.move_lifting.proofs.Common.{◌≡◌, ℕ, ◌+◌, ◌-◌, ◌≤◌, List, [], ◌∷◌, ◌++◌, length, take, drop, refl, ap, ◌∙◌, arith, drop-append-le, drop_all, length-drop, map-append, take-append-le, take_all, All-head, All-tail, numbers, VertexName}
 use Rattle.move_lifting.specs.declared.spoke_walks.Place.{Place}
 use Rattle.move_lifting.specs.StoredWalks.{AreWithin, stored_walks, walk_at}
 

@@ -1,23 +1,8 @@
 -- On a sphere a walk off the cotree goes along the tree, so that a closed one without spurs is one vertex.
-use Rattle.std.proofs.Common.{◌≡◌, ◌⊎◌, inl, inr, ℕ, ◌+◌, ◌-◌, ◌*◌, ◌<◌, true, false, List, [], ◌∷◌, length, get_or, refl, ap, sym, ◌∙◌, subst, arith}
-use Rattle.std.specs.Prelude.{Option, Some, None}
-use Rattle.std.specs.Option.{option_map}
-use Rattle.std.proofs.lemmas.Bool.{cases_Bool}
-use Rattle.surf_model.specs.FaceLists.{is_used}
-use Rattle.surf_model.specs.Walks.{IsWalk}
-use Rattle.surf_model.specs.FreeWalks.{HasNoSpur, IsAlongTree, RankFalls}
+use Rattle.move_lifting.proofs.Common.{dart_between, rotation_system, names_all, darts_of, edge_of, origin_of, twin_of, OrientedMesh, IsOrientedSurface, rotations_of, IsRotationSystem, IsDartFrom, up, up_step, tree_edge, IsOffCotree, ◌≡◌, ◌⊎◌, inl, inr, ℕ, ◌+◌, ◌-◌, ◌*◌, ◌<◌, true, false, List, [], ◌∷◌, length, get_or, refl, ap, sym, ◌∙◌, subst, arith, cases_Bool, option_map, Option, Some, None, is_used, HasNoSpur, IsAlongTree, RankFalls, count_below, IsWalk, SplitView, IsSplit, in_tree, in_cotree, is_left, is_tree_kind, is_cotree_kind, is_left_kind, kind_of, parent_dart, StepsToParent}
 use Rattle.surf_model.proofs.TreeWalkLemmas.{one_tree_walk}
-use Rattle.surf_model.specs.Numbers.{count_below}
-use Rattle.halfedge_map.specs.OrientedMeshes.{OrientedMesh, IsOrientedSurface}
-use Rattle.halfedge_map.specs.DartMaps.{darts_of, edge_of, origin_of, twin_of}
-use Rattle.halfedge_map.specs.RotationSystems.{rotations_of, IsRotationSystem, IsDartFrom}
-use Rattle.halfedge_map.proofs.EdgeLemmas.{dart_between}
-use Rattle.halfedge_map.proofs.SystemLemmas.{rotation_system, names_all}
-use Rattle.tree_cotree.specs.Splits.{SplitView, IsSplit, in_tree, in_cotree, is_left, is_tree_kind, is_cotree_kind, is_left_kind, kind_of, parent_dart, StepsToParent}
 use Rattle.tree_cotree.specs.declared.split.Kind.{Kind}
 use Rattle.tree_cotree.specs.declared.split.Kind.TheVariants.{Tree, Cotree, Left}
-use Rattle.polygon_cut.proofs.TreeWayLemmas.{up, up_step, tree_edge}
-use Rattle.polygon_cut.specs.SpokeLoops.{IsOffCotree}
 use Rattle.move_lifting.proofs.CountLemmas.{count_some}
 use Rattle.move_lifting.proofs.ListLemmas.{one_no_spur}
 

@@ -1,21 +1,5 @@
 -- Ways up the tree: how they go on, and how long they are at most.
-use Rattle.std.proofs.Common.{◌≡◌, ◌≢◌, ℕ, zero, suc, ◌-◌, ◌<◌, ◌≤◌, true, List, [], ◌∷◌, ◌++◌, length, get_or, refl, ap, sym, ◌∙◌, subst, arith, append_assoc, length-append, eqb}
-use Rattle.std.specs.Prelude.{Some, None}
-use Rattle.std.proofs.lemmas.Bool.{eqb-true}
-use Rattle.surf_model.specs.FaceLists.{is_used}
-use Rattle.surf_model.specs.Surfaces.{IsPath}
-use Rattle.surf_model.specs.Vertices.{numbers}
-use Rattle.surf_model.specs.declared.names.VertexName.{VertexName}
-use Rattle.halfedge_map.specs.OrientedMeshes.{OrientedMesh, IsOrientedSurface}
-use Rattle.halfedge_map.specs.DartMaps.{darts_of, origin_of, twin_of}
-use Rattle.surf_model.specs.Numbers.{count_below}
-use Rattle.halfedge_map.specs.RotationSystems.{rotations_of}
-use Rattle.halfedge_map.proofs.SystemLemmas.{rotation_system, names_all}
-use Rattle.tree_cotree.specs.Splits.{SplitView, IsSplit, StepsToParent, parent_dart}
-use Rattle.polygon_cut.specs.SpokeLoops.{AreWaysUp}
-use Rattle.polygon_cut.proofs.FreeLawLemmas.{root_is}
-use Rattle.polygon_cut.proofs.TreeWayLemmas.{up, up_path, one_path}
-use Rattle.polygon_cut.proofs.CountLemmas.{count_at_most}
+use Rattle.move_lifting.proofs.Common.{rotation_system, names_all, darts_of, origin_of, twin_of, OrientedMesh, IsOrientedSurface, rotations_of, count_at_most, root_is, up, up_path, one_path, AreWaysUp, ◌≡◌, ◌≢◌, ℕ, zero, suc, ◌-◌, ◌<◌, ◌≤◌, true, List, [], ◌∷◌, ◌++◌, length, get_or, refl, ap, sym, ◌∙◌, subst, arith, append_assoc, length-append, eqb, eqb-true, Some, None, is_used, count_below, IsPath, numbers, VertexName, SplitView, IsSplit, StepsToParent, parent_dart}
 use Rattle.move_lifting.proofs.ExpandLemmas.{length-numbers}
 use Rattle.move_lifting.proofs.CountLemmas.{sum_below, sum_same, disjoint_counts, count_one}
 

@@ -1,21 +1,5 @@
 -- A turn put into a walk: there, round, back, and on.
-use Rattle.std.proofs.Common.{◌≡◌, ℕ, ◌+◌, ◌-◌, ◌<◌, ◌≤◌, max, true, List, [], ◌∷◌, ◌++◌, length, take, drop, get_or, ap, sym, ◌∙◌, subst, arith, append_assoc, length-append}
-use Rattle.std.proofs.lemmas.List.{take_rest, drop-map, take-append-drop, take_more, drop_more, length-take-le, length-drop, get_or-take}
-use Rattle.chain_pool.specs.Chains.{spliced}
-use Rattle.surf_model.specs.FaceLists.{FaceList, is_edge}
-use Rattle.surf_model.specs.FreeWalks.{AreFreelyEqual}
-use Rattle.surf_model.specs.Vertices.{numbers}
-use Rattle.surf_model.specs.Walks.{IsWalk}
-use Rattle.surf_model.specs.Moves.{PeakedMoves}
-use Rattle.surf_model.specs.Rewriting.{all_raised}
-use Rattle.surf_model.specs.declared.moves.Move.TheVariants.{Insert}
-use Rattle.surf_model.specs.declared.names.VertexName.{VertexName}
-use Rattle.polygon_cut.specs.SpokeLoops.{backward, put_behind}
-use Rattle.polygon_cut.proofs.WayLemmas.{IsWay, back}
-use Rattle.polygon_cut.proofs.CongruenceLemmas.{home_and_there}
-use Rattle.polygon_cut.proofs.FreeLoopLemmas.{free_equality}
-use Rattle.polygon_cut.proofs.FreeLawLemmas.{backward_is}
-use Rattle.common_ends.proofs.TrimLemmas.{last_entry}
+use Rattle.move_lifting.proofs.Common.{spliced, last_entry, home_and_there, backward_is, free_equality, IsWay, back, backward, put_behind, ◌≡◌, ℕ, ◌+◌, ◌-◌, ◌<◌, ◌≤◌, max, true, List, [], ◌∷◌, ◌++◌, length, take, drop, get_or, ap, sym, ◌∙◌, subst, arith, append_assoc, length-append, take_rest, drop-map, take-append-drop, take_more, drop_more, length-take-le, length-drop, get_or-take, FaceList, is_edge, AreFreelyEqual, PeakedMoves, all_raised, numbers, IsWalk, Insert, VertexName}
 use Rattle.move_lifting.specs.Lifts.{LeadsAtPeak}
 use Rattle.move_lifting.specs.Tracks.{TrackView, GoesOn, last_of}
 use Rattle.move_lifting.proofs.ExpandLemmas.{length-numbers}

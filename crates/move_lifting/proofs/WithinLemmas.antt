@@ -1,9 +1,5 @@
 -- What a walk weighs on the way off the cotree, and how great the peaks of its moves are.
-use Rattle.std.proofs.Common.{◌≡◌, inl, inr, ℕ, suc, ◌+◌, ◌*◌, ◌-◌, ◌<◌, ◌≤◌, max, List, [], ◌∷◌, ◌++◌, length, take, ap, ◌∙◌, arith, append_assoc, length-append}
-use Rattle.surf_model.specs.Moves.{PeakedMoves}
-use Rattle.halfedge_map.specs.OrientedMeshes.{OrientedMesh}
-use Rattle.tree_cotree.specs.Splits.{SplitView}
-use Rattle.common_ends.proofs.TrimLemmas.{last_entry}
+use Rattle.move_lifting.proofs.Common.{last_entry, OrientedMesh, ◌≡◌, inl, inr, ℕ, suc, ◌+◌, ◌*◌, ◌-◌, ◌<◌, ◌≤◌, max, List, [], ◌∷◌, ◌++◌, length, take, ap, ◌∙◌, arith, append_assoc, length-append, PeakedMoves, SplitView}
 use Rattle.move_lifting.specs.Loads.{load_of, StaysWithin}
 use Rattle.move_lifting.specs.Tracks.{TrackView, GrowsOrShrinks, last_of}
 

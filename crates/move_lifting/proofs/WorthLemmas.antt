@@ -1,39 +1,9 @@
 -- What a step on a path of spokes does to the loop of the path, up to spurs: nothing, but a turn across the quad of the last side puts the
 -- loop of that side in.
-use Rattle.std.proofs.Common.{◌≡◌, ◌≢◌, ◌⊎◌, inl, inr, ℕ, suc, ◌+◌, ◌-◌, ◌<◌, Bool, true, false, not, List, [], ◌∷◌, ◌++◌, length, take, refl, ap, sym, ◌∙◌, subst, arith, Some}
-use Rattle.std.specs.Prelude.{if◌then◌else◌, ◌==◌, slice_index, All}
-use Rattle.std.proofs.lemmas.Bool.{eq-eqb, ne_eqb}
-use Rattle.std.proofs.Math.Seq.{take-append_seam}
-use Rattle.surf_model.specs.FaceLists.{is_used}
-use Rattle.surf_model.specs.FreeWalks.{AreFreelyEqual}
-use Rattle.surf_model.specs.Walks.{IsWalk}
-use Rattle.halfedge_map.specs.OrientedMeshes.{OrientedMesh, IsOrientedSurface}
-use Rattle.halfedge_map.specs.RotationSystems.{rotations_of}
-use Rattle.halfedge_map.proofs.SystemLemmas.{rotation_system}
-use Rattle.tree_cotree.specs.SpanningTrees.{after_dart}
-use Rattle.tree_cotree.specs.Splits.{SplitView, IsSplit, in_cotree, is_left}
-use Rattle.polygon_cut.specs.Polygons.{PolygonView, IsCutFrom, place_of, across}
-use Rattle.polygon_cut.specs.SpokeLoops.{AreWaysUp, backward, by_loop, path_loop, put_behind, last_side_loop}
-use Rattle.polygon_cut.proofs.GroupLemmas.{IsGroup}
-use Rattle.polygon_cut.proofs.PlaceLemmas.{sides_cross}
-use Rattle.polygon_cut.proofs.RelatorLemmas.{loop_in, loop_out, free_spur}
-use Rattle.polygon_cut.proofs.WayLemmas.{IsWay, back, loop_mul, loop_inv, loop_one}
-use Rattle.polygon_cut.proofs.CongruenceLemmas.{before, behind}
-use Rattle.polygon_cut.proofs.FreeLoopLemmas.{SameFreely, free_equality}
-use Rattle.polygon_cut.proofs.FreeLawLemmas.{root_is, up_is, backward_is, path_list, last_loop_as, last_loops, last_list}
+use Rattle.move_lifting.proofs.Common.{rotation_system, OrientedMesh, IsOrientedSurface, rotations_of, before, behind, Loops, spoke, root_is, up_is, backward_is, path_list, last_loop_as, last_loops, last_list, SameFreely, free_equality, free_group, IsGroup, sides_cross, loop_in, loop_out, free_spur, tree_ways, IsWay, back, loop_mul, loop_inv, loop_one, PolygonView, IsCutFrom, place_of, across, AreWaysUp, backward, by_loop, path_loop, put_behind, last_side_loop, IsQuadWheel, upper_side, lower_side, loop_of_path, front_of_last, front_of_across, DownWorth, down_worth, polygon_wheel, signed_loop as own_loop, spoke_at, AtPlace, at-place, old_way, new_way, IsTurned, is-turned, spur-is, upper_way, lower_way, quad_turned, from_spoke, from_vertex, ◌≡◌, ◌≢◌, ◌⊎◌, inl, inr, ℕ, suc, ◌+◌, ◌-◌, ◌<◌, Bool, true, false, not, List, [], ◌∷◌, ◌++◌, length, take, refl, ap, sym, ◌∙◌, subst, arith, take-append_seam, eq-eqb, ne_eqb, if◌then◌else◌, ◌==◌, slice_index, All, is_used, AreFreelyEqual, IsWalk, after_dart, SplitView, IsSplit, in_cotree, is_left, add}
 use Rattle.polygon_cut.proofs.FreeQuadLemmas.{last_loop}
-use Rattle.polygon_cut.proofs.FreeSpokeLemmas.{free_group}
-use Rattle.polygon_cut.proofs.DartLoopLemmas.{Loops, spoke}
-use Rattle.polygon_cut.proofs.TreeWayLemmas.{tree_ways}
-use Rattle.quad_system.proofs.PushPathLemmas.{IsQuadWheel, upper_side, lower_side}
-use Rattle.quad_system.proofs.PushWorthLemmas.{loop_of_path, front_of_last, front_of_across, DownWorth, down_worth, polygon_wheel}
-use Rattle.quad_system.proofs.PushWorthLemmas.{signed_loop as own_loop}
-use Rattle.quad_system.proofs.SpokeProductLemmas.{spoke_at}
-use Rattle.turn_words.specs.Modulo.{add}
-use Rattle.spoke_paths.specs.PathSteps.{upper_way, lower_way, spur_goes, quad_turned, from_spoke}
-use Rattle.spoke_paths.specs.PathTurns.{from_vertex}
-use Rattle.spoke_paths.proofs.Placing.{AtPlace, at-place, old_way, new_way, IsTurned, is-turned}
-use Rattle.spoke_paths.proofs.StepsKeep.{spur-is}
+use Rattle.spoke_paths.specs.PathSteps.{spur_goes}
+use Rattle.std.proofs.Common.{Some}
 use Rattle.move_lifting.specs.LoopsPutIn.{signed_loop, IsFreelyPath, HasLoopIn}
 use Rattle.move_lifting.specs.LoopFronts.{spokes_in_front}
 use Rattle.move_lifting.proofs.PathLemmas.{ends_at, quad_partner}

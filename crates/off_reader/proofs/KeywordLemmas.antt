@@ -1,13 +1,8 @@
 -- Keywords.
-use Rattle.std.proofs.Common.{◌≡◌, ℕ, ◌+◌, ◌<◌, Bool, true, false, cond, eqb, ltb, ◌&&◌, List, [], ◌∷◌, length, take, drop, Bor, length-take-le, refl, sym, ap, ◌∙◌, arith}
-use Rattle.std.specs.Prelude.{Option, Some, None, MatchOption, IfSome, IfNone, position, bytes_eq, codes}
-use Rattle.std.specs.Cmp.Lexicographic.{pointwise}
-use Rattle.std.specs.List.{before_first, position_or_len}
-use Rattle.std.proofs.lemmas.List.{take_all}
-use Rattle.std.proofs.lemmas.Option.{cond_some}
-use Rattle.std.proofs.lemmas.Bool.{and_left, and_right, ltb-true}
+use Rattle.off_reader.proofs.Common.{◌≡◌, ℕ, ◌+◌, ◌<◌, Bool, true, false, cond, eqb, ltb, ◌&&◌, List, [], ◌∷◌, length, take, drop, Bor, length-take-le, refl, sym, ap, ◌∙◌, arith, and_left, and_right, ltb-true, take_all, cond_some, before_first, position_or_len, Option, Some, None, MatchOption, IfSome, IfNone, position, bytes_eq, codes}
 use Rattle.std.proofs.Math.Bool.{or-false}
 use Rattle.std.proofs.Math.Seq.{drop-length}
+use Rattle.std.specs.Cmp.Lexicographic.{pointwise}
 use Rattle.text_scan.proofs.ListLemmas.{nowhere}
 use Rattle.off_reader.specs.OffTexts.{Keyword, is_single_piece, are_pieces, keyword_of}
 

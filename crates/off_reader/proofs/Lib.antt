@@ -1,3 +1,4 @@
+pub mod Common
 mod KeywordLemmas
 mod HeaderLemmas
 pub mod RingLemmas

@@ -1,16 +1,10 @@
 -- The lines of vertices and faces, one after the other.
-use Rattle.std.proofs.Common.{◌≡◌, ℕ, suc, ◌+◌, ◌-◌, ◌<◌, ◌≤◌, ◌⊎◌, List, [], ◌∷◌, ◌++◌, length, refl, sym, ap, ap₂, ◌∙◌, inl, inr, arith}
-use Rattle.std.specs.Prelude.{Option, Some, None, Result, Ok, Err}
-use Rattle.std.specs.List.{cons_option}
+use Rattle.off_reader.proofs.Common.{◌≡◌, ℕ, suc, ◌+◌, ◌-◌, ◌<◌, ◌≤◌, ◌⊎◌, List, [], ◌∷◌, ◌++◌, length, refl, sym, ap, ap₂, ◌∙◌, inl, inr, arith, cons_option, Option, Some, None, Result, Ok, Err, FaceList, total_sides, MOST_SIDES, Line, full_lines, end_line, Unread}
 use Rattle.std.proofs.lemmas.List.Sums.{sum_by-append}
-use Rattle.text_scan.specs.Lines.{Line, full_lines, end_line}
-use Rattle.text_scan.specs.Unread.{Unread}
-use Rattle.surf_model.specs.FaceLists.{FaceList, total_sides}
 use Rattle.off_reader.specs.OffTexts.{taken, point_fault, face_fault, ring_fault, corners_of, rings_of, mesh_of, header_of, meaning_of}
 use Rattle.off_reader.specs.OffSteps.{line_at, IsSameLine, TakesFaces}
 use Rattle.off_reader.specs.declared.off_fault.OffFault.{OffFault}
 use Rattle.off_reader.specs.declared.off_fault.OffFault.TheVariants.{Ended, OutOfMemory}
-use Rattle.surf_model.specs.declared.limits.TheConstants.{MOST_SIDES}
 
 abbrev Check : Type 0
 Check = List Line → Line → Option OffFault

@@ -1,16 +1,7 @@
 -- Chains under signs: how many links are turned, and that an odd chain excludes coherent signs.
-use Rattle.std.proofs.Common.{◌≡◌, inl, inr, ℕ, ◌+◌, ◌%◌, ◌<◌, Bool, true, false, cond, eqb, List, [], ◌∷◌, length, map, get_or, refl, ap, sym, ◌∙◌, subst, arith}
-use Rattle.std.specs.Prelude.{filter, count_by}
-use Rattle.std.proofs.lemmas.List.Sums.{sum_by-cons}
-use Rattle.std.proofs.Math.Bool.{and-true}
-use Rattle.surf_model.specs.FaceLists.{FaceList, FaceSide, IsFaceList, all_sides, joins}
-use Rattle.surf_model.specs.Edges.{side_name}
-use Rattle.surf_model.specs.Darts.{tail_of}
-use Rattle.surf_model.specs.Surfaces.{ArePartners, IsCoherent, is_flipped}
-use Rattle.surf_model.specs.declared.chains.ChainLink.{ChainLink}
-use Rattle.surf_model.specs.OddChains.{LeadsTo, LeadOnTo, IsOddChain, first_face, run_alike, is_turned}
-use Rattle.orientation.specs.Trees.{differ, runs_alike}
+use Rattle.orientation.proofs.Common.{◌≡◌, inl, inr, ℕ, ◌+◌, ◌%◌, ◌<◌, Bool, true, false, cond, eqb, List, [], ◌∷◌, length, map, get_or, refl, ap, sym, ◌∙◌, subst, arith, and-true, sum_by-cons, filter, count_by, tail_of, side_name, FaceList, FaceSide, IsFaceList, all_sides, joins, LeadsTo, LeadOnTo, IsOddChain, first_face, run_alike, is_turned, ArePartners, IsCoherent, is_flipped, ChainLink}
 use Rattle.surf_model.proofs.ListedLemmas.{Joins, joining, partners_listed}
+use Rattle.orientation.specs.Trees.{differ, runs_alike}
 use Rattle.orientation.proofs.Fitting.{fit_if_opposite, eqb_swap}
 
 -- 1 for a sign that is flipped

@@ -1,14 +1,8 @@
 -- Classes of faces, and that coherent signs that keep the least face of each are unique.
-use Rattle.std.proofs.Common.{◌≡◌, ◌≢◌, ◌⊎◌, inl, inr, ℕ, zero, suc, ◌+◌, ◌<◌, Bool, true, false, List, [], ◌∷◌, length, refl, sym, ◌∙◌, subst, arith}
-use Rattle.std.proofs.lemmas.Bool.{cases_lt}
-use Rattle.std.proofs.lemmas.List.{ext_get_or}
-use Rattle.surf_model.specs.FaceLists.{FaceList, IsFaceList}
-use Rattle.surf_model.specs.Surfaces.{IsPath, AreJoined, IsCoherent, is_flipped}
+use Rattle.orientation.proofs.Common.{partners_swap, joined_step, joined_trans, ◌≡◌, ◌≢◌, ◌⊎◌, inl, inr, ℕ, zero, suc, ◌+◌, ◌<◌, Bool, true, false, List, [], ◌∷◌, length, refl, sym, ◌∙◌, subst, arith, cases_lt, ext_get_or, FaceList, IsFaceList, IsPath, AreJoined, IsCoherent, is_flipped}
 use Rattle.orientation.specs.Classes.{IsFaceStep, IsLeastOfClass, IsLeastKept}
 use Rattle.orientation.specs.Trees.{differ, Fit}
 use Rattle.orientation.proofs.Fitting.{fit_if_opposite}
-use Rattle.connectivity.proofs.CornerLemmas.{partners_swap}
-use Rattle.connectivity.proofs.Joining.{joined_step, joined_trans}
 
 pub step_back : (mesh : FaceList) (f g : ℕ) → IsFaceStep mesh f g → IsFaceStep mesh g f
 step_back mesh f g h =

@@ -1,14 +1,5 @@
 -- The chain round a tear.
-use Rattle.std.proofs.Common.{◌≡◌, ◌≢◌, ℕ, ◌+◌, ◌*◌, ◌%◌, ◌<◌, ◌≤◌, Bool, true, false, not, cond, eqb, List, [], ◌∷◌, ◌++◌, length, reverse, refl, ap, sym, ◌∙◌, subst, arith, length-append}
-use Rattle.std.specs.Prelude.{count_by}
-use Rattle.std.proofs.lemmas.Bool.Decides.{nat_tests}
-use Rattle.std.proofs.lemmas.List.{length_push, reverse-append, length-reverse}
-use Rattle.std.proofs.lemmas.List.Sums.{sum_by-cons, sum_by-append}
-use Rattle.surf_model.specs.FaceLists.{FaceList}
-use Rattle.surf_model.specs.Surfaces.{is_flipped}
-use Rattle.surf_model.specs.declared.edges.Side.{Side}
-use Rattle.surf_model.specs.declared.chains.ChainLink.{ChainLink}
-use Rattle.surf_model.specs.OddChains.{LeadsTo, LeadOnTo, IsOddChain, first_face, is_turned}
+use Rattle.orientation.proofs.Common.{joined_step, joined_trans, ◌≡◌, ◌≢◌, ℕ, ◌+◌, ◌*◌, ◌%◌, ◌<◌, ◌≤◌, Bool, true, false, not, cond, eqb, List, [], ◌∷◌, ◌++◌, length, reverse, refl, ap, sym, ◌∙◌, subst, arith, length-append, nat_tests, length_push, reverse-append, length-reverse, sum_by-cons, sum_by-append, count_by, FaceList, LeadsTo, LeadOnTo, IsOddChain, first_face, is_turned, is_flipped, ChainLink, Side}
 use Rattle.orientation.specs.Classes.{EachEdgeHasAtMostTwoSides, IsFaceStep, AreOfOneClass}
 use Rattle.orientation.specs.Trees.{Growth, IsAlong, AreTrees, IsFoundFrom, differ, is_seen, place_of}
 use Rattle.orientation.specs.Searches.{IsTear}
@@ -18,7 +9,6 @@ use Rattle.orientation.proofs.Fitting.{link_leads, link_leads_back, link_turned}
 use Rattle.orientation.proofs.ChainLemmas.{bit, bit_differ, differ_swap}
 use Rattle.orientation.proofs.ClassLemmas.{step_back, joined_back}
 use Rattle.orientation.proofs.TreeLemmas.{deeper_found, up_joined}
-use Rattle.connectivity.proofs.Joining.{joined_step, joined_trans}
 
 -- links from one face to another, and the parity of the turned ones with the signs of the two faces
 pub record IsWay (mesh : FaceList) (signs : List Bool) (parity : ℕ) (from : ℕ) (links : List ChainLink) (to : ℕ) : Type 0 where

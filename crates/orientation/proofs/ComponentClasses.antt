@@ -1,17 +1,8 @@
 -- The classes of faces of a closed manifold are its components.
-use Rattle.std.proofs.Common.{◌≡◌, inl, inr, ℕ, zero, suc, ◌<◌, true, List, [], ◌∷◌, length, get_or, refl, ap, sym, subst, arith}
-use Rattle.std.specs.Prelude.{◌↔◌}
-use Rattle.std.proofs.lemmas.Bool.Decides.{nat_tests}
-use Rattle.surf_model.specs.FaceLists.{FaceList, IsFaceList, face_at, next_corner, is_edge}
-use Rattle.surf_model.specs.Darts.{IsSide, side_after, tail_of}
-use Rattle.surf_model.specs.Surfaces.{IsPath, AreJoined, ArePartners, IsCornerAt, IsCornerOfSide, IsStepAround, HasOneRing, AreJoinedByWalk, IsClosedManifold}
-use Rattle.surf_model.specs.declared.edges.Side.{Side}
-use Rattle.surf_model.proofs.EdgeLemmas.{step_edge}
-use Rattle.connectivity.specs.Partitions.{IsEdgeStep}
-use Rattle.connectivity.proofs.CornerLemmas.{after_in_mesh, corner_used}
+use Rattle.orientation.proofs.Common.{after_in_mesh, corner_used, joined_refl, joined_step, joined_trans, joined_sym, ◌≡◌, inl, inr, ℕ, zero, suc, ◌<◌, true, List, [], ◌∷◌, length, get_or, refl, ap, sym, subst, arith, nat_tests, ◌↔◌, step_edge, IsSide, side_after, tail_of, FaceList, IsFaceList, face_at, next_corner, is_edge, IsPath, AreJoined, ArePartners, IsCornerAt, IsCornerOfSide, IsStepAround, HasOneRing, AreJoinedByWalk, IsClosedManifold, Side}
 use Rattle.connectivity.proofs.EdgeLemmas.{HasSideBetween, side_between, edge_swap}
-use Rattle.connectivity.proofs.Joining.{joined_refl, joined_step, joined_trans, joined_sym}
 use Rattle.connectivity.proofs.WalkLemmas.{joined_from_walk, walk_from_joined}
+use Rattle.connectivity.specs.Partitions.{IsEdgeStep}
 use Rattle.orientation.specs.Classes.{IsFaceStep, AreOfOneClass}
 
 -- ---- from the vertices to the faces

@@ -1,23 +1,11 @@
 -- A mesh has coherent signs or an odd chain: it is not without the one and the other.
-use Rattle.std.proofs.Common.{◌≡◌, ◌≢◌, ◌⊎◌, inl, inr, ℕ, zero, suc, ◌+◌, ◌%◌, ◌<◌, ◌≤◌, Bool, true, false, min, max, List, [], ◌∷◌, ◌++◌, length, refl, ap, sym, ◌∙◌, subst, arith}
-use Rattle.std.specs.Prelude.{count_by}
-use Rattle.std.proofs.lemmas.Bool.{cases_lt, cases_Bool}
-use Rattle.std.proofs.lemmas.List.{length_push, get_or_append_left, get_or_push}
-use Rattle.surf_model.specs.FaceLists.{FaceList, IsFaceList}
-use Rattle.surf_model.specs.Darts.{tail_of, head_of}
-use Rattle.surf_model.specs.Surfaces.{IsPath, ArePartners, IsCoherent, is_flipped}
-use Rattle.surf_model.specs.declared.edges.Side.{Side}
-use Rattle.surf_model.specs.declared.chains.ChainLink.{ChainLink}
-use Rattle.surf_model.specs.OddChains.{LeadOnTo, IsOddChain, first_face, is_turned}
-use Rattle.surf_model.proofs.EdgeLemmas.{ends_differ}
+use Rattle.orientation.proofs.Common.{partners_swap, joined_step, joined_trans, ◌≡◌, ◌≢◌, ◌⊎◌, inl, inr, ℕ, zero, suc, ◌+◌, ◌%◌, ◌<◌, ◌≤◌, Bool, true, false, min, max, List, [], ◌∷◌, ◌++◌, length, refl, ap, sym, ◌∙◌, subst, arith, cases_lt, cases_Bool, length_push, get_or_append_left, get_or_push, count_by, ends_differ, tail_of, head_of, FaceList, IsFaceList, LeadOnTo, IsOddChain, first_face, is_turned, IsPath, ArePartners, IsCoherent, is_flipped, ChainLink, Side}
 use Rattle.orientation.specs.Classes.{EachEdgeHasAtMostTwoSides, IsFaceStep, AreOfOneClass, IsLeastOfClass, IsLeastKept}
 use Rattle.orientation.specs.Trees.{IsAlong, differ, runs_alike, Fit}
 use Rattle.orientation.proofs.Fitting.{link_leads, link_turned, eqb_swap, opposite_if_fit}
 use Rattle.orientation.proofs.ChainLemmas.{bit, differ_swap}
 use Rattle.orientation.proofs.ClassLemmas.{step_back, joined_back}
 use Rattle.orientation.proofs.ClimbLemmas.{first_face-append, LeadOnTo-append, count-append, count-one}
-use Rattle.connectivity.proofs.CornerLemmas.{partners_swap}
-use Rattle.connectivity.proofs.Joining.{joined_step, joined_trans}
 
 -- some links lead from one face to another, an odd number of them turned exactly if `odd`
 record HasBand (mesh : FaceList) (odd : Bool) (from to : ℕ) : Type 0 where

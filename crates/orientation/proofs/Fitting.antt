@@ -1,15 +1,5 @@
 -- Two sides of one edge run oppositely under signs exactly where the signs of their faces fit.
-use Rattle.std.proofs.Common.{◌≡◌, ◌≢◌, ◌⊎◌, inl, inr, ℕ, Bool, true, false, eqb, List, [], ◌∷◌, map, ap, sym, ◌∙◌, arith}
-use Rattle.std.specs.Prelude.{if◌then◌else◌}
-use Rattle.std.proofs.lemmas.Bool.Decides.{nat_tests}
-use Rattle.std.proofs.Math.Bool.{and-true}
-use Rattle.surf_model.specs.FaceLists.{FaceList, FaceSide, IsFaceList, joins}
-use Rattle.surf_model.specs.Darts.{tail_of, head_of}
-use Rattle.surf_model.specs.Surfaces.{ArePartners, RunOppositely, is_flipped}
-use Rattle.surf_model.specs.declared.edges.Side.{Side}
-use Rattle.surf_model.specs.declared.chains.ChainLink.{ChainLink}
-use Rattle.surf_model.specs.OddChains.{LeadsTo, run_alike, is_turned}
-use Rattle.surf_model.proofs.EdgeLemmas.{ends_differ}
+use Rattle.orientation.proofs.Common.{◌≡◌, ◌≢◌, ◌⊎◌, inl, inr, ℕ, Bool, true, false, eqb, List, [], ◌∷◌, map, ap, sym, ◌∙◌, arith, and-true, nat_tests, if◌then◌else◌, ends_differ, tail_of, head_of, FaceList, FaceSide, IsFaceList, joins, LeadsTo, run_alike, is_turned, ArePartners, RunOppositely, is_flipped, ChainLink, Side}
 use Rattle.orientation.specs.Classes.{EachEdgeHasAtMostTwoSides}
 use Rattle.orientation.specs.Trees.{IsAlong, differ, runs_alike, Fit}
 use Rattle.orientation.proofs.Partners.{entry_of, are_all}

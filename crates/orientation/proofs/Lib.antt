@@ -1,3 +1,4 @@
+pub mod Common
 pub mod Partners
 pub mod Fitting
 pub mod ChainLemmas

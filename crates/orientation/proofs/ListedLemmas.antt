@@ -1,19 +1,10 @@
 -- Faces that are listed coherently as they stand, looked through side by side.
-use Rattle.std.proofs.Common.{◌≡◌, inl, inr, ℕ, zero, suc, ◌+◌, ◌<◌, ◌≤◌, Bool, false, List, length, refl, ap, sym, ◌∙◌, subst, arith}
-use Rattle.std.specs.Prelude.{replicate}
-use Rattle.std.proofs.lemmas.Bool.{cases_lt, cases_eq}
-use Rattle.std.proofs.lemmas.List.{length-replicate}
-use Rattle.surf_model.specs.FaceLists.{FaceList, IsFaceList, total_sides}
-use Rattle.surf_model.specs.Darts.{IsSide, side_number}
-use Rattle.surf_model.specs.Surfaces.{ArePartners, IsCoherent, is_flipped}
-use Rattle.surf_model.specs.declared.edges.Side.{Side}
-use Rattle.surf_model.proofs.SideNumberLemmas.{side_below}
+use Rattle.orientation.proofs.Common.{partners_swap, number_once, ◌≡◌, inl, inr, ℕ, zero, suc, ◌+◌, ◌<◌, ◌≤◌, Bool, false, List, length, refl, ap, sym, ◌∙◌, subst, arith, cases_lt, cases_eq, length-replicate, replicate, side_below, IsSide, side_number, FaceList, IsFaceList, total_sides, ArePartners, IsCoherent, is_flipped, Side}
 use Rattle.orientation.specs.Classes.{EachEdgeHasAtMostTwoSides}
 use Rattle.orientation.specs.Trees.{differ, runs_alike, AreListedCoherently}
 use Rattle.orientation.proofs.AcrossLemmas.{IsOther}
 use Rattle.orientation.proofs.Fitting.{eqb_swap, opposite_if_fit}
 use Rattle.orientation.proofs.Partners.{one_partner}
-use Rattle.connectivity.proofs.CornerLemmas.{partners_swap, number_once}
 
 -- no side with a number below n runs like a partner that comes before it
 abbrev pub FitUpTo : FaceList → ℕ → Type 0

@@ -1,14 +1,7 @@
 -- The two sides of an edge, where no edge has more.
-use Rattle.std.proofs.Common.{◌≡◌, ◌≢◌, ◌⊎◌, inl, inr, ℕ, zero, suc, ◌≤◌, true, List, [], ◌∷◌, length, ap, sym, ◌∙◌, arith}
-use Rattle.std.specs.Prelude.{Contains, filter}
-use Rattle.std.proofs.lemmas.Bool.Decides.{nat_tests}
+use Rattle.orientation.proofs.Common.{◌≡◌, ◌≢◌, ◌⊎◌, inl, inr, ℕ, zero, suc, ◌≤◌, true, List, [], ◌∷◌, length, ap, sym, ◌∙◌, arith, nat_tests, Contains, filter, Contains-filter, face_side_in, tail_of, head_of, FaceList, FaceSide, face_at, all_sides, joins, is_edge, ArePartners, Side}
 use Rattle.std.proofs.lemmas.List.Folds.{list_any-from_Any}
-use Rattle.surf_model.specs.FaceLists.{FaceList, FaceSide, face_at, all_sides, joins, is_edge}
-use Rattle.surf_model.specs.Darts.{tail_of, head_of}
-use Rattle.surf_model.specs.Surfaces.{ArePartners}
-use Rattle.surf_model.specs.declared.edges.Side.{Side}
 use Rattle.surf_model.proofs.NumberLemmas.{face_side}
-use Rattle.surf_model.proofs.TableLemmas.{Contains-filter, face_side_in}
 use Rattle.orientation.specs.Classes.{EachEdgeHasAtMostTwoSides}
 
 -- a side as an entry of the list of all sides

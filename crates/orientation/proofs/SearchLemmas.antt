@@ -1,12 +1,6 @@
 -- The steps of the search.
-use mathlib.Core.Bool.{beq}
-use Rattle.std.proofs.Common.{◌≡◌, ◌⊎◌, inl, inr, ℕ, ◌+◌, ◌<◌, ◌≤◌, Bool, true, false, not, List, [], ◌∷◌, ◌++◌, length, refl, ap, sym, ◌∙◌, subst, arith, below_more, replicate}
-use Rattle.std.proofs.lemmas.Bool.{cases_lt, both_ways}
-use Rattle.std.proofs.lemmas.List.{length_push, get_or_past, get_or-set_same, get_or-replicate, length-replicate}
-use Rattle.surf_model.specs.FaceLists.{FaceList, IsFaceList, HasFileSize, face_at}
-use Rattle.surf_model.specs.Surfaces.{ArePartners, IsCoherent, is_flipped}
-use Rattle.surf_model.specs.declared.edges.Side.{Side}
-use Rattle.surf_model.specs.declared.names.FaceName.{FaceName}
+use Rattle.orientation.proofs.Common.{◌≡◌, ◌⊎◌, inl, inr, ℕ, ◌+◌, ◌<◌, ◌≤◌, Bool, true, false, not, List, [], ◌∷◌, ◌++◌, length, refl, ap, sym, ◌∙◌, subst, arith, below_more, cases_lt, both_ways, length_push, get_or_past, get_or-set_same, get_or-replicate, length-replicate, FaceList, IsFaceList, HasFileSize, face_at, ArePartners, IsCoherent, is_flipped, Side, FaceName, beq}
+use Rattle.std.proofs.Common.{replicate}
 use Rattle.orientation.specs.Trees.{Growth, differ, runs_alike, Fit, is_seen, place_of, with_face, AreTrees, IsExploredUpTo, IsFrontier, unseen, no_place}
 use Rattle.orientation.specs.Classes.{IsLeastKept}
 use Rattle.orientation.specs.Searches.{IsSearch, GoesOn, Extends}

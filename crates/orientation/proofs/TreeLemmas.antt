@@ -1,25 +1,14 @@
 -- What a search knows, and how it grows by one face.
-use mathlib.Core.Bool.{beq}
-use Rattle.std.proofs.Common.{◌*◌, ◌≡◌, ◌≢◌, ◌⊎◌, inl, inr, ℕ, zero, suc, ◌+◌, ◌<◌, ◌≤◌, Bool, true, false, not, cond, List, [], ◌∷◌, ◌++◌, length, get_or, refl, ap, sym, ◌∙◌, subst, arith}
-use Rattle.std.specs.Prelude.{sum_by, All, Contains}
-use Rattle.std.proofs.lemmas.Bool.{cases_lt, cases_Bool, both_ways}
-use Rattle.std.proofs.lemmas.List.{get_or-set_other, get_or-set_same}
+use Rattle.orientation.proofs.Common.{partners_swap, joined_step, joined_trans, ◌*◌, ◌≡◌, ◌≢◌, ◌⊎◌, inl, inr, ℕ, zero, suc, ◌+◌, ◌<◌, ◌≤◌, Bool, true, false, not, cond, List, [], ◌∷◌, ◌++◌, length, get_or, refl, ap, sym, ◌∙◌, subst, arith, cases_lt, cases_Bool, both_ways, get_or-set_other, get_or-set_same, sum_by-set, count_by-le-length, sum_by-cons, sum_by, All, Contains, FaceList, IsFaceList, HasFileSize, IsFace, face_at, IsPath, ArePartners, IsCoherent, is_flipped, Side, FaceName, beq}
 use Rattle.std.proofs.Math.ListN.{length-set}
-use Rattle.std.proofs.lemmas.List.Sums.{sum_by-set, count_by-le-length, sum_by-cons}
 use Rattle.std.proofs.lemmas.List.Elements.{Contains-append_left, Contains-push, Contains-push_cases, All-weaker, All-push, All-head, All-tail, All-contains, Contains-get_or}
-use Rattle.surf_model.specs.FaceLists.{FaceList, IsFaceList, HasFileSize, IsFace, face_at}
-use Rattle.surf_model.specs.Surfaces.{IsPath, ArePartners, IsCoherent, is_flipped}
-use Rattle.surf_model.specs.declared.edges.Side.{Side}
-use Rattle.surf_model.specs.declared.names.FaceName.{FaceName}
+use Rattle.surf_model.specs.declared.limits.TheConstants.{MOST_SIDES}
 use Rattle.orientation.specs.Classes.{IsFaceStep, AreOfOneClass, IsLeastOfClass, IsLeastKept}
 use Rattle.orientation.specs.Trees.{Growth, differ, runs_alike, Fit, is_seen, place_of, with_face, count_unseen, IsFirst, IsFoundFrom, AreTrees, IsExplored, IsExploredUpTo, IsFrontier}
 use Rattle.orientation.specs.Searches.{IsKept, Extends}
 use Rattle.orientation.specs.declared.trees.Place.{Place}
 use Rattle.orientation.proofs.Fitting.{opposite_if_fit}
 use Rattle.orientation.proofs.ClassLemmas.{step_back, joined_back}
-use Rattle.surf_model.specs.declared.limits.TheConstants.{MOST_SIDES}
-use Rattle.connectivity.proofs.CornerLemmas.{partners_swap}
-use Rattle.connectivity.proofs.Joining.{joined_step, joined_trans}
 
 pub extends_more : (old new newer : Growth) → Extends old new → Extends new newer → Extends old newer
 extends_more old new newer h k = record {

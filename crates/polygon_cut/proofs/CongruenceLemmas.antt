@@ -1,10 +1,6 @@
 -- What holds of walks up to any congruence, be it homotopy or spurs alone: closed walks at a root make a group, and walks are products
 -- of the loops of their darts, where a way leads from each vertex to the root.
-use Rattle.std.proofs.Common.{◌≡◌, ℕ, ◌<◌, List, [], ◌∷◌, ◌++◌, length, ap, sym, ◌∙◌, subst, arith, append_assoc}
-use Rattle.std.specs.Prelude.{IsTrue}
-use Rattle.std.proofs.lemmas.List.{append-nil}
-use Rattle.surf_model.specs.FaceLists.{FaceList, is_used}
-use Rattle.surf_model.specs.Walks.{IsWalk}
+use Rattle.polygon_cut.proofs.Common.{◌≡◌, ℕ, ◌<◌, List, [], ◌∷◌, ◌++◌, length, ap, sym, ◌∙◌, subst, arith, append_assoc, append-nil, IsTrue, FaceList, is_used, IsWalk}
 use Rattle.polygon_cut.proofs.GroupLemmas.{IsGroup}
 use Rattle.polygon_cut.proofs.WayLemmas.{IsWay, back, way_walk, start_used, end_used, way_on, way_home, back-append, back_back, Loop, loop_mul, loop_inv, loop_one, loop_start, HasWays, loop_of}
 

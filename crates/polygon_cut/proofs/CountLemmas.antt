@@ -1,11 +1,5 @@
 -- Counting the numbers below a bound that pass a test: along a permutation, and over the darts of edges.
-use Rattle.std.proofs.Common.{◌≡◌, ◌≢◌, inl, inr, ℕ, zero, suc, ◌+◌, ◌*◌, ◌<◌, ◌≤◌, Bool, true, false, ◌&&◌, ◌||◌, cond, eqb, ltb, refl, ap, sym, ◌∙◌, subst, arith}
-use Rattle.std.proofs.lemmas.Bool.{cases_Bool, cases_eq, cases_lt, eqb-true, eq-eqb, ltb-true, lt-ltb, and_right, and_left}
-use Rattle.surf_model.specs.Numbers.{count_below}
-use Rattle.halfedge_map.specs.RotationSystems.{Rotations, IsRotationSystem}
-use Rattle.tree_cotree.specs.RingCounts.{any_below}
-use Rattle.tree_cotree.proofs.ClassLemmas.{count_same, count_less, found_below, passes_below}
-use Rattle.tree_cotree.proofs.SetLemmas.{with_one, with_itself, with_other, count_with}
+use Rattle.polygon_cut.proofs.Common.{Rotations, IsRotationSystem, ◌≡◌, ◌≢◌, inl, inr, ℕ, zero, suc, ◌+◌, ◌*◌, ◌<◌, ◌≤◌, Bool, true, false, ◌&&◌, ◌||◌, cond, eqb, ltb, refl, ap, sym, ◌∙◌, subst, arith, cases_Bool, cases_eq, cases_lt, eqb-true, eq-eqb, ltb-true, lt-ltb, and_right, and_left, count_below, count_same, count_less, found_below, passes_below, with_one, with_itself, with_other, count_with, any_below}
 
 pub count_rises : (p : ℕ → Bool) (i j : ℕ) → i ≤ j → count_below p i ≤ count_below p j
 count_rises p i zero l = (let none : i ≡ 0 = omega arith in subst (λ k. count_below p i ≤ count_below p k) none (omega arith))

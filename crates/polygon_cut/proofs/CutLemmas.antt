@@ -1,21 +1,5 @@
 -- What the cut of a surface makes is a polygon of the surface and its split.
-use Rattle.std.proofs.Common.{◌≡◌, ℕ, ◌*◌, ◌^◌, ◌<◌, true, false, List, length, ◌-◌, ap, sym, ◌∙◌, subst, arith, inl, inr}
-use Rattle.std.specs.Prelude.{slice_index}
-use Rattle.std.proofs.lemmas.Bool.{cases_Bool, both_ways}
-use Rattle.surf_model.specs.FaceLists.{HasFileSize}
-use Rattle.surf_model.specs.declared.names.DartName.{DartName}
-use Rattle.surf_model.specs.Numbers.{count_below}
-use Rattle.halfedge_map.specs.Orbits.{after_steps}
-use Rattle.halfedge_map.specs.OrientedMeshes.{OrientedMesh, IsOrientedSurface}
-use Rattle.halfedge_map.specs.DartMaps.{darts_of, edge_of, face_of}
-use Rattle.halfedge_map.specs.RotationSystems.{Rotations, rotations_of, IsRotationSystem}
-use Rattle.halfedge_map.proofs.OrbitLemmas.{steps_within}
-use Rattle.halfedge_map.proofs.SystemLemmas.{rotation_system, names_all}
-use Rattle.tree_cotree.specs.RingViews.{dart_numbers}
-use Rattle.tree_cotree.specs.Splits.{SplitView, HasTrees, in_tree, in_cotree, is_left}
-use Rattle.tree_cotree.specs.Colourings.{ColouringView, colouring_of}
-use Rattle.tree_cotree.specs.ColouredTrees.{without_ways, HasColouredTrees}
-use Rattle.tree_cotree.proofs.LawLemmas.{one_of_three, tree_has_ring}
+use Rattle.polygon_cut.proofs.Common.{steps_within, rotation_system, names_all, darts_of, edge_of, face_of, after_steps, OrientedMesh, IsOrientedSurface, Rotations, rotations_of, IsRotationSystem, ◌≡◌, ℕ, ◌*◌, ◌^◌, ◌<◌, true, false, List, length, ◌-◌, ap, sym, ◌∙◌, subst, arith, inl, inr, cases_Bool, both_ways, slice_index, HasFileSize, count_below, DartName, one_of_three, tree_has_ring, without_ways, HasColouredTrees, ColouringView, colouring_of, dart_numbers, SplitView, HasTrees, in_tree, in_cotree, is_left}
 use Rattle.polygon_cut.specs.Polygons.{PolygonView, IsLabelled, IsCutFrom, IsCutByColours, across, turned, outer_ring}
 use Rattle.polygon_cut.specs.StoredPolygons.{left_at, without_places, IsWalked, TurnsRound, IsPlaced}
 use Rattle.polygon_cut.proofs.CountLemmas.{count_at_most, count_along, count_darts, count_nothing}

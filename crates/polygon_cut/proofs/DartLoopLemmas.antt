@@ -1,19 +1,6 @@
 -- The loops of a surface's darts, up to any congruence of walks: down the tree to the dart, along it, and up again. Twins have inverse
 -- loops, tree darts have none, and a leftover dart but the last side has the loops of two spokes.
-use Rattle.std.proofs.Common.{◌≡◌, ◌≢◌, ◌⊎◌, inl, inr, ℕ, zero, suc, ◌+◌, ◌-◌, ◌<◌, ◌≤◌, List, true, not, [], ◌∷◌, ◌++◌, refl, ap, sym, ◌∙◌, subst, arith}
-use Rattle.std.specs.Prelude.{IsTrue}
-use Rattle.std.proofs.lemmas.Bool.{cases_lt}
-use Rattle.std.proofs.lemmas.Bool.Decides.{nat_tests}
-use Rattle.surf_model.specs.FaceLists.{is_edge}
-use Rattle.halfedge_map.specs.Orbits.{after_steps}
-use Rattle.halfedge_map.specs.OrientedMeshes.{OrientedMesh, IsOrientedSurface}
-use Rattle.halfedge_map.specs.DartMaps.{darts_of, next_of, twin_of, origin_of, edge_of}
-use Rattle.halfedge_map.specs.RotationSystems.{rotations_of, IsRotationSystem, IsDartFrom}
-use Rattle.halfedge_map.proofs.OrbitLemmas.{step_first}
-use Rattle.halfedge_map.proofs.EdgeLemmas.{edge_of_dart}
-use Rattle.halfedge_map.proofs.SystemLemmas.{rotation_system, names_all}
-use Rattle.tree_cotree.specs.SpanningTrees.{after_dart}
-use Rattle.tree_cotree.specs.Splits.{SplitView, IsSplit, in_tree, in_cotree, is_left}
+use Rattle.polygon_cut.proofs.Common.{edge_of_dart, step_first, rotation_system, names_all, darts_of, next_of, twin_of, origin_of, edge_of, after_steps, OrientedMesh, IsOrientedSurface, rotations_of, IsRotationSystem, IsDartFrom, ◌≡◌, ◌≢◌, ◌⊎◌, inl, inr, ℕ, zero, suc, ◌+◌, ◌-◌, ◌<◌, ◌≤◌, List, true, not, [], ◌∷◌, ◌++◌, refl, ap, sym, ◌∙◌, subst, arith, cases_lt, nat_tests, IsTrue, is_edge, after_dart, SplitView, IsSplit, in_tree, in_cotree, is_left}
 use Rattle.polygon_cut.specs.Polygons.{PolygonView, IsCutFrom, side_at, label_of, one_up}
 use Rattle.polygon_cut.proofs.GroupLemmas.{IsGroup, quotient, one_step}
 use Rattle.polygon_cut.proofs.WayLemmas.{IsWay, back, way_home, Loop, loop_mul, loop_inv, loop_one, HasWays, loop_of}

@@ -1,23 +1,7 @@
 -- Round a face: the darts from a dart on, as many as the face has sides, go along its whole boundary, which one move contracts.
-use Rattle.std.proofs.Common.{◌≡◌, ◌≢◌, ℕ, zero, suc, ◌-◌, ◌<◌, Bool, true, false, not, List, [], ◌∷◌, ◌++◌, length, get_or, refl, ap, sym, ◌∙◌, subst, arith}
-use Rattle.std.specs.Prelude.{Some}
-use Rattle.surf_model.specs.FaceLists.{face_at, next_corner, corners_from}
-use Rattle.surf_model.specs.Surfaces.{is_flipped}
-use Rattle.surf_model.specs.Moves.{apply, Homotopic}
-use Rattle.surf_model.specs.declared.moves.Move.{Move}
-use Rattle.surf_model.specs.declared.moves.Move.TheVariants.{Across}
-use Rattle.surf_model.proofs.ReplacementLemmas.{by_replacing}
-use Rattle.surf_model.proofs.RoundLemmas.{corner_after}
-use Rattle.walk_actions.proofs.Corners.{after_more, once_round, corners_apart}
-use Rattle.halfedge_map.specs.Orbits.{after_steps}
-use Rattle.halfedge_map.specs.OrientedMeshes.{OrientedMesh, IsOrientedSurface}
-use Rattle.halfedge_map.specs.DartMaps.{darts_of, next_of, origin_of, face_of, start_corner_of, end_corner_of, dart_at_corner}
-use Rattle.halfedge_map.specs.RotationSystems.{Rotations, rotations_of, IsRotationSystem}
-use Rattle.halfedge_map.proofs.NumberLemmas.{IsNumberOf, HasPlace, placed}
+use Rattle.polygon_cut.proofs.Common.{face_at_number, origin_at, corner-next, start_kept, start_flipped, end_kept, end_flipped, start_corner_within, IsNumberOf, HasPlace, placed, rotation_system, darts_of, next_of, origin_of, face_of, start_corner_of, end_corner_of, dart_at_corner, after_steps, OrientedMesh, IsOrientedSurface, Rotations, rotations_of, IsRotationSystem, ◌≡◌, ◌≢◌, ℕ, zero, suc, ◌-◌, ◌<◌, Bool, true, false, not, List, [], ◌∷◌, ◌++◌, length, get_or, refl, ap, sym, ◌∙◌, subst, arith, Some, by_replacing, corner_after, face_at, next_corner, corners_from, apply, Homotopic, is_flipped, Move, Across, after_more, once_round, corners_apart}
 use Rattle.halfedge_map.proofs.CornerLemmas.{corner_back}
-use Rattle.halfedge_map.proofs.DartLemmas.{face_at_number, origin_at, corner-next, start_kept, start_flipped, end_kept, end_flipped, start_corner_within}
 use Rattle.halfedge_map.proofs.VertexLemmas.{at_start}
-use Rattle.halfedge_map.proofs.SystemLemmas.{rotation_system}
 
 -- the direction in which darts go round a face
 unfoldable pub dir : OrientedMesh → ℕ → Bool

@@ -1,21 +1,5 @@
 -- The laws on walks and loops as lists, from those on the loops of a split.
-use Rattle.std.proofs.Common.{◌≡◌, inl, inr, ℕ, zero, suc, ◌+◌, ◌-◌, ◌<◌, Bool, true, false, not, List, [], ◌∷◌, ◌++◌, length, drop, refl, ap, sym, ◌∙◌, subst, arith}
-use Rattle.std.specs.Prelude.{All, slice_index}
-use Rattle.std.proofs.lemmas.Bool.{cases_lt}
-use Rattle.std.proofs.Math.ListN.{get_or-eq_default}
-use Rattle.std.proofs.lemmas.List.{append-nil}
-use Rattle.surf_model.specs.FaceLists.{FaceList, face_at, corners_from, is_used}
-use Rattle.surf_model.specs.Surfaces.{IsPath, is_flipped}
-use Rattle.surf_model.specs.Walks.{IsWalk}
-use Rattle.surf_model.specs.Moves.{Leads}
-use Rattle.surf_model.specs.FreeWalks.{AreFreelyEqual}
-use Rattle.surf_model.specs.declared.moves.Move.{Move}
-use Rattle.surf_model.proofs.WayBackLemmas.{list_keeps_walk, list_keeps_ends}
-use Rattle.halfedge_map.specs.OrientedMeshes.{OrientedMesh, IsOrientedSurface}
-use Rattle.halfedge_map.specs.DartMaps.{darts_of, twin_of, origin_of, face_of, start_corner_of}
-use Rattle.halfedge_map.specs.RotationSystems.{rotations_of}
-use Rattle.halfedge_map.proofs.SystemLemmas.{rotation_system, names_all}
-use Rattle.tree_cotree.specs.Splits.{SplitView, IsSplit, StepsToParent}
+use Rattle.polygon_cut.proofs.Common.{rotation_system, names_all, darts_of, twin_of, origin_of, face_of, start_corner_of, OrientedMesh, IsOrientedSurface, rotations_of, ◌≡◌, inl, inr, ℕ, zero, suc, ◌+◌, ◌-◌, ◌<◌, Bool, true, false, not, List, [], ◌∷◌, ◌++◌, length, drop, refl, ap, sym, ◌∙◌, subst, arith, get_or-eq_default, cases_lt, append-nil, All, slice_index, list_keeps_walk, list_keeps_ends, FaceList, face_at, corners_from, is_used, AreFreelyEqual, Leads, IsPath, is_flipped, IsWalk, Move, SplitView, IsSplit, StepsToParent}
 use Rattle.polygon_cut.specs.Polygons.{PolygonView, IsCutFrom, side_at, across}
 use Rattle.polygon_cut.specs.SpokeLoops.{AreWaysUp, way_round, way_back_round, backward, dart_loop, spoke_loop, path_loop, by_loop, spokes_along, HaveFreeSpokes, last_side, last_side_loop, across_last, put_behind, comes_back, PutBehind, ArePushedFreely, ArePushedWithLoop, LeavesCotree, IsOffCotree}
 use Rattle.polygon_cut.proofs.RelatorLemmas.{spoke_product, ends_at_vertex, loop_in, free_push}

@@ -1,13 +1,6 @@
 -- Equality of walks up to spurs alone is a congruence of walks: closed walks at a root, up to spurs, are a group.
-use Rattle.std.proofs.Common.{ℕ, [], ◌∷◌, ◌++◌, length, refl}
-use Rattle.std.specs.Prelude.{IsTrue}
+use Rattle.polygon_cut.proofs.Common.{ℕ, [], ◌∷◌, ◌++◌, length, refl, IsTrue, list_in_context, one_after_another, list_undone, FaceList, is_used, IsSpurMove, AreFreelyEqual, all_raised, way_back, Remove}
 use Rattle.std.proofs.lemmas.List.Elements.{All-nil, All-cons, All-append}
-use Rattle.surf_model.specs.FaceLists.{FaceList, is_used}
-use Rattle.surf_model.specs.FreeWalks.{IsSpurMove, AreFreelyEqual}
-use Rattle.surf_model.specs.Rewriting.{all_raised, way_back}
-use Rattle.surf_model.specs.declared.moves.Move.TheVariants.{Remove}
-use Rattle.surf_model.proofs.ContextLemmas.{list_in_context, one_after_another}
-use Rattle.surf_model.proofs.WayBackLemmas.{list_undone}
 use Rattle.surf_model.proofs.FreeWalkLemmas.{spurs_raised, spurs_back}
 use Rattle.polygon_cut.proofs.GroupLemmas.{IsGroup}
 use Rattle.polygon_cut.proofs.WayLemmas.{Loop, loop_mul, loop_inv, loop_one}

@@ -1,18 +1,7 @@
 -- Moves that put spurs in, take them out, or go round the face below a cotree edge in its place keep what a walk is worth, up to spurs: the
 -- steps act on the loops by their values, and round a face that is not the root face these make nothing.
-use Rattle.std.proofs.Common.{◌≢◌, ℕ, ◌<◌, Bool, List, [], length, get_or, ap, sym, ◌∙◌, subst, arith}
-use Rattle.std.specs.Prelude.{All, Some}
-use Rattle.surf_model.specs.FaceLists.{face_at, corners_from}
-use Rattle.surf_model.specs.Walks.{IsWalk}
-use Rattle.surf_model.specs.Moves.{Leads}
-use Rattle.surf_model.specs.declared.moves.Move.{Move}
-use Rattle.surf_model.specs.declared.moves.Move.TheVariants.{Insert, Remove, Across}
-use Rattle.walk_actions.specs.Actions.{run, walked, RoundIsNothing, FacesActAsNothing, CrossesOnly}
+use Rattle.polygon_cut.proofs.Common.{dart_starts, darts_of, origin_of, face_of, start_corner_of, dart_at_corner, OrientedMesh, IsOrientedSurface, ◌≢◌, ℕ, ◌<◌, Bool, List, [], length, get_or, ap, sym, ◌∙◌, subst, arith, All, Some, face_at, corners_from, Leads, IsWalk, Move, Insert, Remove, Across, SplitView, IsSplit, run, walked, RoundIsNothing, FacesActAsNothing, CrossesOnly}
 use Rattle.walk_actions.proofs.Actions.{moves_act}
-use Rattle.halfedge_map.specs.OrientedMeshes.{OrientedMesh, IsOrientedSurface}
-use Rattle.halfedge_map.specs.DartMaps.{darts_of, origin_of, face_of, start_corner_of, dart_at_corner}
-use Rattle.halfedge_map.proofs.DartLemmas.{dart_starts}
-use Rattle.tree_cotree.specs.Splits.{SplitView, IsSplit}
 use Rattle.polygon_cut.specs.Polygons.{PolygonView, IsCutFrom}
 use Rattle.polygon_cut.specs.SpokeLoops.{LeavesCotree}
 use Rattle.polygon_cut.proofs.GroupLemmas.{IsGroup}

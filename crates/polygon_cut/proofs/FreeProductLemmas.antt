@@ -1,9 +1,5 @@
 -- Products along a walk in a group: each step from a vertex to the next has a value. A walk is a vertex and the vertices behind it.
-use Rattle.std.proofs.Common.{◌≡◌, ℕ, List, [], ◌∷◌, ◌++◌, subst}
-use Rattle.std.specs.Prelude.{IsTrue}
-use Rattle.surf_model.specs.FaceLists.{FaceList, is_edge}
-use Rattle.walk_actions.specs.Actions.{run, walked, Acts}
-use Rattle.walk_actions.proofs.Runs.{end_from as end_of}
+use Rattle.polygon_cut.proofs.Common.{◌≡◌, ℕ, List, [], ◌∷◌, ◌++◌, subst, IsTrue, FaceList, is_edge, end_from as end_of, run, walked, Acts}
 use Rattle.polygon_cut.proofs.GroupLemmas.{IsGroup, inverse_unique, inverse_of_product}
 use Rattle.polygon_cut.proofs.WayLemmas.{IsWay, back, way_home}
 

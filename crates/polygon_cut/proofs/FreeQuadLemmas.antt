@@ -1,13 +1,6 @@
 -- The quads of a polygon's sides, up to spurs alone: each side has the value of its spoke and the one after it, counted on without going
 -- round, so that all quads hold but the one of the last side, which costs the loop of the last side.
-use Rattle.std.proofs.Common.{◌≡◌, ℕ, suc, ◌-◌, ◌<◌, true, false, not, [], ◌∷◌, refl, ap, sym, ◌∙◌, subst, arith}
-use Rattle.halfedge_map.specs.OrientedMeshes.{OrientedMesh, IsOrientedSurface}
-use Rattle.halfedge_map.specs.DartMaps.{darts_of, twin_of, edge_of}
-use Rattle.halfedge_map.specs.RotationSystems.{rotations_of}
-use Rattle.halfedge_map.proofs.EdgeLemmas.{edge-twin}
-use Rattle.halfedge_map.proofs.SystemLemmas.{rotation_system}
-use Rattle.tree_cotree.specs.SpanningTrees.{after_dart}
-use Rattle.tree_cotree.specs.Splits.{SplitView, IsSplit, in_cotree, is_left}
+use Rattle.polygon_cut.proofs.Common.{edge-twin, rotation_system, darts_of, twin_of, edge_of, OrientedMesh, IsOrientedSurface, rotations_of, ◌≡◌, ℕ, suc, ◌-◌, ◌<◌, true, false, not, [], ◌∷◌, refl, ap, sym, ◌∙◌, subst, arith, after_dart, SplitView, IsSplit, in_cotree, is_left}
 use Rattle.polygon_cut.specs.Polygons.{PolygonView, IsCutFrom, side_at, across}
 use Rattle.polygon_cut.proofs.GroupWordLemmas.{Var, One, Mul, Inv, by_relation}
 use Rattle.polygon_cut.proofs.RelatorLemmas.{spoke_product, relator, CostlyPushes, costly_pushes}

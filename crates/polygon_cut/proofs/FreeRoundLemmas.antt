@@ -1,24 +1,7 @@
 -- The way round a face but for one of its darts, forward and backward: as the corners that a move reads, and as a value, up to spurs.
-use Rattle.std.proofs.Common.{◌≡◌, ◌≢◌, ℕ, zero, suc, ◌-◌, ◌<◌, ◌≤◌, Bool, true, not, ◌&&◌, eqb, List, [], ◌∷◌, ◌++◌, length, get_or, refl, ap, sym, ◌∙◌, subst, arith}
-use Rattle.std.specs.Prelude.{unwrap_or}
-use Rattle.std.proofs.lemmas.Bool.{eqb-true, eq-eqb, and_parts}
-use Rattle.surf_model.specs.FaceLists.{face_at, next_corner, corners_from}
-use Rattle.surf_model.proofs.RoundLemmas.{corner_after}
-use Rattle.walk_actions.specs.Actions.{beyond}
-use Rattle.walk_actions.proofs.Corners.{after_back, beyond_more, corners_beyond}
-use Rattle.walk_actions.proofs.Runs.{end_from as end_of, end_beyond}
-use Rattle.surf_model.proofs.EdgeLemmas.{step_within}
-use Rattle.surf_model.specs.Numbers.{first_below}
-use Rattle.halfedge_map.specs.Orbits.{after_steps}
-use Rattle.halfedge_map.specs.OrientedMeshes.{OrientedMesh, IsOrientedSurface}
-use Rattle.halfedge_map.specs.DartMaps.{darts_of, next_of, twin_of, origin_of, target_of, face_of}
-use Rattle.halfedge_map.specs.RotationSystems.{rotations_of, IsRotationSystem, IsDartFrom}
+use Rattle.polygon_cut.proofs.Common.{dart_between, step_first, rotation_system, names_all, darts_of, next_of, twin_of, origin_of, target_of, face_of, after_steps, OrientedMesh, IsOrientedSurface, rotations_of, IsRotationSystem, IsDartFrom, ◌≡◌, ◌≢◌, ℕ, zero, suc, ◌-◌, ◌<◌, ◌≤◌, Bool, true, not, ◌&&◌, eqb, List, [], ◌∷◌, ◌++◌, length, get_or, refl, ap, sym, ◌∙◌, subst, arith, eqb-true, eq-eqb, and_parts, unwrap_or, step_within, corner_after, face_at, next_corner, corners_from, first_below, SplitView, IsSplit, after_back, beyond_more, corners_beyond, end_from as end_of, end_beyond, beyond}
 use Rattle.halfedge_map.proofs.ListLemmas.{IsFirstBelow, first_passes}
 use Rattle.halfedge_map.proofs.TwinLemmas.{origin-twin}
-use Rattle.halfedge_map.proofs.EdgeLemmas.{dart_between}
-use Rattle.halfedge_map.proofs.OrbitLemmas.{step_first}
-use Rattle.halfedge_map.proofs.SystemLemmas.{rotation_system, names_all}
-use Rattle.tree_cotree.specs.Splits.{SplitView, IsSplit}
 use Rattle.polygon_cut.specs.Polygons.{PolygonView, IsCutFrom, side_at, label_of}
 use Rattle.polygon_cut.proofs.GroupLemmas.{quotient}
 use Rattle.polygon_cut.proofs.WayLemmas.{back, loop_mul, loop_inv}

@@ -1,14 +1,6 @@
 -- Values of a surface's darts, up to spurs alone: a tree or leftover dart has its loop, down the tree, along it, and up again, and a
 -- cotree dart has two spokes, those of the labels at its tail and at its head. Then every dart but the last side has its two spokes.
-use Rattle.std.proofs.Common.{◌≡◌, ◌≢◌, inl, inr, ℕ, ◌-◌, ◌<◌, Bool, true, false, refl, ap, sym, ◌∙◌, subst}
-use Rattle.std.proofs.lemmas.Bool.{cases_Bool}
-use Rattle.halfedge_map.specs.OrientedMeshes.{OrientedMesh, IsOrientedSurface}
-use Rattle.halfedge_map.specs.DartMaps.{darts_of, next_of, twin_of, edge_of}
-use Rattle.halfedge_map.specs.RotationSystems.{rotations_of, IsRotationSystem}
-use Rattle.halfedge_map.proofs.SystemLemmas.{rotation_system}
-use Rattle.tree_cotree.specs.Splits.{SplitView, IsSplit, in_tree, in_cotree, is_left}
-use Rattle.tree_cotree.proofs.SplitLemmas.{OneOfThree, tree_one, cotree_one, left_one}
-use Rattle.tree_cotree.proofs.LawLemmas.{one_of_three}
+use Rattle.polygon_cut.proofs.Common.{rotation_system, darts_of, next_of, twin_of, edge_of, OrientedMesh, IsOrientedSurface, rotations_of, IsRotationSystem, ◌≡◌, ◌≢◌, inl, inr, ℕ, ◌-◌, ◌<◌, Bool, true, false, refl, ap, sym, ◌∙◌, subst, cases_Bool, one_of_three, OneOfThree, tree_one, cotree_one, left_one, SplitView, IsSplit, in_tree, in_cotree, is_left}
 use Rattle.polygon_cut.specs.Polygons.{PolygonView, IsCutFrom, side_at, label_of}
 use Rattle.polygon_cut.proofs.GroupLemmas.{IsGroup, quotient, inverse_of_quotient}
 use Rattle.polygon_cut.proofs.WayLemmas.{loop_mul, loop_inv}

@@ -1,17 +1,6 @@
 -- Walks and what they are worth, up to spurs: a walk off the cotree is what its darts are worth, that is the product of the spokes of its
 -- darts, and the way once round the root face is the loop of the last side.
-use Rattle.std.proofs.Common.{◌≡◌, inl, inr, ℕ, suc, ◌+◌, ◌-◌, ◌<◌, Bool, true, false, List, [], ◌∷◌, ◌++◌, length, get_or, refl, ap, sym, ◌∙◌, subst, arith, append_assoc}
-use Rattle.std.proofs.lemmas.Bool.{cases_eq, both_ways}
-use Rattle.std.proofs.lemmas.Bool.Decides.{nat_tests}
-use Rattle.surf_model.specs.FaceLists.{FaceList, face_at}
-use Rattle.surf_model.specs.FreeWalks.{AreFreelyEqual}
-use Rattle.halfedge_map.specs.OrientedMeshes.{OrientedMesh, IsOrientedSurface}
-use Rattle.halfedge_map.specs.DartMaps.{darts_of, next_of, origin_of, face_of, edge_of}
-use Rattle.halfedge_map.specs.RotationSystems.{rotations_of, IsDartFrom}
-use Rattle.halfedge_map.proofs.EdgeLemmas.{dart_between}
-use Rattle.tree_cotree.specs.Splits.{SplitView, IsSplit, in_tree, in_cotree, is_left}
-use Rattle.tree_cotree.proofs.SplitLemmas.{OneOfThree, tree_one, cotree_one, left_one}
-use Rattle.tree_cotree.proofs.LawLemmas.{one_of_three}
+use Rattle.polygon_cut.proofs.Common.{dart_between, darts_of, next_of, origin_of, face_of, edge_of, OrientedMesh, IsOrientedSurface, rotations_of, IsDartFrom, ◌≡◌, inl, inr, ℕ, suc, ◌+◌, ◌-◌, ◌<◌, Bool, true, false, List, [], ◌∷◌, ◌++◌, length, get_or, refl, ap, sym, ◌∙◌, subst, arith, append_assoc, cases_eq, both_ways, nat_tests, FaceList, face_at, AreFreelyEqual, one_of_three, OneOfThree, tree_one, cotree_one, left_one, SplitView, IsSplit, in_tree, in_cotree, is_left}
 use Rattle.polygon_cut.specs.Polygons.{PolygonView, IsCutFrom, side_at, label_of, across, one_up}
 use Rattle.polygon_cut.specs.SpokeLoops.{IsOffCotree, HasFreeSpokes}
 use Rattle.polygon_cut.proofs.GroupLemmas.{IsGroup, quotient, inverse_unique}

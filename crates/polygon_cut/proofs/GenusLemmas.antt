@@ -1,18 +1,8 @@
 -- A surface has a split, and where its Euler characteristic is 2 none of its edges is left over.
-use Rattle.std.proofs.Common.{◌≡◌, ℕ, ◌+◌, ◌*◌, List, length, ap, sym, ◌∙◌, arith}
-use Rattle.std.specs.Prelude.{ℤ, pos, ◌+ℤ◌, ◌-ℤ◌}
+use Rattle.polygon_cut.proofs.Common.{used_vertices, OrientedMesh, IsOrientedSurface, ◌≡◌, ℕ, ◌+◌, ◌*◌, List, length, ap, sym, ◌∙◌, arith, ℤ, pos, ◌+ℤ◌, ◌-ℤ◌, FaceList, IsFaceList, is_used, Homotopic, count_below, IsSurface, AreWalkPair, exact, SplitView, IsSplit}
 use Rattle.std.proofs.lemmas.Int.{ints}
-use Rattle.surf_model.specs.FaceLists.{FaceList, IsFaceList, is_used}
 use Rattle.surf_model.specs.Genera.{AreNumbersOf, HasGenus}
-use Rattle.surf_model.specs.Moves.{Homotopic}
-use Rattle.surf_model.specs.Numbers.{count_below}
-use Rattle.surf_model.specs.Surfaces.{IsSurface}
-use Rattle.surf_model.specs.Walks.{AreWalkPair}
-use Rattle.halfedge_map.specs.DartMaps.{used_vertices}
-use Rattle.halfedge_map.specs.OrientedMeshes.{OrientedMesh, IsOrientedSurface}
-use Rattle.tree_cotree.specs.Splits.{SplitView, IsSplit}
 use Rattle.tree_cotree.proofs.GenusLemmas.{some_split}
-use Rattle.tree_cotree.proofs.LawLemmas.{exact}
 use Rattle.polygon_cut.proofs.SphereLemmas.{all_homotopic}
 
 -- what is left of the genus where the Euler characteristic is 2

@@ -1,6 +1,5 @@
 -- Identities that hold in every group: a term has a reduced word, in which no neighbours are inverse, and terms with one word are the same.
-use Rattle.std.proofs.Common.{◌≡◌, inl, inr, ℕ, zero, suc, Bool, true, false, not, ◌&&◌, eqb, cond, List, [], ◌∷◌, get_or, refl, ap, ◌∙◌, subst}
-use Rattle.std.proofs.lemmas.Bool.{cases_Bool, eqb-true, and_parts}
+use Rattle.polygon_cut.proofs.Common.{◌≡◌, inl, inr, ℕ, zero, suc, Bool, true, false, not, ◌&&◌, eqb, cond, List, [], ◌∷◌, get_or, refl, ap, ◌∙◌, subst, cases_Bool, eqb-true, and_parts}
 use Rattle.polygon_cut.proofs.GroupLemmas.{IsGroup, inverse_twice, inverse_of_product}
 use Rattle.polygon_cut.proofs.FreeProductLemmas.{inverse_of_one}
 

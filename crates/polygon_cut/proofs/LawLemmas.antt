@@ -1,13 +1,5 @@
 -- The laws of polygons, from those of rotation systems.
-use Rattle.std.proofs.Common.{◌≡◌, ℕ, ◌<◌, true, not, subst, arith}
-use Rattle.halfedge_map.specs.Orbits.{IsReached}
-use Rattle.halfedge_map.specs.OrientedMeshes.{OrientedMesh, IsOrientedSurface}
-use Rattle.halfedge_map.specs.DartMaps.{darts_of, twin_of, edge_of}
-use Rattle.halfedge_map.specs.RotationSystems.{rotations_of}
-use Rattle.halfedge_map.proofs.SystemLemmas.{rotation_system}
-use Rattle.tree_cotree.specs.Splits.{SplitView, IsSplit, in_tree, in_cotree, is_left}
-use Rattle.tree_cotree.specs.SpanningTrees.{after_dart}
-use Rattle.tree_cotree.proofs.LawLemmas.{one_of_three, tree_has_ring}
+use Rattle.polygon_cut.proofs.Common.{rotation_system, darts_of, twin_of, edge_of, IsReached, OrientedMesh, IsOrientedSurface, rotations_of, ◌≡◌, ℕ, ◌<◌, true, not, subst, arith, one_of_three, tree_has_ring, after_dart, SplitView, IsSplit, in_tree, in_cotree, is_left}
 use Rattle.polygon_cut.specs.Polygons.{PolygonView, IsCutFrom, KindLabels, label_of, place_of, across, turned, one_up, one_down}
 use Rattle.polygon_cut.proofs.PolygonLemmas.{kind_labels, turning_reaches_all}
 use Rattle.polygon_cut.proofs.PlaceLemmas.{Crosses, sides_cross}

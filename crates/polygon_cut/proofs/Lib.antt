@@ -1,3 +1,4 @@
+pub mod Common
 pub mod PolygonLemmas
 pub mod RoundLemmas
 pub mod CountLemmas

@@ -1,14 +1,6 @@
 -- Homotopy is a congruence of walks: closed walks at a root, up to homotopy, are a group, and walks are products of the loops of their
 -- darts, where a way leads from each vertex to the root.
-use Rattle.std.proofs.Common.{◌≡◌, ℕ, List, [], ◌∷◌, ◌++◌, length, refl, arith}
-use Rattle.std.specs.Prelude.{IsTrue, Some}
-use Rattle.surf_model.specs.FaceLists.{FaceList, is_used}
-use Rattle.surf_model.specs.Moves.{apply, Homotopic}
-use Rattle.surf_model.specs.Rewriting.{all_raised, way_back}
-use Rattle.surf_model.specs.declared.moves.Move.TheVariants.{Remove}
-use Rattle.surf_model.proofs.ReplacementLemmas.{by_replacing}
-use Rattle.surf_model.proofs.ContextLemmas.{list_in_context, one_after_another}
-use Rattle.surf_model.proofs.WayBackLemmas.{list_undone}
+use Rattle.polygon_cut.proofs.Common.{◌≡◌, ℕ, List, [], ◌∷◌, ◌++◌, length, refl, arith, IsTrue, Some, list_in_context, one_after_another, by_replacing, list_undone, FaceList, is_used, apply, Homotopic, all_raised, way_back, Remove}
 use Rattle.polygon_cut.proofs.GroupLemmas.{IsGroup}
 pub use Rattle.polygon_cut.proofs.WayLemmas.{
   IsWay,

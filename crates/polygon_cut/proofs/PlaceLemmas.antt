@@ -1,13 +1,6 @@
 -- Places round the one vertex: the numbers of the sides, taken as they come by turning, get falling places.
-use Rattle.std.proofs.Common.{◌≡◌, ◌≢◌, ◌⊎◌, inl, inr, ℕ, suc, ◌+◌, ◌-◌, ◌<◌, Bool, ap, sym, ◌∙◌, subst, arith}
-use Rattle.std.proofs.lemmas.Bool.{cases_eq}
-use Rattle.std.proofs.lemmas.Bool.Decides.{nat_tests}
-use Rattle.halfedge_map.specs.Orbits.{after_steps, IsReached}
-use Rattle.halfedge_map.specs.RotationSystems.{Rotations, IsRotationSystem}
+use Rattle.polygon_cut.proofs.Common.{IsPermutationBelow, Returns, returns_to, step_first, after_steps, IsReached, Rotations, IsRotationSystem, ◌≡◌, ◌≢◌, ◌⊎◌, inl, inr, ℕ, suc, ◌+◌, ◌-◌, ◌<◌, Bool, ap, sym, ◌∙◌, subst, arith, cases_eq, nat_tests, twin_edge, reached_soon}
 use Rattle.polygon_cut.specs.Polygons.{one_up, one_down, PolygonView, side_at, label_of, across, IsLabelled}
-use Rattle.halfedge_map.proofs.OrbitLemmas.{IsPermutationBelow, Returns, returns_to, step_first}
-use Rattle.tree_cotree.proofs.ExchangeLemmas.{reached_soon}
-use Rattle.tree_cotree.proofs.AfterLemmas.{twin_edge}
 use Rattle.polygon_cut.proofs.PolygonLemmas.{one_up_below, is_own_side}
 use Rattle.polygon_cut.proofs.RoundLemmas.{whole_round}
 

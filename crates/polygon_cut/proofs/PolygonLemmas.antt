@@ -1,15 +1,7 @@
 -- How labels ride along the rings: along that of tree and leftover edges they stay or rise by one, along that of the tree they stay
 -- or turn.
-use Rattle.std.proofs.Common.{◌≡◌, ◌⊎◌, inl, inr, ℕ, zero, suc, ◌-◌, ◌<◌, Bool, true, false, not, refl, ap, sym, ◌∙◌, subst, arith}
-use Rattle.std.proofs.lemmas.Bool.{cases_eq, cases_lt, both_ways}
-use Rattle.std.proofs.lemmas.Bool.Decides.{nat_tests}
-use Rattle.halfedge_map.specs.Orbits.{after_steps, IsReached}
-use Rattle.halfedge_map.specs.RotationSystems.{Rotations, IsRotationSystem}
-use Rattle.tree_cotree.specs.SpanningTrees.{after_dart, HasOneRing}
+use Rattle.polygon_cut.proofs.Common.{IsPermutationBelow, step_first, reached_step, reached_refl, reached_trans, after_steps, IsReached, Rotations, IsRotationSystem, ◌≡◌, ◌⊎◌, inl, inr, ℕ, zero, suc, ◌-◌, ◌<◌, Bool, true, false, not, refl, ap, sym, ◌∙◌, subst, arith, cases_eq, cases_lt, both_ways, nat_tests, after_permutes, go_on, turn, twin_edge, OneOfThree, tree_one, cotree_one, left_one, after_dart, HasOneRing}
 use Rattle.polygon_cut.specs.Polygons.{one_up, PolygonView, side_at, label_of, turned, IsFirstLeft, IsLabelled, KindLabels}
-use Rattle.halfedge_map.proofs.OrbitLemmas.{IsPermutationBelow, step_first, reached_step, reached_refl, reached_trans}
-use Rattle.tree_cotree.proofs.AfterLemmas.{after_permutes, go_on, turn, twin_edge}
-use Rattle.tree_cotree.proofs.SplitLemmas.{OneOfThree, tree_one, cotree_one, left_one}
 
 pub one_up_below : (degree i : ℕ) → i < degree → one_up degree i < degree
 one_up_below degree i l = grind (arith, nat_tests)

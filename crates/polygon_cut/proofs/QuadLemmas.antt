@@ -1,10 +1,6 @@
 -- The leftover rule of the places, the order of the places for degree 4, and how many darts have an edge of a set.
-use Rattle.std.proofs.Common.{◌≡◌, ◌⊎◌, inl, inr, ℕ, zero, suc, ◌<◌, Bool, true, refl, ap, sym, ◌∙◌, subst, arith}
-use Rattle.std.proofs.lemmas.Bool.{cases_lt}
-use Rattle.halfedge_map.specs.Orbits.{after_steps, IsReached}
-use Rattle.halfedge_map.specs.RotationSystems.{Rotations, IsRotationSystem}
+use Rattle.polygon_cut.proofs.Common.{reached_back, after_steps, IsReached, Rotations, IsRotationSystem, ◌≡◌, ◌⊎◌, inl, inr, ℕ, zero, suc, ◌<◌, Bool, true, refl, ap, sym, ◌∙◌, subst, arith, cases_lt}
 use Rattle.polygon_cut.specs.Polygons.{one_up, one_down, PolygonView, label_of, place_of, IsLabelled, HasPlaces}
-use Rattle.halfedge_map.proofs.OrbitLemmas.{reached_back}
 use Rattle.polygon_cut.proofs.PolygonLemmas.{is_own_side}
 use Rattle.polygon_cut.proofs.PlaceLemmas.{Crosses, turning_permutes}
 

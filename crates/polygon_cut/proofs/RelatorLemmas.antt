@@ -1,6 +1,6 @@
 -- Products of spokes: each spoke is put at the vertex and taken away in the middle, in turn. A push across the quad of one side, whose two
 -- products differ by a loop, is that loop put in at a place.
-use Rattle.std.proofs.Common.{◌≡◌, ℕ, suc, Bool, true, false, not, List, [], ◌∷◌, ◌++◌, refl, subst}
+use Rattle.polygon_cut.proofs.Common.{◌≡◌, ℕ, suc, Bool, true, false, not, List, [], ◌∷◌, ◌++◌, refl, subst}
 use Rattle.polygon_cut.proofs.GroupLemmas.{IsGroup}
 use Rattle.polygon_cut.proofs.GroupWordLemmas.{Term, Var, One, Mul, Inv, by_words, by_relation}
 

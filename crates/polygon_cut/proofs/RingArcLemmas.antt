@@ -1,19 +1,6 @@
 -- Arcs of the ring of tree and leftover edges: the walk along one, past no last side, is worth the loops of two spokes, there along the
 -- one and back along the other; and of any two sides there is one from the one to the other, with fewer darts than the surface has sides.
-use Rattle.std.proofs.Common.{◌≡◌, ◌≢◌, ◌⊎◌, inl, inr, ℕ, zero, suc, ◌+◌, ◌-◌, ◌<◌, ◌≤◌, true, false, not, List, [], ◌∷◌, ◌++◌, length, refl, ap, sym, ◌∙◌, subst, arith, length-append}
-use Rattle.std.specs.Prelude.{if◌then◌else◌}
-use Rattle.std.proofs.lemmas.Bool.{cases_Bool, cases_lt}
-use Rattle.std.proofs.lemmas.List.{append-nil}
-use Rattle.surf_model.specs.FreeWalks.{AreFreelyEqual}
-use Rattle.halfedge_map.specs.Orbits.{after_steps}
-use Rattle.halfedge_map.specs.OrientedMeshes.{OrientedMesh, IsOrientedSurface}
-use Rattle.halfedge_map.specs.DartMaps.{darts_of, next_of, twin_of, origin_of, edge_of}
-use Rattle.halfedge_map.specs.RotationSystems.{rotations_of, IsRotationSystem}
-use Rattle.halfedge_map.proofs.OrbitLemmas.{IsPermutationBelow, steps_add, steps_within}
-use Rattle.halfedge_map.proofs.SystemLemmas.{rotation_system, names_all}
-use Rattle.tree_cotree.specs.Splits.{SplitView, IsSplit, in_cotree}
-use Rattle.tree_cotree.proofs.AfterLemmas.{after_permutes, go_on, turn}
-use Rattle.tree_cotree.proofs.LawLemmas.{rest_has_ring}
+use Rattle.polygon_cut.proofs.Common.{IsPermutationBelow, steps_add, steps_within, rotation_system, names_all, darts_of, next_of, twin_of, origin_of, edge_of, after_steps, OrientedMesh, IsOrientedSurface, rotations_of, IsRotationSystem, ◌≡◌, ◌≢◌, ◌⊎◌, inl, inr, ℕ, zero, suc, ◌+◌, ◌-◌, ◌<◌, ◌≤◌, true, false, not, List, [], ◌∷◌, ◌++◌, length, refl, ap, sym, ◌∙◌, subst, arith, length-append, cases_Bool, cases_lt, append-nil, if◌then◌else◌, AreFreelyEqual, after_permutes, go_on, turn, rest_has_ring, SplitView, IsSplit, in_cotree}
 use Rattle.polygon_cut.specs.Polygons.{PolygonView, IsCutFrom, outer_ring, side_at, label_of}
 use Rattle.polygon_cut.specs.RingWalks.{ring_walk, IsRingArc}
 use Rattle.polygon_cut.specs.SpokeLoops.{AreWaysUp, by_loop, last_side, path_loop}

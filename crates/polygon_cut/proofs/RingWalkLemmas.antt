@@ -1,22 +1,5 @@
 -- The walk along the ring of tree and leftover edges of a split.
-use Rattle.std.proofs.Common.{◌≡◌, ℕ, suc, ◌+◌, ◌<◌, Bool, true, false, not, List, [], ◌∷◌, ◌++◌, length, ap, sym, ◌∙◌, subst, arith}
-use Rattle.std.proofs.Math.ListN.{set}
-use Rattle.std.proofs.lemmas.List.{length-map, map-append}
-use Rattle.surf_model.specs.FaceLists.{face_at}
-use Rattle.surf_model.specs.Darts.{first_side}
-use Rattle.surf_model.specs.declared.names.DartName.{DartName}
-use Rattle.halfedge_map.specs.Orbits.{after_steps}
-use Rattle.halfedge_map.specs.OrientedMeshes.{OrientedMesh, IsOrientedSurface}
-use Rattle.halfedge_map.specs.DartMaps.{darts_of, edge_of, face_of}
-use Rattle.halfedge_map.specs.RotationSystems.{Rotations, rotations_of}
-use Rattle.halfedge_map.proofs.OrbitLemmas.{IsPermutationBelow, steps_within}
-use Rattle.halfedge_map.proofs.NumberLemmas.{IsNumberOf, HasPlace, placed}
-use Rattle.halfedge_map.proofs.DartLemmas.{face_at_number}
-use Rattle.halfedge_map.proofs.SystemLemmas.{rotation_system}
-use Rattle.tree_cotree.specs.RingViews.{dart_numbers}
-use Rattle.tree_cotree.specs.Splits.{SplitView, HasTrees, in_cotree, is_left}
-use Rattle.tree_cotree.proofs.AfterLemmas.{after_permutes}
-use Rattle.tree_cotree.proofs.LawLemmas.{rest_has_ring}
+use Rattle.polygon_cut.proofs.Common.{face_at_number, IsNumberOf, HasPlace, placed, IsPermutationBelow, steps_within, rotation_system, darts_of, edge_of, face_of, after_steps, OrientedMesh, IsOrientedSurface, Rotations, rotations_of, ◌≡◌, ℕ, suc, ◌+◌, ◌<◌, Bool, true, false, not, List, [], ◌∷◌, ◌++◌, length, ap, sym, ◌∙◌, subst, arith, set, length-map, map-append, first_side, face_at, DartName, after_permutes, rest_has_ring, dart_numbers, SplitView, HasTrees, in_cotree, is_left}
 use Rattle.polygon_cut.specs.Polygons.{outer_ring}
 use Rattle.polygon_cut.specs.StoredPolygons.{IsWalked}
 use Rattle.polygon_cut.proofs.RoundLemmas.{GoesRound}

@@ -1,9 +1,5 @@
 -- A permutation of the numbers below n that reaches all of them from one: n steps lead round, and fewer do not.
-use Rattle.std.proofs.Common.{◌≡◌, ◌≢◌, ◌⊎◌, inl, inr, ℕ, zero, suc, ◌+◌, ◌-◌, ◌<◌, ◌≤◌, ap, sym, ◌∙◌, arith}
-use Rattle.std.proofs.lemmas.Bool.{cases_eq, cases_lt}
-use Rattle.halfedge_map.specs.Orbits.{after_steps, IsReached}
-use Rattle.halfedge_map.proofs.OrbitLemmas.{IsPermutationBelow, AreAlike, two_alike, Returns, returns_to, step_first, steps_add, steps_within}
-use Rattle.tree_cotree.proofs.ExchangeLemmas.{reached_soon}
+use Rattle.polygon_cut.proofs.Common.{IsPermutationBelow, AreAlike, two_alike, Returns, returns_to, step_first, steps_add, steps_within, after_steps, IsReached, ◌≡◌, ◌≢◌, ◌⊎◌, inl, inr, ℕ, zero, suc, ◌+◌, ◌-◌, ◌<◌, ◌≤◌, ap, sym, ◌∙◌, arith, cases_eq, cases_lt, reached_soon}
 
 -- where all numbers are reached from x, it takes as many steps to come back as there are numbers
 pub whole_round : (degree : ℕ) (f : ℕ → ℕ) → IsPermutationBelow degree f → (x : ℕ) → ((j : ℕ) → j < degree → IsReached f x j)

@@ -1,13 +1,6 @@
 -- Where the loop of the last side is put in, the way there and the way back and on are short: the spokes in front that the path has too
 -- cancel, and the two spokes of the side across from the last one are that side.
-use Rattle.std.proofs.Common.{◌≡◌, ℕ, suc, ◌+◌, ◌*◌, ◌-◌, ◌<◌, ◌≤◌, Bool, true, false, List, [], ◌∷◌, ◌++◌, length, refl, ap, sym, ◌∙◌, subst, arith, length-append}
-use Rattle.std.specs.Prelude.{All}
-use Rattle.std.proofs.lemmas.List.{append-nil}
-use Rattle.surf_model.specs.FaceLists.{is_used}
-use Rattle.halfedge_map.specs.OrientedMeshes.{OrientedMesh, IsOrientedSurface}
-use Rattle.halfedge_map.specs.DartMaps.{darts_of, twin_of, origin_of}
-use Rattle.halfedge_map.proofs.SystemLemmas.{names_all}
-use Rattle.tree_cotree.specs.Splits.{SplitView, IsSplit}
+use Rattle.polygon_cut.proofs.Common.{names_all, darts_of, twin_of, origin_of, OrientedMesh, IsOrientedSurface, ◌≡◌, ℕ, suc, ◌+◌, ◌*◌, ◌-◌, ◌<◌, ◌≤◌, Bool, true, false, List, [], ◌∷◌, ◌++◌, length, refl, ap, sym, ◌∙◌, subst, arith, length-append, append-nil, All, is_used, SplitView, IsSplit}
 use Rattle.polygon_cut.specs.Polygons.{PolygonView, IsCutFrom, side_at}
 use Rattle.polygon_cut.specs.SpokeLoops.{AreWaysUp, backward, by_loop, path_loop, last_side, across_last, comes_back}
 use Rattle.polygon_cut.specs.ShortWalks.{IsFreelyShort, AreShortAround}

@@ -1,12 +1,6 @@
 -- Short walks for lists of spokes: for each two spokes one walk along the tree and one arc of the ring, and at the end one more along the
 -- tree.
-use Rattle.std.proofs.Common.{◌≡◌, ℕ, zero, suc, ◌+◌, ◌*◌, ◌<◌, ◌≤◌, true, List, [], ◌∷◌, ◌++◌, length, ap, sym, ◌∙◌, subst, arith, length-append}
-use Rattle.std.specs.Prelude.{All}
-use Rattle.surf_model.specs.FaceLists.{is_used}
-use Rattle.halfedge_map.specs.OrientedMeshes.{OrientedMesh, IsOrientedSurface}
-use Rattle.halfedge_map.specs.DartMaps.{darts_of, origin_of}
-use Rattle.halfedge_map.proofs.SystemLemmas.{names_all}
-use Rattle.tree_cotree.specs.Splits.{SplitView, IsSplit}
+use Rattle.polygon_cut.proofs.Common.{names_all, darts_of, origin_of, OrientedMesh, IsOrientedSurface, ◌≡◌, ℕ, zero, suc, ◌+◌, ◌*◌, ◌<◌, ◌≤◌, true, List, [], ◌∷◌, ◌++◌, length, ap, sym, ◌∙◌, subst, arith, length-append, All, is_used, SplitView, IsSplit}
 use Rattle.polygon_cut.specs.Polygons.{PolygonView, IsCutFrom, side_at}
 use Rattle.polygon_cut.specs.SpokeLoops.{AreWaysUp, by_loop, path_loop}
 use Rattle.polygon_cut.specs.ShortWalks.{IsFreelyShort}

@@ -1,15 +1,6 @@
 -- On a sphere nothing is left over: each dart's loop is nothing, so any two walks with common ends are homotopic.
-use Rattle.std.proofs.Common.{◌≡◌, inl, inr, ℕ, zero, suc, ◌+◌, ◌*◌, ◌<◌, Bool, true, List, [], ◌∷◌, refl, ap, sym, ◌∙◌, subst, arith}
-use Rattle.std.specs.Prelude.{length, slice_index, if◌then◌else◌}
-use Rattle.std.proofs.lemmas.Bool.{cases_eq}
-use Rattle.surf_model.specs.Walks.{IsWalk, HaveCommonEnds}
-use Rattle.surf_model.specs.Moves.{Homotopic}
-use Rattle.surf_model.specs.Numbers.{count_below}
-use Rattle.halfedge_map.specs.OrientedMeshes.{OrientedMesh, IsOrientedSurface}
-use Rattle.halfedge_map.specs.DartMaps.{darts_of, edge_of}
-use Rattle.halfedge_map.proofs.EdgeLemmas.{dart_between}
-use Rattle.halfedge_map.proofs.SystemLemmas.{names_all}
-use Rattle.tree_cotree.specs.Splits.{SplitView, IsSplit, is_left}
+use Rattle.polygon_cut.proofs.Common.{dart_between, names_all, darts_of, edge_of, OrientedMesh, IsOrientedSurface, ◌≡◌, inl, inr, ℕ, zero, suc, ◌+◌, ◌*◌, ◌<◌, Bool, true, List, [], ◌∷◌, refl, ap, sym, ◌∙◌, subst, arith, cases_eq, slice_index, if◌then◌else◌, Homotopic, count_below, IsWalk, HaveCommonEnds, SplitView, IsSplit, is_left}
+use Rattle.std.specs.Prelude.{length}
 use Rattle.polygon_cut.proofs.GroupLemmas.{quotient}
 use Rattle.polygon_cut.proofs.WayLemmas.{IsWay, HasWays, loop_mul, loop_inv, loop_of, start_used}
 use Rattle.polygon_cut.proofs.LoopLemmas.{SameLoop, no_dart, first_dart, from_loops, homotopy}

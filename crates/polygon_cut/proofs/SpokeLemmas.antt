@@ -1,12 +1,5 @@
 -- The values of a surface's darts up to homotopy: round a face they make nothing, so each dart is a product of two spokes.
-use Rattle.std.proofs.Common.{◌≡◌, ℕ, suc, ◌-◌, ◌<◌, ◌≤◌, [], ◌∷◌, length, ap, sym, ◌∙◌, subst, arith, refl}
-use Rattle.surf_model.specs.FaceLists.{face_at}
-use Rattle.halfedge_map.specs.Orbits.{after_steps}
-use Rattle.halfedge_map.specs.OrientedMeshes.{OrientedMesh, IsOrientedSurface}
-use Rattle.halfedge_map.specs.DartMaps.{darts_of, next_of, twin_of, origin_of, face_of}
-use Rattle.halfedge_map.proofs.OrbitLemmas.{step_first}
-use Rattle.halfedge_map.proofs.SystemLemmas.{names_all}
-use Rattle.tree_cotree.specs.Splits.{SplitView, IsSplit}
+use Rattle.polygon_cut.proofs.Common.{step_first, names_all, darts_of, next_of, twin_of, origin_of, face_of, after_steps, OrientedMesh, IsOrientedSurface, ◌≡◌, ℕ, suc, ◌-◌, ◌<◌, ◌≤◌, [], ◌∷◌, length, ap, sym, ◌∙◌, subst, arith, refl, face_at, SplitView, IsSplit}
 use Rattle.polygon_cut.specs.Polygons.{PolygonView, IsCutFrom, side_at, label_of}
 use Rattle.polygon_cut.proofs.GroupLemmas.{IsGroup}
 use Rattle.polygon_cut.proofs.CongruenceLemmas.{to_loops}

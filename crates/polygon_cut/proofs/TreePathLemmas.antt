@@ -1,18 +1,6 @@
 -- Walks along the tree from any vertex to any other: up from the one to where the ways up meet, and down to the other. They pass no vertex
 -- twice, so they have fewer darts than half of the surface's sides.
-use Rattle.std.proofs.Common.{◌≡◌, ◌≢◌, ◌⊎◌, inl, inr, ℕ, suc, ◌+◌, ◌*◌, ◌<◌, ◌≤◌, Bool, true, false, not, ◌&&◌, eqb, List, [], ◌∷◌, ◌++◌, length, refl, ap, sym, ◌∙◌, subst, arith, length-append}
-use Rattle.std.specs.Prelude.{IsTrue}
-use Rattle.std.proofs.lemmas.Bool.{cases_Bool, cases_eq, eqb-true, eq-eqb}
-use Rattle.surf_model.specs.FaceLists.{is_used, is_edge}
-use Rattle.surf_model.specs.Surfaces.{IsPath}
-use Rattle.surf_model.specs.Numbers.{count_below}
-use Rattle.halfedge_map.specs.OrientedMeshes.{OrientedMesh, IsOrientedSurface}
-use Rattle.halfedge_map.specs.DartMaps.{darts_of, used_vertices}
-use Rattle.halfedge_map.specs.RotationSystems.{rotations_of}
-use Rattle.halfedge_map.proofs.SystemLemmas.{rotation_system, names_all}
-use Rattle.tree_cotree.specs.Splits.{SplitView, IsSplit, StepsToParent}
-use Rattle.tree_cotree.proofs.ClassLemmas.{count_less}
-use Rattle.tree_cotree.proofs.LawLemmas.{count_all, exact}
+use Rattle.polygon_cut.proofs.Common.{rotation_system, names_all, darts_of, used_vertices, OrientedMesh, IsOrientedSurface, rotations_of, ◌≡◌, ◌≢◌, ◌⊎◌, inl, inr, ℕ, suc, ◌+◌, ◌*◌, ◌<◌, ◌≤◌, Bool, true, false, not, ◌&&◌, eqb, List, [], ◌∷◌, ◌++◌, length, refl, ap, sym, ◌∙◌, subst, arith, length-append, cases_Bool, cases_eq, eqb-true, eq-eqb, IsTrue, is_used, is_edge, count_below, IsPath, count_less, count_all, exact, SplitView, IsSplit, StepsToParent}
 use Rattle.polygon_cut.specs.Polygons.{PolygonView, IsCutFrom}
 use Rattle.polygon_cut.proofs.CountLemmas.{count_darts}
 use Rattle.polygon_cut.proofs.FreeProductLemmas.{inverse_of_one}

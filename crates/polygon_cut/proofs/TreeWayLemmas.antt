@@ -1,20 +1,6 @@
 -- The way up the tree from each vertex, and that each tree edge is that of a dart to a parent.
-use Rattle.std.proofs.Common.{◌≡◌, ◌≢◌, ◌⊎◌, inl, inr, ℕ, zero, suc, ◌+◌, ◌<◌, Bool, true, false, ◌||◌, eqb, cond, List, [], ◌∷◌, length, refl, ap, sym, ◌∙◌, subst, arith}
-use Rattle.std.specs.Prelude.{IsTrue, Option, Some, None}
-use Rattle.std.proofs.lemmas.Bool.{cases_Bool, both_ways, eqb-true, eq-eqb, or_right}
+use Rattle.polygon_cut.proofs.Common.{edge_of_dart, rotation_system, names_all, darts_of, OrientedMesh, IsOrientedSurface, Rotations, rotations_of, IsRotationSystem, ◌≡◌, ◌≢◌, ◌⊎◌, inl, inr, ℕ, zero, suc, ◌+◌, ◌<◌, Bool, true, false, ◌||◌, eqb, cond, List, [], ◌∷◌, length, refl, ap, sym, ◌∙◌, subst, arith, cases_Bool, both_ways, eqb-true, eq-eqb, or_right, IsTrue, Option, Some, None, is_used, is_edge, count_below, IsPath, found_below, count_same, count_less, count_none, same_from_count, any_below, SplitView, IsSplit, in_tree, parent_dart, StepsToParent}
 use Rattle.std.proofs.Math.Bool.{or-false}
-use Rattle.surf_model.specs.FaceLists.{is_used, is_edge}
-use Rattle.surf_model.specs.Surfaces.{IsPath}
-use Rattle.surf_model.specs.Numbers.{count_below}
-use Rattle.halfedge_map.specs.OrientedMeshes.{OrientedMesh, IsOrientedSurface}
-use Rattle.halfedge_map.specs.DartMaps.{darts_of}
-use Rattle.halfedge_map.specs.RotationSystems.{Rotations, rotations_of, IsRotationSystem}
-use Rattle.halfedge_map.proofs.SystemLemmas.{rotation_system, names_all}
-use Rattle.halfedge_map.proofs.EdgeLemmas.{edge_of_dart}
-use Rattle.tree_cotree.specs.RingCounts.{any_below}
-use Rattle.tree_cotree.specs.Splits.{SplitView, IsSplit, in_tree, parent_dart, StepsToParent}
-use Rattle.tree_cotree.proofs.ClassLemmas.{found_below, count_same, count_less, count_none}
-use Rattle.tree_cotree.proofs.SetLemmas.{same_from_count}
 use Rattle.polygon_cut.proofs.WayLemmas.{IsWay, HasWays}
 
 -- the steps to a parent lead on in one way, and none leads on from the root

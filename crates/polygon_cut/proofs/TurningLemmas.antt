@@ -1,13 +1,5 @@
 -- Places given by turning round the one vertex, from side to side.
-use Rattle.std.proofs.Common.{◌≡◌, ◌≢◌, inl, inr, ℕ, suc, ◌+◌, ◌-◌, ◌<◌, List, length, get_or, ap, sym, ◌∙◌, subst, arith}
-use Rattle.std.proofs.Math.ListN.{set}
-use Rattle.std.specs.Prelude.{slice_index}
-use Rattle.std.proofs.lemmas.Bool.{cases_eq}
-use Rattle.std.proofs.lemmas.Bool.Decides.{nat_tests}
-use Rattle.std.proofs.lemmas.List.{get_or-set_same, get_or-set_other, length-set}
-use Rattle.halfedge_map.specs.Orbits.{after_steps}
-use Rattle.halfedge_map.specs.RotationSystems.{Rotations}
-use Rattle.halfedge_map.proofs.OrbitLemmas.{steps_within}
+use Rattle.polygon_cut.proofs.Common.{steps_within, after_steps, Rotations, ◌≡◌, ◌≢◌, inl, inr, ℕ, suc, ◌+◌, ◌-◌, ◌<◌, List, length, get_or, ap, sym, ◌∙◌, subst, arith, set, cases_eq, nat_tests, get_or-set_same, get_or-set_other, length-set, slice_index}
 use Rattle.polygon_cut.specs.Polygons.{PolygonView, HasPlaces, one_down, turned, across}
 use Rattle.polygon_cut.specs.StoredPolygons.{TurnsRound, IsPlaced}
 use Rattle.polygon_cut.proofs.PlaceLemmas.{FallingPlaces, falling}

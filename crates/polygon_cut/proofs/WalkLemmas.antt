@@ -1,9 +1,5 @@
 -- Walks as ways: two walks with common ends are ways from one vertex to one vertex.
-use Rattle.std.proofs.Common.{◌≡◌, ℕ, suc, List, [], ◌∷◌, length, refl, ap, sym, ◌∙◌, subst, arith}
-use Rattle.std.specs.Prelude.{All, IsTrue, slice_index}
-use Rattle.surf_model.specs.FaceLists.{FaceList, is_used}
-use Rattle.surf_model.specs.Walks.{IsWalk, HaveCommonEnds, darts}
-use Rattle.surf_model.proofs.LinkLemmas.{Linked, links}
+use Rattle.polygon_cut.proofs.Common.{◌≡◌, ℕ, suc, List, [], ◌∷◌, length, refl, ap, sym, ◌∙◌, subst, arith, All, IsTrue, slice_index, Linked, links, FaceList, is_used, IsWalk, HaveCommonEnds, darts}
 use Rattle.polygon_cut.proofs.WayLemmas.{IsWay}
 
 -- a walk is a way to its last entry

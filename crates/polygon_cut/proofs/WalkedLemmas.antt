@@ -1,14 +1,5 @@
 -- A walk once along a ring that holds every dart gives the labels of a polygon.
-use Rattle.std.proofs.Common.{◌≡◌, ◌≢◌, inl, inr, ℕ, suc, ◌+◌, ◌-◌, ◌<◌, ◌≤◌, Bool, true, false, List, [], ◌∷◌, ◌++◌, length, get_or, refl, ap, sym, ◌∙◌, subst, arith}
-use Rattle.std.proofs.Math.ListN.{set}
-use Rattle.std.specs.Prelude.{slice_index}
-use Rattle.std.proofs.lemmas.Bool.{cases_Bool, cases_eq, cases_lt, both_ways}
-use Rattle.std.proofs.lemmas.Bool.Decides.{nat_tests}
-use Rattle.std.proofs.lemmas.List.{get_or-set_same, get_or-set_other, length-set, length_push, get_or_push, get_or_append_left}
-use Rattle.surf_model.specs.Numbers.{count_below}
-use Rattle.halfedge_map.specs.Orbits.{after_steps}
-use Rattle.halfedge_map.specs.RotationSystems.{Rotations}
-use Rattle.halfedge_map.proofs.OrbitLemmas.{steps_within, steps_add}
+use Rattle.polygon_cut.proofs.Common.{steps_within, steps_add, after_steps, Rotations, ◌≡◌, ◌≢◌, inl, inr, ℕ, suc, ◌+◌, ◌-◌, ◌<◌, ◌≤◌, Bool, true, false, List, [], ◌∷◌, ◌++◌, length, get_or, refl, ap, sym, ◌∙◌, subst, arith, set, cases_Bool, cases_eq, cases_lt, both_ways, nat_tests, get_or-set_same, get_or-set_other, length-set, length_push, get_or_push, get_or_append_left, slice_index, count_below}
 use Rattle.polygon_cut.specs.Polygons.{IsLabelled, IsFirstLeft, one_up}
 use Rattle.polygon_cut.specs.StoredPolygons.{IsWalked, left_at, left_before}
 use Rattle.polygon_cut.proofs.CountLemmas.{IsCounted, count_rises, count_passes, count_selects}

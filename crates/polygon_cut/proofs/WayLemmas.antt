@@ -1,11 +1,6 @@
 -- Ways: a walk from a vertex u, kept as the list of the vertices behind u; the way back; closed ways at a root as loops, with their
 -- product and their inverse; and the loop of a way, where a way leads from each vertex to the root.
-use Rattle.std.proofs.Common.{◌≡◌, ℕ, List, [], ◌∷◌, ◌++◌, refl, ap, sym, ◌∙◌, subst, arith, append_assoc}
-use Rattle.std.specs.Prelude.{IsTrue, All}
-use Rattle.surf_model.specs.FaceLists.{FaceList, is_edge, is_used}
-use Rattle.surf_model.specs.Walks.{IsWalk}
-use Rattle.surf_model.proofs.EdgeLemmas.{edge_swap, tail_used}
-use Rattle.surf_model.proofs.LinkLemmas.{Linked, walk_from, all_more, none_yet}
+use Rattle.polygon_cut.proofs.Common.{◌≡◌, ℕ, List, [], ◌∷◌, ◌++◌, refl, ap, sym, ◌∙◌, subst, arith, append_assoc, IsTrue, All, edge_swap, tail_used, Linked, walk_from, all_more, none_yet, FaceList, is_edge, is_used, IsWalk}
 
 pub append_none : (xs : List ℕ) → xs ++ [] ≡ xs
 append_none [] = refl

@@ -1,17 +1,7 @@
 -- The headline, from what `decide` and `certify` answer.
-use Rattle.std.proofs.Common.{◌≡◌, ◌⊎◌, inl, inr, ℕ, List, sym, ◌∙◌}
-use Rattle.std.specs.Prelude.{◌↔◌, Option}
-use Rattle.surf_io.specs.Files.{Files}
-use Rattle.surf_model.specs.FaceLists.{FaceList}
+use Rattle.program.proofs.Common.{IsCertified, Convinces, decision_of, decision_status, certificate_text, Certificate, Moves, Denial, Status, Yes, No, IsDecided, ◌≡◌, ◌⊎◌, inl, inr, ℕ, List, sym, ◌∙◌, ◌↔◌, Option, Files, FaceList}
 use Rattle.surf_model.specs.Moves as moves
-use Rattle.commands.specs.Certificates.{Convinces, decision_of, decision_status, certificate_text}
-use Rattle.certify_commands.specs.Certify.{IsCertified}
-use Rattle.pair_commands.specs.Decide.{IsDecided}
 use Rattle.program.specs.Headline.{PrintsList, PrintsDenial, Headline}
-use Rattle.commands.specs.declared.certificate.Certificate.{Certificate}
-use Rattle.commands.specs.declared.certificate.Certificate.TheVariants.{Moves, Denial}
-use Rattle.commands.specs.declared.status.Status.{Status}
-use Rattle.commands.specs.declared.status.Status.TheVariants.{Yes, No}
 
 no_yes : No ≡ Yes → ⊥
 no_yes e = cc

@@ -1,24 +1,16 @@
 -- The limits, as docs/FORMATS.md gives them; those of walks are met, and passed by one.
-use Rattle.std.proofs.Common.{◌≡◌, ℕ, ◌+◌, true, false, List, [], ◌∷◌, ◌++◌, refl, sym, subst, arith}
-use Rattle.std.specs.Prelude.{◌||◌, None, Ok, Err, Some, Option, option_and_then, nat_lt, codes}
-use Rattle.text_scan.specs.Each.{each_some}
-use Rattle.text_scan.specs.Numbers.{is_natural, value_of}
-use Rattle.text_scan.specs.Lines.{Line}
-use Rattle.surf_model.specs.FaceLists.{FaceList}
-use Rattle.surf_model.specs.declared.limits.TheConstants.{MOST_PEAK, MOST_SIDES, MOST_VERTICES}
-use Rattle.off_reader.specs.declared.header.TheConstants.{MOST_FACES}
-use Rattle.surf_gen.specs.declared.limits.TheConstants.{LEAST_GRID, MOST_GENUS, MOST_GRID}
-use Rattle.move_lifting.specs.declared.expanding.TheConstants.{MOST_LIFTED_DARTS, MOST_LIFTED_SIDES}
+use Rattle.program.proofs.Common.{MOST_BYTES, MOST_LIFTED_DARTS, MOST_LIFTED_SIDES, ◌≡◌, ℕ, ◌+◌, true, false, List, [], ◌∷◌, ◌++◌, refl, sym, subst, arith, ◌||◌, None, Ok, Err, Some, Option, option_and_then, nat_lt, FaceList, HasComponents, darts, HasFewComponents, MOST_COMPONENTS, times, token_of, walk_of_line, within_limits, written_out}
 use Rattle.free_forms.specs.declared.limits.TheConstants.{MOST_OPEN_DARTS, MOST_OPEN_SIDES}
-use Rattle.surf_model.specs.Walks.{darts}
-use Rattle.walk_files.specs.WalkTexts.{times, token_of, walk_of_line, within_limits, written_out}
+use Rattle.off_reader.specs.declared.header.TheConstants.{MOST_FACES}
+use Rattle.reduce_commands.specs.declared.reduce.TheConstants.{LEAST_DEGREE}
+use Rattle.std.specs.Prelude.{codes}
+use Rattle.surf_gen.specs.declared.limits.TheConstants.{LEAST_GRID, MOST_GENUS, MOST_GRID}
+use Rattle.surf_model.specs.declared.limits.TheConstants.{MOST_PEAK, MOST_SIDES, MOST_VERTICES}
+use Rattle.text_scan.specs.Each.{each_some}
+use Rattle.text_scan.specs.Lines.{Line}
+use Rattle.text_scan.specs.Numbers.{is_natural, value_of}
 use Rattle.walk_files.specs.declared.fault.WalkFault.TheVariants.{TooLong, TooMany}
 use Rattle.walk_files.specs.declared.limits.TheConstants.{MOST_DARTS, MOST_ENTRIES, MOST_LINES, MOST_POWER, MOST_WALK_DARTS, MOST_WALK_VERTICES}
-use Rattle.surf_model.specs.OrientableSurfaces.{HasComponents}
-use Rattle.surface_commands.specs.Surface.{HasFewComponents}
-use Rattle.commands.specs.declared.inputs.TheConstants.{MOST_BYTES}
-use Rattle.surface_commands.specs.declared.surface.TheConstants.{MOST_COMPONENTS}
-use Rattle.reduce_commands.specs.declared.reduce.TheConstants.{LEAST_DEGREE}
 
 -- ---- each limit
 

@@ -1,24 +1,13 @@
 -- The outcome of a list of words, and what is told of a run.
-use Rattle.std.proofs.Common.{◌≡◌, ◌⊎◌, inl, inr, ℕ, List, refl, subst}
-use Rattle.std.specs.Prelude.{Option, Result, Ok, Err, MatchResult}
-use Rattle.surf_io.specs.Files.{Files}
-use Rattle.commands.specs.declared.reply.Reply.TheVariants as replies
-use Rattle.commands.specs.declared.stop.Stop.TheVariants as stops
+use Rattle.program.proofs.Common.{Refuse, Pass, found_or, Outcome, IsAnswerOf, wrong_words, Replies, reply_status, reply_text, Runs, IsAnswered, Stops, Tells, Reply, Status, WriteFault, ◌≡◌, ◌⊎◌, inl, inr, ℕ, List, refl, subst, Option, Result, Ok, Err, MatchResult, Files}
 use Rattle.commands.proofs.Checking.{stops_next, told_stops}
-use Rattle.program.proofs.Rows.{sound-words}
-use Rattle.commands.specs.Checks.{Refuse, Pass, found_or}
-use Rattle.program.specs.Commands.{Row, IsRow, answer_to}
-use Rattle.commands.specs.Outcomes.{Outcome, IsAnswerOf}
-use Rattle.program.specs.Outcomes.{answer_of, IsOutcome, Answers}
-use Rattle.commands.specs.Refusals.{wrong_words}
-use Rattle.commands.specs.Replies.{Replies, reply_status, reply_text, Runs}
-use Rattle.commands.specs.Statuses.{IsAnswered}
-use Rattle.commands.specs.Stops.{Stops, Tells}
-use Rattle.commands.specs.declared.reply.Reply.{Reply}
-use Rattle.commands.specs.declared.status.Status.{Status}
-use Rattle.commands.specs.declared.status.Status.TheVariants.{WriteFault}
 use Rattle.commands.specs.declared.stop.Stop.{Stop}
 use Rattle.commands.specs.declared.text.Text.{Text}
+use Rattle.commands.specs.declared.reply.Reply.TheVariants as replies
+use Rattle.commands.specs.declared.stop.Stop.TheVariants as stops
+use Rattle.program.proofs.Rows.{sound-words}
+use Rattle.program.specs.Commands.{Row, IsRow, answer_to}
+use Rattle.program.specs.Outcomes.{answer_of, IsOutcome, Answers}
 
 -- what is answered by an outcome is answered exactly, where the files are told
 pub answers : (files : Option Files) (words : List (List ℕ)) (outcome : Outcome) (status : Status) (text : List ℕ)

@@ -1,39 +1,20 @@
 -- What passes the checks of a file that is told is what the file stands for.
-use Rattle.std.proofs.Common.{◌≡◌, ℕ, List, [], ◌∷◌, refl, sym, ap, subst, ◌∙◌}
-use Rattle.std.specs.Prelude.{Option, None, Result, Ok, Err, All}
-use Rattle.std.proofs.lemmas.List.Elements.{All-head, All-tail}
-use Rattle.homology.specs.declared.certificate.HomologyCert.{HomologyCert}
-use Rattle.homology_files.specs.HomologyTexts.{cert_of_text}
-use Rattle.off_reader.specs.OffTexts.{meaning_of}
-use Rattle.surf_io.specs.Files.{Files, file_of}
-use Rattle.surf_model.specs.FaceLists.{FaceList}
-use Rattle.surf_model.specs.Surfaces.{IsOrientable}
-use Rattle.surf_model.specs.Walks.{IsWalk, HaveCommonEnds}
+use Rattle.program.proofs.Common.{Texts, Pass, Passes, IsTold, Holds, file, meant, pass_unless, ◌>>=◌, IsCertificateEnd, SpellsCertificate, SpellsMesh, SpellsPair, certificate_in, certificate_in_bytes, certificate_of, mesh_in, pair_in, walk_at, walks_unless, orientable, certificate_line, numbers_line, off_line, pair_line, Certificate, Input, cert_of_text, SpellsLoops, loops_in, loops_line, as_open_surface, open_surface, open_surface_in, SpellsPairs, pairs_in, pairs_line, ◌≡◌, ℕ, List, [], ◌∷◌, refl, sym, ap, subst, ◌∙◌, Option, None, Result, Ok, Err, All, Files, file_of, FaceList, IsOrientableSurface, AreWalkPair, as_surface, closed, surface_in, ArePairs, in_pairs, pairs_fault, WalkText, walk_text_of, walks_in, walks_of}
 use Rattle.closed_walks.specs.FreeHomotopy.{IsClosedWalk}
 use Rattle.free_forms.specs.OpenSurfaces.{IsOpenSurface}
+use Rattle.homology.specs.declared.certificate.HomologyCert.{HomologyCert}
+use Rattle.off_reader.specs.OffTexts.{meaning_of}
+use Rattle.std.proofs.lemmas.List.Elements.{All-head, All-tail}
+use Rattle.surf_model.specs.Surfaces.{IsOrientable}
 use Rattle.walk_files.proofs.ClosedPairLemmas.{loops_of_none}
 use Rattle.walk_files.proofs.PairLemmas.{pair_of_none}
 use Rattle.walk_files.proofs.PairListLemmas.{pairs_of_none}
 use Rattle.walk_files.proofs.TextLemmas.{HasVertex, text_walks}
 use Rattle.walk_files.specs.ClosedPairs.{loops_fault}
-use Rattle.walk_files.specs.PairLists.{ArePairs, in_pairs, pairs_fault}
 use Rattle.walk_files.specs.Pairs.{pair_fault}
-use Rattle.walk_files.specs.WalkLists.{WalkText}
-use Rattle.walk_files.specs.WalkTexts.{walk_text_of, walks_in, walks_of}
 use Rattle.walk_files.specs.declared.fault.WalkFault.{WalkFault}
-use Rattle.commands.specs.Answers.{Texts}
-use Rattle.commands.specs.Checks.{Pass, Passes, IsTold, Holds, file, meant, pass_unless, ◌>>=◌}
-use Rattle.surf_model.specs.OrientableSurfaces.{IsOrientableSurface}
-use Rattle.commands.specs.Inputs.{IsCertificateEnd, SpellsCertificate, SpellsMesh, SpellsPair, certificate_in, certificate_in_bytes, certificate_of, mesh_in, pair_in, walk_at, walks_unless, orientable}
-use Rattle.commands.specs.Refusals.{certificate_line, numbers_line, off_line, pair_line}
-use Rattle.surface_commands.specs.SurfaceInput.{as_surface, closed, surface_in}
-use Rattle.commands.specs.declared.certificate.Certificate.{Certificate}
-use Rattle.commands.specs.declared.refusal.Input.{Input}
 use Rattle.commands.specs.declared.refusal.Input.TheVariants as inputs
 use Rattle.verify_homology_commands.specs.VerifyHomology as homology
-use Rattle.loop_commands.specs.Loops.{SpellsLoops, loops_in, loops_line}
-use Rattle.open_commands.specs.OpenInput.{as_open_surface, open_surface, open_surface_in}
-use Rattle.pair_commands.specs.PairInput.{SpellsPairs, pairs_in, pairs_line}
 use Rattle.program.proofs.PremiseLemmas.{both_passed, file_holds, meant_passed, told_check, unless_passed}
 
 -- ---- a file that means one thing
@@ -136,9 +117,7 @@ two_held mesh bytes (one ∷ two ∷ []) e all none =
     let second : is.second ≡ two = let two_are = is.two in cc in
     record {
       text = e;
-      first_walk = subst (IsWalk mesh) first is.first_walk;
-      second_walk = subst (IsWalk mesh) second is.second_walk;
-      ends = subst (λ (w : List ℕ). HaveCommonEnds w two) first (subst (HaveCommonEnds is.first) second is.ends);
+      are = subst (λ (w : List ℕ). AreWalkPair mesh w two) first (subst (AreWalkPair mesh is.first) second is.are);
     }
 two_held mesh bytes (one ∷ two ∷ three ∷ walks) e all none = cc
 

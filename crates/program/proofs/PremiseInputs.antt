@@ -1,37 +1,12 @@
 -- An answer that is no refusal comes of an input of its command.
-use Rattle.std.proofs.Common.{◌≡◌, ℕ, List, [], ◌∷◌, codes, ap, ◌∙◌}
-use Rattle.std.specs.Prelude.{◌≢◌, Ok, Option}
-use Rattle.surf_io.specs.Files.{Files}
-use Rattle.surf_model.specs.FaceLists.{FaceList}
-use Rattle.walk_files.specs.PairLists.{WalkPair, in_pairs}
-use Rattle.walk_files.specs.NumberLists.{NumberLine}
-use Rattle.walk_files.specs.WalkLists.{WalkText}
-use Rattle.commands.specs.Answers.{Answer, Exactly, yes_with}
-use Rattle.certify_commands.specs.Certify.{IsCertifyInput, IsWithinLimits, certified, certify_limits, limit_fault, limit_word}
-use Rattle.commands.specs.Checks.{Check, Passes, IsTold, Holds, pass, pass_unless, ◌>>=◌}
-use Rattle.surf_model.specs.OrientableSurfaces.{IsOrientableSurface}
-use Rattle.commands.specs.Decisions.{decided}
-use Rattle.commands.specs.Inputs.{IsInputOnSurface, IsInputWith, certificate_in, mesh_in, pair_in, walk_at, SpellsCertificate, SpellsPair}
-use Rattle.surface_commands.specs.Surface.{HasFewComponents, IsSurfaceInput, genera_of, numbers_of, numbers_text}
-use Rattle.surface_commands.specs.SurfaceInput.{of_few_components, surface_in}
-use Rattle.commands.specs.declared.status.Status.{Status}
-use Rattle.commands.specs.declared.status.Status.TheVariants.{Refused, Yes}
-use Rattle.commands.specs.WordTexts.{words_text}
-use Rattle.surface_commands.specs.declared.surface.TheConstants.{MOST_COMPONENTS}
+use Rattle.program.proofs.Common.{IsCertifyInput, IsWithinLimits, certified, certify_limits, limit_fault, limit_word, Answer, Exactly, yes_with, Check, Passes, IsTold, Holds, pass, pass_unless, ◌>>=◌, IsInputOnSurface, IsInputWith, certificate_in, mesh_in, pair_in, walk_at, SpellsCertificate, SpellsPair, Status, Refused, Yes, IsHomologyInput, homology_shown, cert_of_text, IsLoopsInput, SpellsLoops, freely_decided, loops_in, listed, open_surface_in, Question, open_limits, open_pair_in, question, IsDecideInput, all_decided, SpellsPairs, pairs_in, reduced, ◌≡◌, ℕ, List, [], ◌∷◌, codes, ap, ◌∙◌, ◌≢◌, Ok, Option, Files, FaceList, IsOrientableSurface, HasFewComponents, IsSurfaceInput, genera_of, numbers_of, numbers_text, of_few_components, surface_in, MOST_COMPONENTS, judgement, WalkPair, in_pairs, WalkText}
 use Rattle.commands.proofs.LimitLemmas.{fitting}
-use Rattle.homology_commands.specs.Homology.{IsHomologyInput, homology_shown}
-use Rattle.verify_homology_commands.specs.VerifyHomology as homology
-use Rattle.homology_files.specs.HomologyTexts.{cert_of_text}
-use Rattle.loop_commands.specs.Loops.{IsLoopsInput, SpellsLoops, freely_decided, loops_in}
-use Rattle.open_commands.specs.CertifyOpen.{listed}
-use Rattle.open_commands.specs.OpenInput.{open_surface_in}
-use Rattle.open_commands.specs.OpenPairs as open_pairs
-use Rattle.open_commands.specs.OpenPairs.{Question, open_limits, open_pair_in, question}
-use Rattle.pair_commands.specs.Decide.{IsDecideInput, all_decided}
-use Rattle.pair_commands.specs.PairInput.{SpellsPairs, pairs_in}
-use Rattle.reduce_commands.proofs.ReduceOutcomes.{reduced}
+use Rattle.commands.specs.Decisions.{decided}
+use Rattle.commands.specs.WordTexts.{words_text}
 use Rattle.reduce_commands.specs.Reduce.{canonical_words, degree_fault, degree_line, entries_on, lines_in, range_fault, range_line, reduce}
-use Rattle.verify_commands.specs.Verify.{judgement}
+use Rattle.walk_files.specs.NumberLists.{NumberLine}
+use Rattle.verify_homology_commands.specs.VerifyHomology as homology
+use Rattle.open_commands.specs.OpenPairs as open_pairs
 use Rattle.program.proofs.PremiseFiles.{certificate_held, homology_held, loops_held, mesh_held, open_held, pair_held, pairs_held, surface_held}
 use Rattle.program.proofs.PremiseLemmas.{answer_passed, both_passed, holds_itself, unless_passed}
 use Rattle.program.proofs.Rows.{row_answered}

@@ -1,14 +1,5 @@
 -- Where an answer comes that is no refusal, the files stand for what it asks of them.
-use Rattle.std.proofs.Common.{◌≡◌, inl, inr, ℕ, ◌≤◌, List, length, refl, subst}
-use Rattle.std.specs.Prelude.{◌≢◌, Option, Some, None, Result, Ok, Err, IfSome, IsSome, IsSomeAnd, MatchOption}
-use Rattle.surf_io.specs.Files.{Files, file_of}
-use Rattle.commands.specs.Answers.{Answer, Texts}
-use Rattle.commands.specs.Checks.{Check, Refuse, Pass, Passes, IsTold, Holds, file, meant, pass_unless, ◌>>=◌}
-use Rattle.commands.specs.Outcomes.{AnswersTo, IsAnswerOf, Outcome}
-use Rattle.commands.specs.declared.inputs.TheConstants.{MOST_BYTES}
-use Rattle.commands.specs.declared.refusal.Input.{Input}
-use Rattle.commands.specs.declared.status.Status.{Status}
-use Rattle.commands.specs.declared.status.Status.TheVariants.{Refused}
+use Rattle.program.proofs.Common.{Answer, Texts, Check, Refuse, Pass, Passes, IsTold, Holds, file, meant, pass_unless, ◌>>=◌, AnswersTo, IsAnswerOf, Outcome, MOST_BYTES, Input, Status, Refused, ◌≡◌, inl, inr, ℕ, ◌≤◌, List, length, refl, subst, ◌≢◌, Option, Some, None, Result, Ok, Err, IfSome, IsSome, IsSomeAnd, MatchOption, Files, file_of}
 
 -- ---- what passed
 

@@ -1,32 +1,15 @@
 -- What `certify` prints spells its certificate again, and `verify` accepts it.
-use Rattle.std.proofs.Common.{◌≡◌, ℕ, ◌≤◌, List, [], length, get_or, sym, subst, arith}
-use Rattle.std.specs.Prelude.{codes, Option}
-use Rattle.surf_io.specs.Files.{Files}
-use Rattle.surf_model.specs.FaceLists.{FaceList, IsFaceList, HasFileSize, total_sides}
-use Rattle.surf_model.specs.Walks.{IsWalk}
-use Rattle.move_lifting.specs.declared.expanding.TheConstants.{MOST_LIFTED_SIDES}
-use Rattle.verify_commands.proofs.Accepting.{accepted, spelled}
+use Rattle.program.proofs.Common.{IsCertifyInput, IsWithinLimits, IsCertificatePrinted, held, Convinces, IsPeakLow, IsShortOnSphere, certificate_text, SpellsMesh, SpellsPair, SpellsCertificate, Certificate, Moves, Denial, MOST_BYTES, Status, Yes, IsHomologyPrinted, MOST_LIFTED_SIDES, IsListPrinted, IsOpenInput, ◌≡◌, ℕ, ◌≤◌, List, [], length, get_or, sym, subst, arith, Option, Files, FaceList, IsFaceList, HasFileSize, total_sides, IsWalk, IsVerifyInput}
 use Rattle.commands.proofs.MeshTexts.{is_face_list, has_file_size}
 use Rattle.commands.proofs.Rows.{input_so}
-use Rattle.commands.proofs.Sound.{held}
-use Rattle.commands.specs.Certificates.{Convinces, IsPeakLow, IsShortOnSphere, certificate_text}
-use Rattle.certify_commands.specs.Certify.{IsCertifyInput, IsWithinLimits, IsCertificatePrinted}
-use Rattle.surf_model.specs.Genera.{LiesOnSphere}
 use Rattle.commands.specs.Lines.{line}
-use Rattle.commands.specs.Inputs.{SpellsMesh, SpellsPair, SpellsCertificate}
-use Rattle.verify_commands.specs.Verify.{IsVerifyInput}
-use Rattle.commands.specs.declared.certificate.Certificate.{Certificate}
-use Rattle.commands.specs.declared.inputs.TheConstants.{MOST_BYTES}
-use Rattle.commands.specs.declared.status.Status.{Status}
-use Rattle.commands.specs.declared.status.Status.TheVariants.{Yes}
-use Rattle.commands.specs.declared.certificate.Certificate.TheVariants.{Moves, Denial}
 use Rattle.homology_commands.proofs.PrintedLemmas.{printed_accepted as homology_accepted}
-use Rattle.homology_commands.specs.Homology.{IsHomologyPrinted}
-use Rattle.homology_commands.specs.PrintedHomology as homology_texts
 use Rattle.open_commands.proofs.ShortTexts.{text_short, sphere_text_short}
-use Rattle.open_commands.specs.CertifyOpen.{IsListPrinted}
+use Rattle.std.specs.Prelude.{codes}
+use Rattle.surf_model.specs.Genera.{LiesOnSphere}
+use Rattle.verify_commands.proofs.Accepting.{accepted, spelled}
+use Rattle.homology_commands.specs.PrintedHomology as homology_texts
 use Rattle.open_commands.specs.OpenPairs as open_limits
-use Rattle.open_commands.specs.OpenPairs.{IsOpenInput}
 use Rattle.program.proofs.Rows.{row_answered, row_ends}
 use Rattle.program.specs.Commands.{Verify, VerifyHomology}
 use Rattle.program.specs.Outcomes.{Answers}
@@ -49,7 +32,7 @@ printed_accepted files words mesh first second status text input limits printed 
     let pair = (held files input.walks_name (SpellsPair mesh first second) input.walks_file).holds in
     let own : SpellsCertificate printed.shown (certificate_text printed.shown) =
     spelled mesh first second printed.shown (is_face_list off.bytes mesh off.holds) (has_file_size off.bytes mesh off.holds)
-    pair.first_walk (omega (arith, limits.few))
+    pair.are.first_walk (omega (arith, limits.few))
     (omega (arith, limits.few)) printed.convinces printed.low (subst (λ (t : List ℕ). length t ≤ MOST_BYTES) printed.text_is short) in
     let spells : SpellsCertificate printed.shown text = subst (SpellsCertificate printed.shown) (sym printed.text_is) own in
     record {
@@ -78,7 +61,7 @@ printed_on_sphere_accepted files words mesh first second status text input limit
     printed_accepted files words mesh first second status text input limits printed
     (subst (λ (t : List ℕ). length t ≤ MOST_BYTES) (sym printed.text_is)
     (sphere_short mesh first second printed.shown (is_face_list off.bytes mesh off.holds) (has_file_size off.bytes mesh off.holds)
-    limits.sides pair.first_walk sphere
+    limits.sides pair.are.first_walk sphere
     printed.convinces printed.low printed.short))
 
 -- a list of `certify-open`, which is short
@@ -92,10 +75,10 @@ printed_list_accepted files words mesh first second status text input limits pri
     let pair = (held files input.walks_name (SpellsPair mesh first second) input.walks_file).holds in
     let valid = is_face_list off.bytes mesh off.holds in
     let small = has_file_size off.bytes mesh off.holds in
-    let short = text_short mesh first second printed.list valid small limits.sides pair.first_walk
+    let short = text_short mesh first second printed.list valid small limits.sides pair.are.first_walk
     (record { leads = printed.convinces.leads; peak = printed.convinces.peak }) within in
     let own : SpellsCertificate (Moves printed.list) (certificate_text (Moves printed.list)) =
-    spelled mesh first second (Moves printed.list) valid small pair.first_walk (omega (arith, limits.few))
+    spelled mesh first second (Moves printed.list) valid small pair.are.first_walk (omega (arith, limits.few))
     (omega (arith, limits.few))
     printed.convinces (omega (arith, within.peak)) (omega (arith, short)) in
     let spells : SpellsCertificate (Moves printed.list) text = subst (SpellsCertificate (Moves printed.list)) (sym printed.text_is) own in

@@ -1,25 +1,14 @@
 -- The rows of the table of commands: words are one row at most, and their checks have an end, and one where their files are told.
-use Rattle.std.proofs.Common.{◌≡◌, inr, ℕ, List, [], ◌∷◌, ap, arith, sym, codes, subst, ◌∙◌, ◌+◌, ◌*◌}
-use Rattle.std.specs.Prelude.{Option, slice_index_or}
-use Rattle.surf_io.specs.Files.{Files}
+use Rattle.program.proofs.Common.{sound-certify, IsSound, sound-then, sound-found, IsTold, found_or, Outcome, AnswersTo, wrong_words, Status, sound-decide_open, sound-certify_open, sound-decide, ◌≡◌, inr, ℕ, List, [], ◌∷◌, ap, arith, sym, codes, subst, ◌∙◌, ◌+◌, ◌*◌, Option, slice_index_or, Files, sound-verify_homology}
 use Rattle.commands.proofs.Deciding.{behind}
-use Rattle.surface_commands.proofs.SurfaceRows.{sound-surface}
-use Rattle.certify_commands.proofs.CertifyOutcomes.{sound-certify}
-use Rattle.pair_commands.proofs.DecideOutcomes.{sound-decide}
-use Rattle.reduce_commands.proofs.Reducing.{sound-reduce}
-use Rattle.verify_homology_commands.proofs.VerifyHomologyOutcomes.{sound-verify_homology}
 use Rattle.homology_commands.proofs.HomologyAnswers.{sound-homology}
 use Rattle.loop_commands.proofs.LoopAnswers.{sound-loops}
-use Rattle.commands.proofs.Sound.{IsSound, sound-then, sound-found}
+use Rattle.reduce_commands.proofs.Reducing.{sound-reduce}
+use Rattle.surface_commands.proofs.SurfaceRows.{sound-surface}
 use Rattle.trial_commands.proofs.Trying.{sound-trial}
-use Rattle.commands.specs.Checks.{IsTold, found_or}
-use Rattle.commands.specs.Outcomes.{Outcome, AnswersTo}
-use Rattle.commands.specs.Refusals.{wrong_words}
-use Rattle.commands.specs.declared.status.Status.{Status}
-use Rattle.open_commands.proofs.OpenOutcomes.{sound-decide_open, sound-certify_open}
+use Rattle.verify_commands.proofs.VerifyRows.{sound-verify}
 use Rattle.program.specs.Commands.{Row, Surface, Decide, Certify, Loops, DecideOpen, CertifyOpen, Homology, Verify, VerifyHomology, Reduce, Trial, IsRow, answer_to}
 use Rattle.program.specs.Outcomes.{AllTold, Answers, IsOutcome, answer_of}
-use Rattle.verify_commands.proofs.VerifyRows.{sound-verify}
 
 -- ---- one row
 

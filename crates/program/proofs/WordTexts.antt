@@ -1,8 +1,6 @@
 -- So many words, by the texts of each.
-use Rattle.std.proofs.Common.{◌≡◌, ◌<◌, ◌≤◌, ℕ, List, [], ◌∷◌, length, get_or, ap, sym, ◌∙◌, arith}
-use Rattle.std.specs.Prelude.{string_bytes, String}
+use Rattle.program.proofs.Common.{texts, ◌≡◌, ◌<◌, ◌≤◌, ℕ, List, [], ◌∷◌, length, get_or, ap, sym, ◌∙◌, arith, string_bytes, String}
 use Rattle.std.specs.Global.{Global}
-use Rattle.commands.specs.Words.{texts}
 
 text_is : (word found : String Global) (text : List ℕ) → found ≡ word → text ≡ string_bytes found → string_bytes word ≡ text
 text_is word found text is of = sym (of ∙ ap string_bytes is)

@@ -14,7 +14,7 @@ use pair_commands::decide::decide;
 use reduce_commands::reduce::reduce;
 use std::alloc::Global;
 use surf_io::Shelf;
-use surface_commands::surface::measure;
+use surface_commands::surface::answer_surface;
 use trial_commands::trial::trial;
 use verify_commands::verify::verify;
 use verify_homology_commands::verify_homology::verify_homology;
@@ -161,7 +161,7 @@ pub fn answer<S: Shelf>(alloc: Global, shelf: &mut S, command: Command<'_>) -> R
     ensures { Runs S.held S.faults shelf.old shelf.new (λ files. answer_to files (row_of command.entry)) result }
 {
     match command {
-        Command::Surface { mesh } => measure(alloc, shelf, mesh),
+        Command::Surface { mesh } => answer_surface(alloc, shelf, mesh),
         Command::Decide { mesh, walks } => decide(alloc, shelf, mesh, walks),
         Command::Certify { mesh, walks } => certify(alloc, shelf, mesh, walks),
         Command::Loops { mesh, walks } => loops(alloc, shelf, mesh, walks),

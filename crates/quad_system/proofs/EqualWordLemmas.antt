@@ -1,38 +1,15 @@
 -- Walks with common ends are homotopic exactly where they have one canonical word.
 -- From one word to moves: their turn words reach one another, so they read to the same product
 -- of spokes, and the walks are these products.
-use Rattle.std.proofs.Common.{◌≡◌, ◌↔◌, ℕ, ◌<◌, ◌≤◌, true, List, [], ◌∷◌, length, get_or, ap, sym, ◌∙◌, subst, arith}
-use Rattle.std.specs.Prelude.{All, slice_index}
-use Rattle.std.proofs.lemmas.List.Elements.{All-append, All-nil}
-use Rattle.surf_model.specs.Walks.{IsWalk, HaveCommonEnds}
-use Rattle.surf_model.specs.Moves.{Homotopic}
-use Rattle.halfedge_map.specs.OrientedMeshes.{OrientedMesh, IsOrientedSurface}
-use Rattle.halfedge_map.specs.DartMaps.{darts_of, next_of, origin_of}
-use Rattle.halfedge_map.specs.RotationSystems.{Rotations, rotations_of}
-use Rattle.halfedge_map.proofs.EdgeLemmas.{dart_between}
-use Rattle.halfedge_map.proofs.SystemLemmas.{rotation_system}
+use Rattle.quad_system.proofs.Common.{dart_between, rotation_system, darts_of, next_of, origin_of, OrientedMesh, IsOrientedSurface, Rotations, rotations_of, PutLaws, moves_keep, LabellingView, spokes, quad_path, IsGroup, IsWay, way_walk, SameLoop, loop_mul, loop_inv, loop_one, loop_of, from_loops, spoke_product, Loops, spoke, group_of, up, tree_ways, walk_way, other_way, PolygonView, IsCutFrom, HasPlaces, label_of, place_of, across, ◌≡◌, ◌↔◌, ℕ, ◌<◌, ◌≤◌, true, List, [], ◌∷◌, length, get_or, ap, sym, ◌∙◌, subst, arith, All-append, All-nil, All, slice_index, Homotopic, IsWalk, HaveCommonEnds, SplitView, IsSplit, led, turn_word_of}
+use Rattle.labellings.proofs.WalkWordLemmas.{both_below}
+use Rattle.turn_words.proofs.Spokes.{turns, canonical}
+use Rattle.turn_words.proofs.Unique.{unique}
 use Rattle.turn_words.specs.Canonical.{IsCanonicalOf}
-use Rattle.turn_words.specs.SpokePaths.{turn_word_of}
-use Rattle.turn_words.specs.FormLaws.{led}
 use Rattle.turn_words.specs.HyperStates.{HyperState, IsHyperWheel, BelongsTo, IsEven, empty_state, hyper_next}
 use Rattle.turn_words.specs.Lemmas.FromEnd.{in-range-from}
 use Rattle.turn_words.specs.Lemmas.HyperLaws.{hyper_starts, hyper_stays, hyper_there_and_back, hyper_across}
-use Rattle.turn_words.proofs.Unique.{unique}
-use Rattle.turn_words.proofs.Spokes.{turns, canonical}
-use Rattle.tree_cotree.specs.Splits.{SplitView, IsSplit}
-use Rattle.polygon_cut.specs.Polygons.{PolygonView, IsCutFrom, HasPlaces, label_of, place_of, across}
-use Rattle.polygon_cut.proofs.GroupLemmas.{IsGroup}
-use Rattle.polygon_cut.proofs.RelatorLemmas.{spoke_product}
-use Rattle.polygon_cut.proofs.LoopLemmas.{IsWay, way_walk, SameLoop, loop_mul, loop_inv, loop_one, loop_of, from_loops}
-use Rattle.polygon_cut.proofs.WalkLemmas.{walk_way, other_way}
-use Rattle.polygon_cut.proofs.TreeWayLemmas.{up, tree_ways}
-use Rattle.polygon_cut.proofs.SpokeLemmas.{Loops, spoke, group_of}
-use Rattle.labellings.specs.Labellings.{LabellingView}
-use Rattle.labellings.specs.QuadPaths.{spokes, quad_path}
 use Rattle.quad_system.specs.PolygonLabellings.{labelling_from}
-use Rattle.labellings.proofs.FoldLemmas.{PutLaws}
-use Rattle.labellings.proofs.KeepingLemmas.{moves_keep}
-use Rattle.labellings.proofs.WalkWordLemmas.{both_below}
 use Rattle.quad_system.proofs.PolygonLabelLemmas.{polygon_good}
 use Rattle.quad_system.proofs.ReadingLemmas.{HasQuads, reached_reads}
 use Rattle.quad_system.proofs.PushPathLemmas.{path_of, word_path}

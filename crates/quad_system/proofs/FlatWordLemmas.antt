@@ -1,35 +1,10 @@
 -- Walks on a torus: with four sides, walks with common ends are homotopic exactly where their quad paths lead the flat form to one
 -- point. From one point to moves: a walk is the product of its spokes, and that product depends on the point alone.
-use Rattle.std.proofs.Common.{◌≡◌, ◌↔◌, inl, inr, ℕ, suc, ◌<◌, true, ◌&&◌, eqb, List, [], ◌∷◌, ◌++◌, length, refl, ap, sym, ◌∙◌, subst, arith}
-use Rattle.std.specs.Prelude.{All, slice_index}
-use Rattle.std.proofs.lemmas.Bool.{cases_Bool, cases_eq}
-use Rattle.surf_model.specs.Walks.{IsWalk, HaveCommonEnds}
-use Rattle.surf_model.specs.Moves.{Homotopic}
-use Rattle.halfedge_map.specs.OrientedMeshes.{OrientedMesh, IsOrientedSurface}
-use Rattle.halfedge_map.specs.DartMaps.{next_of, origin_of}
-use Rattle.halfedge_map.specs.RotationSystems.{rotations_of}
-use Rattle.halfedge_map.proofs.EdgeLemmas.{dart_between}
-use Rattle.turn_words.specs.Modulo.{add, minus}
-use Rattle.turn_words.specs.Lemmas.Sums.{add-cases, add-lt}
-use Rattle.turn_words.specs.FormLaws.{led}
-use Rattle.flat_forms.specs.Vectors.{origin}
-use Rattle.flat_forms.specs.FlatStates.{IsEven, IsFlatWheel, flat_next}
-use Rattle.flat_forms.specs.Pairs.{spokes_of, sum_of_pairs}
-use Rattle.flat_forms.specs.Lemmas.FlatLaws.{flat_starts, flat_stays, flat_there_and_back, flat_across}
+use Rattle.quad_system.proofs.Common.{spokes_of, sum_of_pairs, origin, dart_between, next_of, origin_of, OrientedMesh, IsOrientedSurface, rotations_of, PutLaws, moves_keep, spokes, spokes_by_labels, quad_path, IsGroup, quotient, four_places, IsWay, SameLoop, loop_mul, loop_inv, loop_one, loop_of, from_loops, spoke_product, Loops, spoke, group_of, up, tree_ways, walk_way, other_way, PolygonView, IsCutFrom, label_of, place_of, across, ◌≡◌, ◌↔◌, inl, inr, ℕ, suc, ◌<◌, true, ◌&&◌, eqb, List, [], ◌∷◌, ◌++◌, length, refl, ap, sym, ◌∙◌, subst, arith, cases_Bool, cases_eq, All, slice_index, Homotopic, IsWalk, HaveCommonEnds, SplitView, IsSplit, led, add-cases, add-lt, add, minus}
 use Rattle.flat_forms.proofs.SumsOfPairs.{leads-to-sum}
-use Rattle.tree_cotree.specs.Splits.{SplitView, IsSplit}
-use Rattle.polygon_cut.specs.Polygons.{PolygonView, IsCutFrom, label_of, place_of, across}
-use Rattle.polygon_cut.proofs.GroupLemmas.{IsGroup, quotient}
-use Rattle.polygon_cut.proofs.RelatorLemmas.{spoke_product}
-use Rattle.polygon_cut.proofs.LawLemmas.{four_places}
-use Rattle.polygon_cut.proofs.LoopLemmas.{IsWay, SameLoop, loop_mul, loop_inv, loop_one, loop_of, from_loops}
-use Rattle.polygon_cut.proofs.WalkLemmas.{walk_way, other_way}
-use Rattle.polygon_cut.proofs.TreeWayLemmas.{up, tree_ways}
-use Rattle.polygon_cut.proofs.SpokeLemmas.{Loops, spoke, group_of}
-use Rattle.labellings.specs.QuadPaths.{spokes, spokes_by_labels, quad_path}
+use Rattle.flat_forms.specs.FlatStates.{IsEven, IsFlatWheel, flat_next}
+use Rattle.flat_forms.specs.Lemmas.FlatLaws.{flat_starts, flat_stays, flat_there_and_back, flat_across}
 use Rattle.quad_system.specs.PolygonLabellings.{labelling_from}
-use Rattle.labellings.proofs.FoldLemmas.{PutLaws}
-use Rattle.labellings.proofs.KeepingLemmas.{moves_keep}
 use Rattle.quad_system.proofs.PolygonLabelLemmas.{polygon_good, up_is_add}
 use Rattle.quad_system.proofs.ReadingLemmas.{HasQuads}
 use Rattle.quad_system.proofs.SpokeProductLemmas.{DartSpokes, dart_spokes, polygon_quads, spoke_at, walk_product}

@@ -1,30 +1,7 @@
 -- The spokes of a walk with those of the side across in place of the last side's: every form that meets the two laws is led to the same
 -- state as by the quad path.
-use Rattle.std.proofs.Common.{◌≡◌, ◌≢◌, inl, inr, ℕ, ◌+◌, ◌-◌, ◌<◌, true, not, List, [], ◌∷◌, length, get_or, refl, ap, sym, ◌∙◌, subst, arith}
-use Rattle.std.specs.Prelude.{All, slice_index}
-use Rattle.std.proofs.lemmas.Bool.{cases_eq}
-use Rattle.std.proofs.lemmas.Bool.Decides.{nat_tests}
-use Rattle.std.proofs.lemmas.List.Elements.{All-append, All-nil, All-cons}
-use Rattle.surf_model.specs.Walks.{IsWalk}
-use Rattle.halfedge_map.specs.OrientedMeshes.{OrientedMesh, IsOrientedSurface}
-use Rattle.halfedge_map.specs.DartMaps.{darts_of, next_of, origin_of, edge_of}
-use Rattle.halfedge_map.specs.RotationSystems.{rotations_of, IsDartFrom}
-use Rattle.halfedge_map.proofs.EdgeLemmas.{dart_between}
-use Rattle.halfedge_map.proofs.SystemLemmas.{rotation_system}
-use Rattle.turn_words.specs.Modulo.{add}
-use Rattle.turn_words.specs.FormLaws.{IsQuad, led}
-use Rattle.tree_cotree.specs.SpanningTrees.{after_dart}
-use Rattle.tree_cotree.specs.Splits.{SplitView, IsSplit, in_cotree, is_left}
-use Rattle.polygon_cut.specs.Polygons.{PolygonView, IsCutFrom, label_of, place_of, across, one_up}
-use Rattle.polygon_cut.specs.SpokeLoops.{HasFreeSpokes, HaveFreeSpokes, last_side, across_last, spokes_along}
-use Rattle.polygon_cut.proofs.LawLemmas.{labels_ride}
-use Rattle.polygon_cut.proofs.LoopLemmas.{IsWay}
-use Rattle.polygon_cut.proofs.PlaceLemmas.{Crosses, sides_cross}
-use Rattle.polygon_cut.proofs.SpokeLemmas.{up_plain}
-use Rattle.polygon_cut.proofs.WalkLemmas.{walk_way}
-use Rattle.labellings.specs.QuadPaths.{spokes, spokes_by_labels, quad_path}
+use Rattle.quad_system.proofs.Common.{dart_between, rotation_system, darts_of, next_of, origin_of, edge_of, OrientedMesh, IsOrientedSurface, rotations_of, IsDartFrom, PutLaws, pair, pair_belongs, led-append, labels_do, spokes, spokes_by_labels, quad_path, labels_ride, IsWay, Crosses, sides_cross, up_plain, walk_way, PolygonView, IsCutFrom, label_of, place_of, across, one_up, HasFreeSpokes, HaveFreeSpokes, last_side, across_last, spokes_along, ◌≡◌, ◌≢◌, inl, inr, ℕ, ◌+◌, ◌-◌, ◌<◌, true, not, List, [], ◌∷◌, length, get_or, refl, ap, sym, ◌∙◌, subst, arith, cases_eq, nat_tests, All-append, All-nil, All-cons, All, slice_index, IsWalk, after_dart, SplitView, IsSplit, in_cotree, is_left, IsQuad, led, add}
 use Rattle.quad_system.specs.PolygonLabellings.{labelling_from}
-use Rattle.labellings.proofs.FoldLemmas.{PutLaws, pair, pair_belongs, led-append, labels_do}
 use Rattle.quad_system.proofs.PolygonLabelLemmas.{up_is_add}
 use Rattle.quad_system.proofs.PushPathLemmas.{IsQuadWheel}
 use Rattle.quad_system.proofs.PushWorthLemmas.{polygon_wheel}

@@ -1,21 +1,11 @@
 -- On the torus of seven vertices the labelling of the square is full, and one with a label on two sides is not. Each test is computed.
-use Rattle.std.proofs.Common.{◌≡◌, ◌⊎◌, inr, ℕ, zero, suc, ◌<◌, Bool, true, false, [], ◌∷◌, refl, ap, sym, ◌∙◌, subst, arith, lit<}
-use Rattle.std.specs.Prelude.{◌==◌, ◌&&◌, if◌then◌else◌, slice_index}
-use Rattle.std.specs.List.{list_all}
-use Rattle.std.proofs.lemmas.Bool.{eqb-true, eq-eqb, false≢true}
-use Rattle.std.proofs.lemmas.Bool.Decides.{nat_tests}
-use Rattle.std.proofs.lemmas.List.Elements.{All-contains}
+use Rattle.quad_system.proofs.Common.{MeetsLeftoverRule, LabellingView, tail_label, head_label, ◌≡◌, ◌⊎◌, inr, ℕ, zero, suc, ◌<◌, Bool, true, false, [], ◌∷◌, refl, ap, sym, ◌∙◌, subst, arith, lit<, eqb-true, eq-eqb, false≢true, nat_tests, All-contains, list_all, ◌==◌, if◌then◌else◌, slice_index, IsSide, tail_of, head_of, FaceSide, all_sides, joins, Side, add, minus}
+use Rattle.labellings.specs.Examples.{square}
 use Rattle.std.proofs.lemmas.List.Sums.{AllPass-from_list_all}
-use Rattle.surf_model.specs.FaceLists.{FaceSide, all_sides, joins}
-use Rattle.surf_model.specs.Darts.{IsSide, tail_of, head_of}
+use Rattle.std.specs.Prelude.{◌&&◌}
+use Rattle.surf_model.proofs.TableLemmas.{face_side_in}
 use Rattle.surf_model.specs.Edges.{side_name}
 use Rattle.surf_model.specs.Meshes.{torus}
-use Rattle.surf_model.specs.declared.edges.Side.{Side}
-use Rattle.surf_model.proofs.TableLemmas.{face_side_in}
-use Rattle.turn_words.specs.Modulo.{add, minus}
-use Rattle.labellings.specs.Examples.{square}
-use Rattle.labellings.specs.GoodLabellings.{MeetsLeftoverRule}
-use Rattle.labellings.specs.Labellings.{LabellingView, tail_label, head_label}
 use Rattle.quad_system.specs.Examples.{side, doubled}
 use Rattle.quad_system.specs.PolygonLabellings.{HasOneSide, IsFull, IsLeftoverSide}
 

@@ -1,27 +1,6 @@
 -- The labelling of a polygon is full: the sides of its leftover edges are those of the polygon, each with its own number at its tail.
-use Rattle.std.proofs.Common.{◌≡◌, ◌≢◌, ◌⊎◌, inl, inr, ℕ, ◌+◌, ◌<◌, ◌≤◌, Bool, true, false, length, refl, ap, sym, ◌∙◌, subst, arith}
-use Rattle.surf_model.specs.FaceLists.{FaceList}
-use Rattle.surf_model.specs.Darts.{IsSide, side_number}
-use Rattle.surf_model.specs.declared.edges.Side.{Side}
-use Rattle.halfedge_map.specs.OrientedMeshes.{OrientedMesh, IsOrientedSurface}
-use Rattle.halfedge_map.specs.DartMaps.{darts_of, next_of, twin_of, edge_of}
-use Rattle.halfedge_map.specs.RotationSystems.{rotations_of}
-use Rattle.halfedge_map.proofs.NumberLemmas.{IsNumberOf, number_below, HasSide, side_with_number}
-use Rattle.halfedge_map.proofs.DartLemmas.{numbered, one_face, one_place}
-use Rattle.halfedge_map.proofs.TwinLemmas.{twin-twin}
-use Rattle.halfedge_map.proofs.VertexLemmas.{partner_is_twin}
-use Rattle.halfedge_map.proofs.EdgeLemmas.{edge-twin}
-use Rattle.turn_words.specs.Modulo.{add}
-use Rattle.tree_cotree.specs.SpanningTrees.{after_dart}
-use Rattle.tree_cotree.specs.Splits.{SplitView, IsSplit, in_tree, in_cotree, is_left}
-use Rattle.tree_cotree.proofs.SplitLemmas.{OneOfThree, tree_one, cotree_one, left_one}
-use Rattle.tree_cotree.proofs.LawLemmas.{one_of_three}
-use Rattle.polygon_cut.specs.Polygons.{PolygonView, IsCutFrom, KindLabels, side_at, label_of, one_up}
-use Rattle.polygon_cut.proofs.PolygonLemmas.{is_own_side}
-use Rattle.polygon_cut.proofs.LawLemmas.{labels_ride}
-use Rattle.labellings.specs.Labellings.{LabellingView, tail_label, head_label}
+use Rattle.quad_system.proofs.Common.{numbered, one_face, one_place, edge-twin, IsNumberOf, number_below, HasSide, side_with_number, twin-twin, partner_is_twin, darts_of, next_of, twin_of, edge_of, OrientedMesh, IsOrientedSurface, rotations_of, HasPartner, partner_of, LabellingView, tail_label, head_label, labels_ride, is_own_side, PolygonView, IsCutFrom, KindLabels, side_at, label_of, one_up, ◌≡◌, ◌≢◌, ◌⊎◌, inl, inr, ℕ, ◌+◌, ◌<◌, ◌≤◌, Bool, true, false, length, refl, ap, sym, ◌∙◌, subst, arith, IsSide, side_number, FaceList, Side, one_of_three, OneOfThree, tree_one, cotree_one, left_one, after_dart, SplitView, IsSplit, in_tree, in_cotree, is_left, add}
 use Rattle.quad_system.specs.PolygonLabellings.{labelling_from, IsFull, IsLeftoverSide}
-use Rattle.labellings.proofs.SideLemmas.{HasPartner, partner_of}
 use Rattle.quad_system.proofs.PolygonLabelLemmas.{polygon_good, up_is_add, up_moves, two_up_moves, degree_is, LabelsOfSide, labels_of_side}
 
 one_side : (mesh : FaceList) (s : OrientedMesh) (side other : Side) → IsSide s.mesh side → IsSide s.mesh other

@@ -1,3 +1,4 @@
+pub mod Common
 pub mod PolygonLabelLemmas
 pub mod FullLemmas
 pub mod PushPathLemmas

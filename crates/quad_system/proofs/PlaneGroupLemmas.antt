@@ -1,12 +1,7 @@
 -- Four spokes whose quads hold in a group: the group elements of two sides of a quad commute, and a product of spokes depends on
 -- nothing but how often it goes along each of the two.
-use Rattle.std.proofs.Common.{◌≡◌, inl, inr, ℕ, zero, suc, ◌+◌, ◌<◌, List, [], ◌∷◌, refl, ap, ap₂, subst, arith, pos, ◌+ℤ◌}
-use Rattle.std.specs.Prelude.{if◌then◌else◌, ◌==◌}
-use Rattle.std.proofs.lemmas.Bool.{cases_eq, eq-eqb, ne_eqb}
+use Rattle.quad_system.proofs.Common.{sum_of_pairs, Vector, unit_step, IsGroup, quotient, ◌≡◌, inl, inr, ℕ, zero, suc, ◌+◌, ◌<◌, List, [], ◌∷◌, refl, ap, ap₂, subst, arith, pos, ◌+ℤ◌, cases_eq, eq-eqb, ne_eqb, if◌then◌else◌, ◌==◌}
 use Rattle.std.proofs.lemmas.Int.{ints}
-use Rattle.flat_forms.specs.Vectors.{Vector, unit_step}
-use Rattle.flat_forms.specs.Pairs.{sum_of_pairs}
-use Rattle.polygon_cut.proofs.GroupLemmas.{IsGroup, quotient}
 
 -- how often each spoke lies along the two sides, from spoke 0 on
 abbrev pub along_first : ℕ → ℕ

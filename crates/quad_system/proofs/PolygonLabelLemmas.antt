@@ -1,33 +1,6 @@
 -- The labelling of a polygon is good and full: labels ride along the ring of tree and leftover edges.
-use Rattle.std.proofs.Common.{◌≡◌, ◌≢◌, ◌⊎◌, inl, inr, ℕ, ◌+◌, ◌-◌, ◌*◌, ◌<◌, ◌≤◌, Bool, true, false, List, [], length, get_or, map, refl, ap, sym, ◌∙◌, subst, arith}
-use Rattle.std.specs.Prelude.{All, cond, nat_lt, nat_eq}
-use Rattle.std.specs.List.{enumerate_from, range_with_len}
-use Rattle.std.proofs.lemmas.Bool.{cases_Bool, cases_eq, eqb-true, eq-eqb, lt-ltb}
-use Rattle.std.proofs.lemmas.Bool.Decides.{nat_tests}
-use Rattle.std.proofs.lemmas.List.{length-map, get_or-map}
-use Rattle.std.proofs.lemmas.List.FromFn.{get_or-map-range_with_len, length-map-range_with_len, get_or-enumerate_from, length-enumerate_from}
-use Rattle.std.proofs.lemmas.List.Elements.{All-from_get_or}
-use Rattle.surf_model.specs.FaceLists.{face_at}
-use Rattle.surf_model.specs.Darts.{IsSide, side_after, side_number, tail_of, head_of}
-use Rattle.surf_model.specs.Surfaces.{ArePartners, RunOppositely, is_flipped, start_under, end_under}
-use Rattle.surf_model.specs.declared.edges.Side.{Side}
-use Rattle.halfedge_map.specs.OrientedMeshes.{OrientedMesh, IsOrientedSurface}
-use Rattle.halfedge_map.specs.DartMaps.{darts_of, next_of, twin_of, edge_of, start_corner_of, end_corner_of, dart_at_corner}
-use Rattle.halfedge_map.specs.RotationSystems.{rotations_of}
-use Rattle.surf_model.proofs.EdgeLemmas.{step_within}
-use Rattle.halfedge_map.proofs.NumberLemmas.{IsNumberOf, number_below}
-use Rattle.halfedge_map.proofs.DartLemmas.{numbered, dart_starts, corner_of_start, corner_of_end, start_kept, start_flipped, end_kept, end_flipped}
-use Rattle.halfedge_map.proofs.TwinLemmas.{twin-twin}
-use Rattle.halfedge_map.proofs.VertexLemmas.{partner_is_twin}
-use Rattle.halfedge_map.proofs.EdgeLemmas.{edge-twin}
-use Rattle.turn_words.specs.Modulo.{add, minus}
-use Rattle.tree_cotree.specs.Splits.{SplitView, IsSplit, in_tree, in_cotree, is_left}
-use Rattle.tree_cotree.proofs.SplitLemmas.{OneOfThree, tree_one, cotree_one, left_one}
-use Rattle.tree_cotree.proofs.LawLemmas.{one_of_three}
-use Rattle.polygon_cut.specs.Polygons.{PolygonView, IsCutFrom, KindLabels, label_of, place_of, one_up, one_down}
-use Rattle.polygon_cut.proofs.LawLemmas.{labels_ride, leftover, four_places}
-use Rattle.labellings.specs.Labellings.{FaceLabels, LabellingView, labels_at, signs_of, label_at, tail_label, head_label}
-use Rattle.labellings.specs.GoodLabellings.{IsGood, HasShape, MeetsSomeRule}
+use Rattle.quad_system.proofs.Common.{numbered, dart_starts, corner_of_start, corner_of_end, start_kept, start_flipped, end_kept, end_flipped, edge-twin, IsNumberOf, number_below, twin-twin, partner_is_twin, darts_of, next_of, twin_of, edge_of, start_corner_of, end_corner_of, dart_at_corner, OrientedMesh, IsOrientedSurface, rotations_of, IsGood, HasShape, MeetsSomeRule, FaceLabels, LabellingView, labels_at, signs_of, label_at, tail_label, head_label, labels_ride, leftover, four_places, PolygonView, IsCutFrom, KindLabels, label_of, place_of, one_up, one_down, ◌≡◌, ◌≢◌, ◌⊎◌, inl, inr, ℕ, ◌+◌, ◌-◌, ◌*◌, ◌<◌, ◌≤◌, Bool, true, false, List, [], length, get_or, map, refl, ap, sym, ◌∙◌, subst, arith, cases_Bool, cases_eq, eqb-true, eq-eqb, lt-ltb, nat_tests, length-map, get_or-map, All-from_get_or, get_or-map-range_with_len, length-map-range_with_len, get_or-enumerate_from, length-enumerate_from, enumerate_from, range_with_len, All, nat_lt, step_within, IsSide, side_after, side_number, tail_of, head_of, face_at, ArePartners, RunOppositely, is_flipped, start_under, end_under, Side, one_of_three, OneOfThree, tree_one, cotree_one, left_one, SplitView, IsSplit, in_tree, in_cotree, is_left, add, minus}
+use Rattle.std.specs.Prelude.{cond, nat_eq}
 use Rattle.quad_system.specs.PolygonLabellings.{face_labels, labelling_from}
 
 -- counting round, in the words of the turn words

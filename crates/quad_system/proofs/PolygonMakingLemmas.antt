@@ -1,24 +1,11 @@
 -- The labelling of a polygon as it is made: face after face, in the memory of the polygon's labels.
-use Rattle.std.proofs.Common.{◌≡◌, inl, inr, ℕ, ◌+◌, ◌-◌, ◌<◌, ◌≤◌, ◌^◌, Bool, true, false, cond, nat_eq, List, [], ◌∷◌, ◌++◌, length, get_or, take, drop, map, refl, ap, sym, subst, ◌∙◌, arith}
-use Rattle.std.specs.Prelude.{All}
-use Rattle.std.specs.List.{between, enumerate_from, range_with_len}
-use Rattle.std.proofs.lemmas.Bool.{cases_eq, cases_Bool, eq-eqb, eqb-true}
-use Rattle.std.proofs.lemmas.Grind.{same_number_lists}
-use Rattle.std.proofs.lemmas.List.{take_more, take_all, take_at, drop_at, drop-drop, map-append, length-append, length-drop, length-take-le, length_push, get_or-take, get_or-drop, get_or_append_left, get_or-append_right}
-use Rattle.std.proofs.lemmas.List.FromFn.{get_or-map-range_with_len, length-map-range_with_len, get_or-enumerate_from, length-enumerate_from}
-use Rattle.surf_model.specs.FaceLists.{FaceList, IsFace, IsFaceList, HasFileSize, face_at, next_corner, total_sides}
-use Rattle.surf_model.specs.Darts.{first_side}
-use Rattle.surf_model.specs.Parts.{parts, EndsRise}
-use Rattle.surf_model.specs.Surfaces.{is_flipped}
-use Rattle.surf_model.proofs.EdgeLemmas.{step_within}
-use Rattle.surf_model.proofs.SideNumberLemmas.{first_side-more, first_side-all, side_below}
-use Rattle.halfedge_map.specs.OrientedMeshes.{OrientedMesh}
-use Rattle.halfedge_map.specs.DartMaps.{darts_of, dart_at_corner}
-use Rattle.polygon_cut.specs.Polygons.{PolygonView, label_of}
-use Rattle.labellings.specs.Labellings.{FaceLabels, LabellingView}
-use Rattle.quad_system.specs.PolygonLabellings.{at_corners, face_labels, labelling_from, numbers_alone}
-use Rattle.labellings.specs.StoredLabellings.{with_signs, stored_labelling, IsStoredLabelling}
+use Rattle.quad_system.proofs.Common.{darts_of, dart_at_corner, OrientedMesh, FaceLabels, LabellingView, PolygonView, label_of, ◌≡◌, inl, inr, ℕ, ◌+◌, ◌-◌, ◌<◌, ◌≤◌, ◌^◌, Bool, true, false, cond, nat_eq, List, [], ◌∷◌, ◌++◌, length, get_or, take, drop, map, refl, ap, sym, subst, ◌∙◌, arith, cases_eq, cases_Bool, eq-eqb, eqb-true, take_more, take_all, take_at, drop_at, drop-drop, map-append, length-append, length-drop, length-take-le, length_push, get_or-take, get_or-drop, get_or_append_left, get_or-append_right, get_or-map-range_with_len, length-map-range_with_len, get_or-enumerate_from, length-enumerate_from, between, enumerate_from, range_with_len, All, step_within, first_side, FaceList, IsFace, IsFaceList, HasFileSize, face_at, next_corner, total_sides, is_flipped}
 use Rattle.labellings.proofs.StoredLabellingLemmas.{stored_labelling-push, IsStoredLabelling-push}
+use Rattle.labellings.specs.StoredLabellings.{with_signs, stored_labelling, IsStoredLabelling}
+use Rattle.std.proofs.lemmas.Grind.{same_number_lists}
+use Rattle.surf_model.proofs.SideNumberLemmas.{first_side-more, first_side-all, side_below}
+use Rattle.surf_model.specs.Parts.{parts, EndsRise}
+use Rattle.quad_system.specs.PolygonLabellings.{at_corners, face_labels, labelling_from, numbers_alone}
 
 -- the labels of the corners of a face
 abbrev pub labels_of_face : OrientedMesh → PolygonView → ℕ → List ℕ

@@ -1,16 +1,7 @@
 -- The spokes of a turn word, and what elementary steps do to them: a spur takes out two equal neighbours, and a push changes two
 -- neighbours across a quad.
-use Rattle.std.proofs.Common.{◌≡◌, ℕ, zero, suc, ◌<◌, Bool, true, false, not, eqb, List, [], ◌∷◌, ◌++◌, length, get_or, refl, ap, sym, ◌∙◌, subst, arith}
-use Rattle.std.specs.Prelude.{All, Option, Some, None, option_map, nat_lt}
-use Rattle.std.proofs.lemmas.Bool.{eqb-true, ltb-true}
+use Rattle.quad_system.proofs.Common.{ends_at_vertex, ◌≡◌, ℕ, zero, suc, ◌<◌, Bool, true, false, not, eqb, List, [], ◌∷◌, ◌++◌, length, get_or, refl, ap, sym, ◌∙◌, subst, arith, eqb-true, ltb-true, All, Option, Some, None, option_map, nat_lt, InRange, add-lt, minus-lt, add_comm, add_assoc, add-zero, zero-add, add-minus, add, minus, place_round, turns_after, turn_word_of, next_changed, spur_in, spur_out, pushed, from_place, after_step, SpurIn, SpurOut, Push}
 use Rattle.std.proofs.lemmas.Option.{cond_some}
-use Rattle.turn_words.specs.Modulo.{add, minus}
-use Rattle.turn_words.specs.Lemmas.Lists.{InRange}
-use Rattle.turn_words.specs.Lemmas.Sums.{add-lt, minus-lt, add_comm, add_assoc, add-zero, zero-add, add-minus}
-use Rattle.turn_words.specs.StepTable.{next_changed, spur_in, spur_out, pushed, from_place, after_step}
-use Rattle.turn_words.specs.SpokePaths.{place_round, turns_after, turn_word_of}
-use Rattle.turn_words.specs.declared.step.Step.TheVariants.{SpurIn, SpurOut, Push}
-use Rattle.polygon_cut.proofs.RelatorLemmas.{ends_at_vertex}
 
 -- a wheel of spokes with the quads of a polygon: places are undone by `spoke_at`, and each number has a partner with which it makes a quad
 pub record IsQuadWheel (degree : ℕ) (place spoke_at partner : ℕ → ℕ) : Type 0 where

@@ -1,22 +1,9 @@
 -- What a push across a quad does to the loop of a list of spokes, up to spurs: nothing, but across the quad of the last side it puts the
 -- loop of the last side in.
-use Rattle.std.proofs.Common.{◌≡◌, ◌≢◌, ℕ, suc, ◌+◌, ◌-◌, ◌<◌, Bool, true, false, not, List, [], ◌∷◌, ◌++◌, ap, sym, ◌∙◌, subst, arith}
-use Rattle.std.proofs.lemmas.Bool.Decides.{nat_tests}
-use Rattle.halfedge_map.specs.OrientedMeshes.{OrientedMesh, IsOrientedSurface}
-use Rattle.halfedge_map.specs.RotationSystems.{rotations_of}
-use Rattle.halfedge_map.proofs.SystemLemmas.{rotation_system}
-use Rattle.turn_words.specs.Modulo.{add}
-use Rattle.tree_cotree.specs.SpanningTrees.{after_dart}
-use Rattle.tree_cotree.specs.Splits.{SplitView, IsSplit, in_cotree, is_left}
-use Rattle.polygon_cut.specs.Polygons.{PolygonView, IsCutFrom, place_of, across, one_up}
-use Rattle.polygon_cut.proofs.GroupLemmas.{IsGroup}
-use Rattle.polygon_cut.proofs.RelatorLemmas.{spoke_product, ends_at_vertex, loop_in, free_push}
-use Rattle.polygon_cut.proofs.LoopLemmas.{loop_mul, loop_inv, loop_one}
+use Rattle.quad_system.proofs.Common.{rotation_system, OrientedMesh, IsOrientedSurface, rotations_of, IsGroup, loop_mul, loop_inv, loop_one, Crosses, sides_cross, spoke_product, ends_at_vertex, loop_in, free_push, Loops, spoke, up_plain, PolygonView, IsCutFrom, place_of, across, one_up, ◌≡◌, ◌≢◌, ℕ, suc, ◌+◌, ◌-◌, ◌<◌, Bool, true, false, not, List, [], ◌∷◌, ◌++◌, ap, sym, ◌∙◌, subst, arith, nat_tests, after_dart, SplitView, IsSplit, in_cotree, is_left, add}
 use Rattle.polygon_cut.proofs.FreeLoopLemmas.{SameFreely}
-use Rattle.polygon_cut.proofs.PlaceLemmas.{Crosses, sides_cross}
-use Rattle.polygon_cut.proofs.SpokeLemmas.{Loops, spoke, up_plain}
-use Rattle.polygon_cut.proofs.FreeSpokeLemmas.{free_group}
 use Rattle.polygon_cut.proofs.FreeQuadLemmas.{FreeQuads, free_quads, last_loop, last_pushes}
+use Rattle.polygon_cut.proofs.FreeSpokeLemmas.{free_group}
 use Rattle.quad_system.proofs.PolygonLabelLemmas.{up_is_add}
 use Rattle.quad_system.proofs.SpokeProductLemmas.{polygon_quads, spoke_at}
 use Rattle.quad_system.proofs.PushPathLemmas.{IsQuadWheel, upper_side, lower_side}

@@ -1,19 +1,12 @@
 -- Turn words read as products in a group: each spoke of the word puts its element at the vertex, and takes it away in the middle. Where
 -- the quads hold in the group, elementary steps change nothing, so words that reach one another read alike.
-use Rattle.std.proofs.Common.{◌≡◌, ℕ, ◌<◌, ◌≤◌, Bool, true, false, List, [], ◌∷◌, ◌++◌, refl, ap, sym, ◌∙◌, subst}
-use Rattle.std.specs.Prelude.{Some}
-use Rattle.turn_words.specs.Modulo.{add}
-use Rattle.turn_words.specs.StepTable.{after_step, after_steps}
-use Rattle.turn_words.specs.Lemmas.Lists.{InRange}
-use Rattle.turn_words.specs.declared.step.Step.{Step}
-use Rattle.turn_words.specs.declared.step.Step.TheVariants.{SpurIn, SpurOut, Push}
-use Rattle.turn_words.proofs.Reading.{state, keeps-step}
-use Rattle.turn_words.proofs.Reaching.{start-sound}
-use Rattle.polygon_cut.proofs.GroupLemmas.{IsGroup, quotient}
+use Rattle.quad_system.proofs.Common.{IsGroup, quotient, spoke_product, part_same, ◌≡◌, ℕ, ◌<◌, ◌≤◌, Bool, true, false, List, [], ◌∷◌, ◌++◌, refl, ap, sym, ◌∙◌, subst, Some, InRange, add, after_step, after_steps, SpurIn, SpurOut, Push}
 use Rattle.polygon_cut.proofs.GroupWordLemmas.{Var, Mul, Inv, by_words}
-use Rattle.polygon_cut.proofs.RelatorLemmas.{spoke_product, part_same}
-use Rattle.quad_system.proofs.PushPathLemmas.{IsQuadWheel, path_of, turned, upper_side, SpurGoes, IsPushedDown, PushedOneWay, IsChangedBehind, ends_by_length, spur_in_changes, spur_out_changes, push_changes}
 use Rattle.surf_model.proofs.ContextLemmas.{first_answer}
+use Rattle.turn_words.proofs.Reaching.{start-sound}
+use Rattle.turn_words.proofs.Reading.{state, keeps-step}
+use Rattle.turn_words.specs.declared.step.Step.{Step}
+use Rattle.quad_system.proofs.PushPathLemmas.{IsQuadWheel, path_of, turned, upper_side, SpurGoes, IsPushedDown, PushedOneWay, IsChangedBehind, ends_by_length, spur_in_changes, spur_out_changes, push_changes}
 
 -- the spokes of a wheel as elements of a group in which the two ways round each quad are one
 pub record HasQuads {X : Type 0} (Same : X → X → Type 0) (mul : X → X → X) (inv : X → X) (element : ℕ → X) (degree : ℕ)

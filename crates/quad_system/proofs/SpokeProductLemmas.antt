@@ -1,37 +1,9 @@
 -- The spokes of a polygon make quads in the group of loops, and a walk is the product of the spokes of its quad path.
-use Rattle.std.proofs.Common.{◌≡◌, ◌≢◌, ◌⊎◌, inl, inr, ℕ, suc, ◌-◌, ◌<◌, true, false, not, ◌&&◌, eqb, cond, List, [], ◌∷◌, ◌++◌, refl, ap, sym, ◌∙◌, subst, arith}
-use Rattle.std.proofs.lemmas.Bool.{cases_Bool, cases_eq, both_ways, eqb-true, eq-eqb, and_parts}
-use Rattle.surf_model.specs.Darts.{tail_of, head_of}
-use Rattle.surf_model.specs.Surfaces.{start_under, end_under, is_flipped}
-use Rattle.surf_model.specs.Moves.{Homotopic}
-use Rattle.surf_model.specs.declared.edges.Side.{Side}
-use Rattle.halfedge_map.specs.OrientedMeshes.{OrientedMesh, IsOrientedSurface}
-use Rattle.halfedge_map.specs.DartMaps.{darts_of, next_of, twin_of, origin_of, target_of, edge_of}
-use Rattle.halfedge_map.specs.RotationSystems.{rotations_of}
-use Rattle.halfedge_map.proofs.NumberLemmas.{HasSide, side_with_number}
-use Rattle.halfedge_map.proofs.DartLemmas.{origin_under, target_under}
-use Rattle.halfedge_map.proofs.TwinLemmas.{origin-twin}
-use Rattle.halfedge_map.proofs.EdgeLemmas.{dart_between, edge-twin}
+use Rattle.quad_system.proofs.Common.{origin_under, target_under, dart_between, edge-twin, HasSide, side_with_number, rotation_system, origin-twin, darts_of, next_of, twin_of, origin_of, target_of, edge_of, OrientedMesh, IsOrientedSurface, rotations_of, SpokesOfSide, spokes_of_side, LabellingView, signs_of, tail_label, head_label, spokes, spokes_by_labels, quad_path, IsGroup, quotient, inverse_of_quotient, inverse_twice, labels_ride, back, leads_to, IsWay, HasWays, SameLoop, loop_mul, loop_inv, loop_one, loop_of, no_dart, first_dart, start_used, Crosses, sides_cross, is_own_side, spoke_product, Loops, value, value_is, value_twin, spoke, group_of, dart_is_two_spokes, dart_way, up, tree_ways, PolygonView, IsCutFrom, side_at, label_of, place_of, across, one_up, ◌≡◌, ◌≢◌, ◌⊎◌, inl, inr, ℕ, suc, ◌-◌, ◌<◌, true, false, not, ◌&&◌, eqb, cond, List, [], ◌∷◌, ◌++◌, refl, ap, sym, ◌∙◌, subst, arith, cases_Bool, cases_eq, both_ways, eqb-true, eq-eqb, and_parts, tail_of, head_of, Homotopic, start_under, end_under, is_flipped, Side, after_dart, SplitView, IsSplit, in_cotree, is_left, add}
 use Rattle.halfedge_map.proofs.OrbitLemmas.{AreAlike, two_alike}
-use Rattle.halfedge_map.proofs.SystemLemmas.{rotation_system}
-use Rattle.turn_words.specs.Modulo.{add}
-use Rattle.tree_cotree.specs.RingCounts.{any_below}
-use Rattle.tree_cotree.specs.SpanningTrees.{after_dart}
-use Rattle.tree_cotree.specs.Splits.{SplitView, IsSplit, in_cotree, is_left}
 use Rattle.tree_cotree.proofs.ClassLemmas.{found_below, passes_below}
-use Rattle.polygon_cut.specs.Polygons.{PolygonView, IsCutFrom, side_at, label_of, place_of, across, one_up}
-use Rattle.polygon_cut.proofs.GroupLemmas.{IsGroup, quotient, inverse_of_quotient, inverse_twice}
-use Rattle.polygon_cut.proofs.RelatorLemmas.{spoke_product}
-use Rattle.polygon_cut.proofs.LoopLemmas.{back, leads_to, IsWay, HasWays, SameLoop, loop_mul, loop_inv, loop_one, loop_of, no_dart, first_dart, start_used}
-use Rattle.polygon_cut.proofs.PlaceLemmas.{Crosses, sides_cross}
-use Rattle.polygon_cut.proofs.PolygonLemmas.{is_own_side}
-use Rattle.polygon_cut.proofs.LawLemmas.{labels_ride}
-use Rattle.polygon_cut.proofs.TreeWayLemmas.{up, tree_ways}
-use Rattle.polygon_cut.proofs.SpokeLemmas.{Loops, value, value_is, value_twin, spoke, group_of, dart_is_two_spokes, dart_way}
-use Rattle.labellings.specs.Labellings.{LabellingView, signs_of, tail_label, head_label}
-use Rattle.labellings.specs.QuadPaths.{spokes, spokes_by_labels, quad_path}
+use Rattle.tree_cotree.specs.RingCounts.{any_below}
 use Rattle.quad_system.specs.PolygonLabellings.{labelling_from}
-use Rattle.labellings.proofs.SideLemmas.{SpokesOfSide, spokes_of_side}
 use Rattle.quad_system.proofs.PolygonLabelLemmas.{polygon_good, up_is_add, down_is_add, degree_is, LabelsOfSide, labels_of_side, flips_are}
 use Rattle.quad_system.proofs.ReadingLemmas.{HasQuads}
 

@@ -1,21 +1,9 @@
 -- A walk is homotopic to the loop of its quad path, with the way up the tree before it and the way down behind it.
-use Rattle.std.proofs.Common.{◌≡◌, ℕ, ◌-◌, ◌<◌, true, List, [], ◌∷◌, ◌++◌, length, ap, sym, ◌∙◌, subst, arith}
-use Rattle.std.specs.Prelude.{slice_index}
-use Rattle.surf_model.specs.Walks.{IsWalk}
-use Rattle.surf_model.specs.Moves.{Homotopic}
-use Rattle.halfedge_map.specs.OrientedMeshes.{OrientedMesh, IsOrientedSurface}
-use Rattle.tree_cotree.specs.Splits.{SplitView, IsSplit}
-use Rattle.polygon_cut.specs.Polygons.{PolygonView, IsCutFrom}
-use Rattle.polygon_cut.specs.SpokeLoops.{AreWaysUp, by_loop, path_loop}
-use Rattle.polygon_cut.proofs.WayLemmas.{IsWay, start_used, end_used, back, loop_mul, loop_inv, loop_of}
+use Rattle.quad_system.proofs.Common.{OrientedMesh, IsOrientedSurface, quad_path, SameLoop, homotopy, spoke_product, up, tree_ways, walk_way, PolygonView, IsCutFrom, AreWaysUp, by_loop, path_loop, ◌≡◌, ℕ, ◌-◌, ◌<◌, true, List, [], ◌∷◌, ◌++◌, length, ap, sym, ◌∙◌, subst, arith, slice_index, Homotopic, IsWalk, SplitView, IsSplit}
 use Rattle.polygon_cut.proofs.CongruenceLemmas.{by_own_loop}
-use Rattle.polygon_cut.proofs.LoopLemmas.{SameLoop, homotopy}
-use Rattle.polygon_cut.proofs.RelatorLemmas.{spoke_product}
-use Rattle.polygon_cut.proofs.TreeWayLemmas.{up, tree_ways}
 use Rattle.polygon_cut.proofs.DartLoopLemmas.{Loops, spoke, one_of}
 use Rattle.polygon_cut.proofs.FreeLawLemmas.{root_is, path_list, by_loop_is}
-use Rattle.polygon_cut.proofs.WalkLemmas.{walk_way}
-use Rattle.labellings.specs.QuadPaths.{quad_path}
+use Rattle.polygon_cut.proofs.WayLemmas.{IsWay, start_used, end_used, back, loop_mul, loop_inv, loop_of}
 use Rattle.quad_system.specs.PolygonLabellings.{labelling_from}
 use Rattle.quad_system.proofs.SpokeProductLemmas.{walk_product}
 

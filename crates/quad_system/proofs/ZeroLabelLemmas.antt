@@ -1,18 +1,6 @@
 -- Labels that are all 0: they are good on every surface, by the tree rule at each edge, and not full.
-use Rattle.std.proofs.Common.{◌≡◌, inl, ℕ, zero, suc, ◌+◌, ◌<◌, Bool, true, false, List, [], ◌∷◌, length, get_or, map, refl, ap, sym, ◌∙◌, subst, arith}
-use Rattle.std.specs.Prelude.{All, cond}
-use Rattle.std.specs.List.{enumerate_from}
-use Rattle.std.proofs.lemmas.List.{length-map, get_or-map}
-use Rattle.std.proofs.lemmas.List.FromFn.{get_or-enumerate_from, length-enumerate_from}
-use Rattle.std.proofs.lemmas.List.Elements.{All-from_get_or}
-use Rattle.surf_model.specs.FaceLists.{face_at}
-use Rattle.surf_model.specs.Darts.{IsSide, side_after}
-use Rattle.surf_model.specs.Surfaces.{is_flipped}
-use Rattle.surf_model.specs.declared.edges.Side.{Side}
-use Rattle.halfedge_map.specs.OrientedMeshes.{OrientedMesh, IsOrientedSurface}
-use Rattle.turn_words.specs.Modulo.{add}
-use Rattle.labellings.specs.Labellings.{FaceLabels, labels_at, signs_of, label_at, tail_label, head_label}
-use Rattle.labellings.specs.GoodLabellings.{IsGood, HasShape}
+use Rattle.quad_system.proofs.Common.{OrientedMesh, IsOrientedSurface, IsGood, HasShape, FaceLabels, labels_at, signs_of, label_at, tail_label, head_label, ◌≡◌, inl, ℕ, zero, suc, ◌+◌, ◌<◌, Bool, true, false, List, [], ◌∷◌, length, get_or, map, refl, ap, sym, ◌∙◌, subst, arith, length-map, get_or-map, All-from_get_or, get_or-enumerate_from, length-enumerate_from, enumerate_from, All, IsSide, side_after, face_at, is_flipped, Side, add}
+use Rattle.std.specs.Prelude.{cond}
 use Rattle.quad_system.specs.PolygonLabellings.{all_zero, IsFull}
 use Rattle.quad_system.proofs.PolygonLabelLemmas.{after_side, opposite_under}
 

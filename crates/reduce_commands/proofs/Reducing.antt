@@ -1,33 +1,23 @@
 -- How the checks of `reduce` end.
-use Rattle.std.proofs.Common.{◌≡◌, ◌⊎◌, inl, inr, ℕ, ◌<◌, ◌≤◌, Bool, true, false, List, [], ◌∷◌, ◌++◌, length, refl, sym, ap, ◌∙◌, subst, arith}
-use Rattle.std.specs.Prelude.{nat_lt, if◌then◌else◌, Option, Some, None, Result, Ok, Err, is_some, IfSome, IsSome, IsSomeAnd, All}
-use Rattle.std.specs.List.{list_all}
+use Rattle.reduce_commands.proofs.Common.{stops_first, told_stops, stops_next, tells_no_fault, Answer, Texts, NoText, yes_with, End, Refuse, Pass, Passes, IsTold, file, meant, pass_unless, Check, pass, ◌>>=◌, Outcome, status_of, numbers_line, words_text, ◌≡◌, ◌⊎◌, inl, inr, ℕ, ◌<◌, ◌≤◌, Bool, true, false, List, [], ◌∷◌, ◌++◌, length, refl, sym, ap, ◌∙◌, subst, arith, nat_lt, if◌then◌else◌, Option, Some, None, Result, Err, is_some, IfSome, IsSome, IsSomeAnd, All, Files, file_of, NumberLine, words_of}
+use Rattle.commands.proofs.Sound.{IsSound, sound-then, sound-pass, sound-meant, sound-pass_unless, sound-file, meant_told, unless_told, held}
+use Rattle.commands.specs.Stops.{Stops, Tells}
+use Rattle.commands.specs.declared.inputs.TheConstants.{MOST_BYTES}
+use Rattle.commands.specs.declared.status.Status.TheVariants.{Yes}
+use Rattle.commands.specs.declared.stop.Stop.{Stop}
 use Rattle.std.proofs.lemmas.Bool.{and_parts, ltb-true, ltb-false}
 use Rattle.std.proofs.lemmas.List.Elements.{All-nil, All-cons, All-head, All-tail}
-use Rattle.surf_io.specs.Files.{Files, file_of}
-use Rattle.turn_words.specs.Canonical.{IsTurnWord, IsCanonicalOf}
+use Rattle.std.specs.List.{list_all}
+use Rattle.std.specs.Prelude.{Ok}
 use Rattle.turn_words.proofs.Unique.{left, left-is-canonical, unique}
-use Rattle.walk_files.specs.NumberLists.{NumberLine}
-use Rattle.walk_files.specs.NumberTexts.{words_of}
+use Rattle.turn_words.specs.Canonical.{IsTurnWord, IsCanonicalOf}
 use Rattle.walk_files.specs.declared.fault.WalkFault.{WalkFault}
 use Rattle.walk_files.specs.declared.fault.WalkFault.TheVariants as walks
 use Rattle.commands.specs.declared.refusal.Input.TheVariants as inputs
 use Rattle.commands.specs.declared.stop.Stop.TheVariants as stops
-use Rattle.commands.proofs.Checking.{stops_first, told_stops, stops_next}
-use Rattle.commands.proofs.Running.{tells_no_fault}
-use Rattle.commands.proofs.Sound.{IsSound, sound-then, sound-pass, sound-meant, sound-pass_unless, sound-file, meant_told, unless_told, held}
-use Rattle.commands.specs.Answers.{Answer, Texts, NoText, yes_with}
 use Rattle.reduce_commands.specs.Canonised.{AreCanonised, IsNotCanonised, IsSoFar}
-use Rattle.commands.specs.Checks.{End, Refuse, Pass, Passes, IsTold, file, meant, pass_unless, Check, pass, ◌>>=◌}
-use Rattle.commands.specs.Outcomes.{Outcome, status_of}
-use Rattle.commands.specs.WordTexts.{words_text}
 use Rattle.reduce_commands.specs.Reduce.{SpellsTurnWords, IsReduceInput, AreCanonicalOf, entries_on, degree_fault, lines_in, range_fault, canonical_words, reduce, range_line, degree_line}
-use Rattle.commands.specs.Refusals.{numbers_line}
-use Rattle.commands.specs.Stops.{Stops, Tells}
-use Rattle.commands.specs.declared.inputs.TheConstants.{MOST_BYTES}
 use Rattle.reduce_commands.specs.declared.reduce.TheConstants.{LEAST_DEGREE}
-use Rattle.commands.specs.declared.status.Status.TheVariants.{Yes}
-use Rattle.commands.specs.declared.stop.Stop.{Stop}
 
 -- ---- the parts
 

@@ -1,3 +1,4 @@
+pub mod Common
 pub mod RenamedSides
 pub mod RenamedWalks
 pub mod RenamedMoves

@@ -1,11 +1,5 @@
 -- Walks of a renamed mesh.
-use Rattle.std.proofs.Common.{◌≡◌, ℕ, ◌+◌, ◌-◌, ◌<◌, List, length, map, get_or, ap, sym, ◌∙◌, subst, arith}
-use Rattle.std.specs.Prelude.{IsTrue}
-use Rattle.std.proofs.lemmas.List.{length-map, get_or-map}
-use Rattle.std.proofs.lemmas.List.Elements.{All-weaker, All-map}
-use Rattle.surf_model.specs.FaceLists.{FaceList, IsFaceList, is_used}
-use Rattle.surf_model.specs.Walks.{IsWalk, HaveCommonEnds, darts}
-use Rattle.surf_model.specs.Surfaces.{IsWalkBetween, AreJoinedByWalk}
+use Rattle.renaming.proofs.Common.{◌≡◌, ℕ, ◌+◌, ◌-◌, ◌<◌, List, length, map, get_or, ap, sym, ◌∙◌, subst, arith, length-map, get_or-map, All-weaker, All-map, IsTrue, FaceList, IsFaceList, is_used, IsWalkBetween, AreJoinedByWalk, IsWalk, HaveCommonEnds, darts}
 use Rattle.surf_model.specs.Components.{EachTwoAreJoined}
 use Rattle.renaming.specs.Renamings.{IsRenamed}
 use Rattle.renaming.proofs.RenamedSides.{used_renamed, edge_renamed, list_restored, led_back}

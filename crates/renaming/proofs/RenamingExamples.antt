@@ -1,7 +1,5 @@
 -- A mesh that is renamed.
-use Rattle.std.proofs.Common.{◌≡◌, ℕ, ◌<◌, true, refl, arith}
-use Rattle.std.proofs.lemmas.Bool.Decides.{nat_tests}
-use Rattle.surf_model.specs.FaceLists.{is_used}
+use Rattle.renaming.proofs.Common.{◌≡◌, ℕ, ◌<◌, true, refl, arith, nat_tests, is_used}
 use Rattle.surf_model.specs.Meshes.{tetrahedron}
 use Rattle.renaming.specs.Renamings.{IsRenamed}
 use Rattle.renaming.specs.Examples.{odd_tetrahedron, there, back}

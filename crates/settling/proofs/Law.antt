@@ -1,10 +1,6 @@
 -- The laws, said of words that are written from their start.
-use Rattle.std.proofs.Common.{◌≡◌, ℕ, ◌+◌, ◌<◌, ◌≤◌, arith, sym, ◌∙◌, ap, ◌++◌, length, reverse}
-use Rattle.std.proofs.lemmas.List.{reverse-reverse, length-reverse}
+use Rattle.settling.proofs.Common.{◌≡◌, ℕ, ◌+◌, ◌<◌, ◌≤◌, arith, sym, ◌∙◌, ap, ◌++◌, length, reverse, reverse-reverse, length-reverse, IsSound, state, good-from-canonical, Put}
 use Rattle.turn_words.specs.Canonical.{IsCanonical}
-use Rattle.turn_words.specs.PutTurns.{Put}
-use Rattle.turn_words.specs.Lemmas.FromEnd.{good-from-canonical}
-use Rattle.turn_words.proofs.Reading.{IsSound, state}
 use Rattle.settling.specs.TurnRows.{entries, put_along, IsCanonicalRow, LosesAtMost, Settles}
 use Rattle.settling.proofs.Rows.{along, along-is, upto, reverse-upto}
 use Rattle.settling.proofs.Settling.{within_budget}

@@ -1,18 +1,8 @@
 -- A canonical row loses at most as many entries as the word had before: what the word before does to the row can be undone
 -- by as many entries.
-use Rattle.std.proofs.Common.{◌≡◌, ℕ, ◌+◌, ◌<◌, ◌≤◌, inl, inr, arith, refl, sym, ◌∙◌, ap, zero, suc, List, [], ◌∷◌, ◌++◌, length, reverse}
-use Rattle.std.proofs.lemmas.List.{length-reverse, append-nil}
-use Rattle.turn_words.specs.Modulo.{add, minus}
-use Rattle.turn_words.specs.PutTurns.{Put, put}
-use Rattle.turn_words.specs.StepTable.{next_changed}
-use Rattle.turn_words.specs.Lemmas.Sums.{add-cases, minus-cases, add-lt, minus-lt}
-use Rattle.turn_words.specs.Lemmas.Lists.{InRange}
-use Rattle.turn_words.specs.Lemmas.WordEnds.{IsGood, good-cons, good-head, good-tail}
-use Rattle.turn_words.specs.Lemmas.PutLaws.{put-good, put-put}
-use Rattle.turn_words.specs.Lemmas.FromEnd.{in-range-reverse}
-use Rattle.turn_words.specs.Lemmas.HyperLaws.{length-put}
-use Rattle.turn_words.proofs.Reading.{read, IsSound, state}
+use Rattle.settling.proofs.Common.{◌≡◌, ℕ, ◌+◌, ◌<◌, ◌≤◌, inl, inr, arith, refl, sym, ◌∙◌, ap, zero, suc, List, [], ◌∷◌, ◌++◌, length, reverse, length-reverse, append-nil, read, IsSound, state, in-range-reverse, length-put, InRange, put-good, put-put, add-cases, minus-cases, add-lt, minus-lt, IsGood, good-cons, good-head, good-tail, add, minus, Put, put}
 use Rattle.turn_words.proofs.Reaching.{read-append, read-good, read-reached, keeps-steps, start-sound}
+use Rattle.turn_words.specs.StepTable.{next_changed}
 use Rattle.settling.specs.TurnRows.{entries, IsCanonicalRow}
 use Rattle.settling.proofs.Rows.{along, upto, upto-cons, reverse-upto}
 use Rattle.settling.proofs.Settling.{upto-shut, row-follows}

@@ -1,13 +1,5 @@
 -- The words along a row, read from their end, and how a put makes such a word longer or shorter.
-use Rattle.std.proofs.Common.{◌≡◌, ℕ, ◌+◌, ◌<◌, ◌≤◌, inl, inr, arith, refl, sym, ◌∙◌, ap, ap₂, zero, suc, true, List, [], ◌∷◌, ◌++◌, length, reverse}
-use Rattle.std.proofs.lemmas.List.{reverse-reverse, append-nil}
-use Rattle.turn_words.specs.Modulo.{add, minus}
-use Rattle.turn_words.specs.PutTurns.{Put, is_open, closed, put, put_last}
-use Rattle.turn_words.specs.Lemmas.Sums.{add-cases, minus-one, minus-two}
-use Rattle.turn_words.specs.Lemmas.Lists.{reverse-next}
-use Rattle.turn_words.specs.Lemmas.WordEnds.{IsCons, open-cases, put-flip, put-close, put-else}
-use Rattle.turn_words.specs.Lemmas.PutLaws.{cases, spur, flip, close, other}
-use Rattle.turn_words.proofs.Reading.{state}
+use Rattle.settling.proofs.Common.{◌≡◌, ℕ, ◌+◌, ◌<◌, ◌≤◌, inl, inr, arith, refl, sym, ◌∙◌, ap, ap₂, zero, suc, true, List, [], ◌∷◌, ◌++◌, length, reverse, reverse-reverse, append-nil, state, reverse-next, cases, spur, flip, close, other, add-cases, minus-one, minus-two, IsCons, open-cases, put-flip, put-close, put-else, add, minus, Put, is_open, closed, put, put_last}
 use Rattle.settling.specs.TurnRows.{entries, put_along}
 
 -- the words along a row, read from their end

@@ -1,13 +1,7 @@
 -- A canonical row settles: where no entry is lost for two rounds, each entry from then on is only put last.
-use Rattle.std.proofs.Common.{◌≡◌, ℕ, ◌+◌, ◌*◌, ◌-◌, ◌<◌, ◌≤◌, ◌⊎◌, inl, inr, arith, sym, ◌∙◌, ap, subst, zero, suc, false, List, ◌∷◌, length}
+use Rattle.settling.proofs.Common.{◌≡◌, ℕ, ◌+◌, ◌*◌, ◌-◌, ◌<◌, ◌≤◌, ◌⊎◌, inl, inr, arith, sym, ◌∙◌, ap, subst, zero, suc, false, List, ◌∷◌, length, IsSound, state, length-put, add-zero, Follows, IsCons, open-two, open-other, put-else, add, minus, Put, is_open, put}
 use Rattle.std.proofs.Math.Nat.{mul-le-mul_left}
 use Rattle.std.proofs.lemmas.Bool.{cases_eq, cases_lt}
-use Rattle.turn_words.specs.Modulo.{add, minus}
-use Rattle.turn_words.specs.PutTurns.{Put, is_open, put}
-use Rattle.turn_words.specs.Lemmas.Sums.{add-zero}
-use Rattle.turn_words.specs.Lemmas.WordEnds.{Follows, IsCons, open-two, open-other, put-else}
-use Rattle.turn_words.specs.Lemmas.HyperLaws.{length-put}
-use Rattle.turn_words.proofs.Reading.{IsSound, state}
 use Rattle.settling.specs.TurnRows.{IsCanonicalRow}
 use Rattle.settling.proofs.Rows.{along, upto, upto-cons, Grown, plain, turned, grown, longer-cons, one-more}
 

@@ -1,14 +1,6 @@
 -- A bracket at the end of a path is closed, quad by quad.
-use Rattle.std.proofs.Common.{◌≡◌, ℕ, ◌+◌, ◌-◌, ◌<◌, ◌≤◌, arith, inl, inr, refl, sym, ◌∙◌, ap, ap₂, subst, suc, Bool, true, false, not, List, All, length, get_or}
-use Rattle.std.specs.Prelude.{if◌then◌else◌}
-use Rattle.std.specs.List.{remove}
-use Rattle.std.proofs.lemmas.Bool.{cases_eq, cases_lt}
-use Rattle.std.proofs.lemmas.List.Edits.{get_or-remove_below, get_or-remove_above, length-remove}
+use Rattle.spoke_paths.proofs.Common.{◌≡◌, ℕ, ◌+◌, ◌-◌, ◌<◌, ◌≤◌, arith, inl, inr, refl, sym, ◌∙◌, ap, ap₂, subst, suc, Bool, true, false, not, List, All, length, get_or, cases_eq, cases_lt, get_or-remove_below, get_or-remove_above, length-remove, remove, if◌then◌else◌, add-cases, minus-cases, add-lt, minus-lt, add-zero, add, minus, place_round, IsWheel}
 use Rattle.std.proofs.Math.Bool.{not-not}
-use Rattle.turn_words.specs.Modulo.{add, minus}
-use Rattle.turn_words.specs.Wheels.{IsWheel}
-use Rattle.turn_words.specs.SpokePaths.{place_round}
-use Rattle.turn_words.specs.Lemmas.Sums.{add-cases, minus-cases, add-lt, minus-lt, add-zero}
 use Rattle.spoke_paths.specs.PathTurns.{from_vertex, turn_of, Opens, IsTurnedOver, IsBracketClosed}
 use Rattle.spoke_paths.proofs.Turning.{from-next}
 

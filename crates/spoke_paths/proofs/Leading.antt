@@ -1,10 +1,5 @@
 -- Steps put behind steps.
-use Rattle.std.proofs.Common.{◌≡◌, ℕ, ◌<◌, arith, refl, ◌∙◌, ap, zero, suc, Bool, not, List, [], ◌∷◌, ◌++◌, length, get_or, take, drop, Some}
-use Rattle.std.specs.Prelude.{option_map, option_and_then}
-use Rattle.std.specs.List.{remove}
-use Rattle.std.proofs.lemmas.Bool.{eq-eqb}
-use Rattle.std.proofs.lemmas.List.{append-nil, take_all, drop_all}
-use Rattle.std.proofs.lemmas.Option.{option_and_then_some}
+use Rattle.spoke_paths.proofs.Common.{◌≡◌, ℕ, ◌<◌, arith, refl, ◌∙◌, ap, zero, suc, Bool, not, List, [], ◌∷◌, ◌++◌, length, get_or, take, drop, Some, eq-eqb, append-nil, take_all, drop_all, option_and_then_some, remove, option_map, option_and_then}
 use Rattle.spoke_paths.specs.PathSteps.{spur_goes, from_spoke, after_path_step, after_path_steps, PathLeads}
 use Rattle.spoke_paths.specs.declared.step.PathStep.{PathStep}
 

@@ -1,13 +1,8 @@
 -- Steps to a reduced path leave nothing of a path that has no word.
-use Rattle.std.proofs.Common.{◌≡◌, ℕ, ◌<◌, ◌∙◌, ap, List, [], All, length}
-use Rattle.turn_words.specs.FormLaws.{led}
-use Rattle.turn_words.specs.HyperStates.{IsEven, empty_state, hyper_next, IsHyperWheel, BelongsTo}
-use Rattle.turn_words.specs.Lemmas.HyperLaws.{hyper_starts, hyper_stays, hyper_there_and_back, hyper_across}
-use Rattle.turn_words.specs.SpokePaths.{turn_word_of}
-use Rattle.flat_forms.specs.Vectors.{origin}
-use Rattle.flat_forms.specs.FlatStates.{flat_next, size_of, IsFlatWheel}
-use Rattle.flat_forms.specs.FlatStates.{IsEven as IsEvenPoint}
+use Rattle.spoke_paths.proofs.Common.{flat_next, size_of, IsFlatWheel, IsEven as IsEvenPoint, origin, ◌≡◌, ℕ, ◌<◌, ◌∙◌, ap, List, [], All, length, led, empty_state, hyper_next, IsHyperWheel, BelongsTo, turn_word_of}
 use Rattle.flat_forms.specs.Lemmas.FlatLaws.{flat_starts, flat_stays, flat_there_and_back, flat_across}
+use Rattle.turn_words.specs.HyperStates.{IsEven}
+use Rattle.turn_words.specs.Lemmas.HyperLaws.{hyper_starts, hyper_stays, hyper_there_and_back, hyper_across}
 use Rattle.spoke_paths.specs.PathSteps.{PathLeads}
 use Rattle.spoke_paths.specs.ReducedWords.{IsReduced}
 use Rattle.spoke_paths.specs.declared.step.PathStep.{PathStep}

@@ -1,3 +1,4 @@
+pub mod Common
 pub mod ReducedTurns
 pub mod StepsKeep
 pub mod ReducedPlane

@@ -1,9 +1,5 @@
 -- Steps on a path of spokes, told by the spokes before them and behind them.
-use Rattle.std.proofs.Common.{◌≡◌, ℕ, zero, suc, ◌+◌, ◌<◌, Bool, true, false, not, List, [], ◌∷◌, ◌++◌, length, set, take, refl, ap, sym, ◌∙◌, arith, length-append, Option, Some}
-use Rattle.std.specs.Prelude.{if◌then◌else◌}
-use Rattle.std.specs.List.{remove}
-use Rattle.turn_words.specs.Modulo.{add}
-use Rattle.turn_words.specs.FormLaws.{IsQuad}
+use Rattle.spoke_paths.proofs.Common.{◌≡◌, ℕ, zero, suc, ◌+◌, ◌<◌, Bool, true, false, not, List, [], ◌∷◌, ◌++◌, length, set, refl, ap, sym, ◌∙◌, arith, length-append, Option, Some, remove, if◌then◌else◌, IsQuad, add}
 use Rattle.spoke_paths.specs.PathSteps.{upper_way, lower_way, quad_turned, spur_goes, from_spoke}
 use Rattle.spoke_paths.specs.PathTurns.{from_vertex}
 use Rattle.spoke_paths.proofs.StepsKeep.{mapped-is, turned-is, becomes-is, spur-is}
@@ -68,10 +64,6 @@ at-place rule at path next e =
       next_is = r.next_is;
       does = ap (λ b. rule b r.part) (sym (end-is at)) ∙ r.does;
     }
-
-pub take-front : (front rest : List ℕ) → take (length front) (front ++ rest) ≡ front
-take-front [] rest = refl
-take-front (x ∷ front) rest = ap (λ (l : List ℕ). x ∷ l) (take-front front rest)
 
 -- two neighbours taken the other way round a quad
 abbrev pub old_way : Bool → ℕ → Bool → ℕ → ℕ → List ℕ

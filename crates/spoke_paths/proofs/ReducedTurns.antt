@@ -1,19 +1,10 @@
 -- A reduced word whose entries are put one after another leaves a word with an entry.
-use Rattle.std.proofs.Common.{◌≡◌, ◌≢◌, ℕ, ◌+◌, ◌<◌, ◌≤◌, inl, inr, arith, refl, sym, ◌∙◌, ap, true, false, List, [], ◌∷◌, All, length, reverse}
-use Rattle.std.proofs.lemmas.Bool.{cases_eq, cases_Bool, eq-eqb, ne_eqb}
-use Rattle.std.proofs.lemmas.List.{reverse-reverse}
-use Rattle.turn_words.specs.Modulo.{add, minus}
-use Rattle.turn_words.specs.PutTurns.{Put, is_open, flipped, put}
-use Rattle.turn_words.specs.HyperStates.{empty_state, hyper_next, IsHyperWheel}
-use Rattle.turn_words.specs.FormLaws.{led}
-use Rattle.turn_words.specs.SpokePaths.{turn_word_of}
-use Rattle.turn_words.specs.Lemmas.Lists.{InRange}
-use Rattle.turn_words.specs.Lemmas.Sums.{add-cases, minus-one, minus-two, add-zero}
-use Rattle.turn_words.specs.Lemmas.WordEnds.{IsCons, Follows, open-cases, put-flip, put-else}
-use Rattle.turn_words.specs.Lemmas.FromEnd.{in-range-from}
+use Rattle.spoke_paths.proofs.Common.{◌≡◌, ◌≢◌, ℕ, ◌+◌, ◌<◌, ◌≤◌, inl, inr, arith, refl, sym, ◌∙◌, ap, true, false, List, [], ◌∷◌, All, length, reverse, cases_eq, cases_Bool, eq-eqb, ne_eqb, reverse-reverse, led, empty_state, hyper_next, IsHyperWheel, in-range-from, InRange, add-cases, minus-one, minus-two, add-zero, add, minus, turn_word_of}
 use Rattle.turn_words.proofs.Reading.{read, state}
-use Rattle.turn_words.proofs.Unique.{left, canonical-is-left}
 use Rattle.turn_words.proofs.Spokes.{turns, canonical}
+use Rattle.turn_words.proofs.Unique.{left, canonical-is-left}
+use Rattle.turn_words.specs.Lemmas.WordEnds.{IsCons, Follows, open-cases, put-flip, put-else}
+use Rattle.turn_words.specs.PutTurns.{Put, is_open, flipped, put}
 use Rattle.spoke_paths.specs.ReducedWords.{closes, HasNoBracket, IsReduced}
 
 -- what is known of the word that is left so far, of the change, and of the turns that come

@@ -1,14 +1,5 @@
 -- What no spur and no bracket ends in, after a bracket was closed, and as a turn word.
-use Rattle.std.proofs.Common.{◌≡◌, ◌≢◌, ℕ, ◌+◌, ◌-◌, ◌<◌, ◌≤◌, arith, inl, inr, refl, sym, ◌∙◌, ap, ap₂, subst, suc, Bool, true, false, not, List, [], ◌∷◌, ◌++◌, All, length, get_or, drop}
-use Rattle.std.specs.Prelude.{if◌then◌else◌}
-use Rattle.std.specs.List.{remove}
-use Rattle.std.proofs.lemmas.List.Edits.{get_or-remove_below, length-remove}
-use Rattle.std.proofs.lemmas.List.{length_push, get_or_append_left, drop_all, append-nil}
-use Rattle.std.proofs.lemmas.Bool.{cases_eq, cases_lt, eq-eqb, ne_eqb}
-use Rattle.turn_words.specs.Modulo.{add, minus}
-use Rattle.turn_words.specs.Wheels.{IsWheel}
-use Rattle.turn_words.specs.SpokePaths.{place_round, turns_after, turn_word_of}
-use Rattle.turn_words.specs.Lemmas.Sums.{add-cases, minus-cases, add-lt, minus-lt}
+use Rattle.spoke_paths.proofs.Common.{◌≡◌, ◌≢◌, ℕ, ◌+◌, ◌-◌, ◌<◌, ◌≤◌, arith, inl, inr, refl, sym, ◌∙◌, ap, ap₂, subst, suc, Bool, true, false, not, List, [], ◌∷◌, ◌++◌, All, length, get_or, drop, cases_eq, cases_lt, eq-eqb, ne_eqb, length_push, get_or_append_left, drop_all, append-nil, get_or-remove_below, length-remove, remove, if◌then◌else◌, add-cases, minus-cases, add-lt, minus-lt, add, minus, place_round, turns_after, turn_word_of, IsWheel}
 use Rattle.spoke_paths.specs.ReducedWords.{closes, HasNoBracket, IsReduced}
 use Rattle.spoke_paths.specs.PathTurns.{from_vertex, turn_of, Opens, EndsNothing, IsShort, IsBracketClosed}
 use Rattle.spoke_paths.proofs.Turning.{from-next}

@@ -1,13 +1,5 @@
 -- Steps on a path keep the spokes below the degree, and the state that spokes lead to, in each form that meets the laws.
-use Rattle.std.proofs.Common.{◌≡◌, ℕ, ◌<◌, arith, inl, inr, refl, sym, ◌∙◌, ap, ap₂, zero, suc, Bool, true, false, not, eqb, ◌&&◌, List, [], ◌∷◌, All, length, Option, Some, None}
-use Rattle.std.specs.Prelude.{option_map, if◌then◌else◌}
-use Rattle.std.proofs.lemmas.Option.{option_and_then_some}
-use Rattle.std.proofs.lemmas.Bool.{cases_Bool, cases_eq, eq-eqb, ne_eqb, eqb-true, ltb-true, and_parts}
-use Rattle.turn_words.specs.Modulo.{add}
-use Rattle.turn_words.specs.FormLaws.{IsQuad, StartsWell, StaysWell, ThereAndBack, AcrossQuads, led}
-use Rattle.turn_words.specs.Lemmas.Lists.{InRange}
-use Rattle.turn_words.specs.Lemmas.Sums.{add-cases}
-use Rattle.turn_words.specs.Lemmas.FromEnd.{in-range-from, all-from}
+use Rattle.spoke_paths.proofs.Common.{◌≡◌, ℕ, ◌<◌, arith, inl, inr, refl, sym, ◌∙◌, ap, ap₂, zero, suc, Bool, true, false, not, eqb, ◌&&◌, List, [], ◌∷◌, All, length, Option, Some, None, cases_Bool, cases_eq, eq-eqb, ne_eqb, eqb-true, ltb-true, and_parts, option_and_then_some, option_map, if◌then◌else◌, IsQuad, StartsWell, StaysWell, ThereAndBack, AcrossQuads, led, in-range-from, all-from, InRange, add-cases, add}
 use Rattle.spoke_paths.specs.PathSteps.{is_quad, upper_way, lower_way, spur_goes, two_become, quad_turned, from_spoke, after_path_step, after_path_steps, PathLeads}
 use Rattle.spoke_paths.specs.declared.step.PathStep.{PathStep}
 use Rattle.spoke_paths.specs.declared.step.PathStep.TheVariants.{Spur, Turn}

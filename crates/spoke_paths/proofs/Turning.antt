@@ -1,11 +1,5 @@
 -- Two neighbours of a path that are taken the other way round their quad: which step that is, and what becomes of the turns.
-use Rattle.std.proofs.Common.{◌≡◌, ◌≢◌, ℕ, ◌+◌, ◌-◌, ◌%◌, ◌<◌, arith, inl, inr, refl, sym, ◌∙◌, ap, ap₂, zero, suc, Bool, true, false, not, List, [], ◌∷◌, ◌++◌, All, length, get_or, set, Option, Some}
-use Rattle.std.specs.Prelude.{option_map, if◌then◌else◌}
-use Rattle.std.proofs.lemmas.Bool.{cases_eq, eq-eqb, ne_eqb}
-use Rattle.std.proofs.lemmas.List.{length-set, get_or-set_same, get_or-set_other}
-use Rattle.turn_words.specs.Modulo.{minus}
-use Rattle.turn_words.specs.Wheels.{IsWheel}
-use Rattle.turn_words.specs.SpokePaths.{place_round}
+use Rattle.spoke_paths.proofs.Common.{◌≡◌, ◌≢◌, ℕ, ◌+◌, ◌-◌, ◌%◌, ◌<◌, arith, inl, inr, refl, sym, ◌∙◌, ap, ap₂, zero, suc, Bool, true, false, not, List, [], ◌∷◌, ◌++◌, All, length, get_or, set, Option, Some, cases_eq, eq-eqb, ne_eqb, length-set, get_or-set_same, get_or-set_other, option_map, if◌then◌else◌, minus, place_round, IsWheel}
 use Rattle.spoke_paths.specs.PathSteps.{is_quad, upper_way, lower_way, two_become, quad_turned, from_spoke}
 use Rattle.spoke_paths.specs.PathTurns.{from_vertex, HasQuads, IsTurnedOver}
 use Rattle.spoke_paths.proofs.StepsKeep.{quad-is}

@@ -1,12 +1,5 @@
 -- The two ways round a quad, with numbers: what is known of the one, and what the other is.
-use Rattle.std.proofs.Common.{◌≡◌, ℕ, ◌<◌, ◌≤◌, arith, refl, sym, ◌∙◌, ap, Bool, true, false, not, List, [], ◌∷◌, length, get_or}
-use Rattle.std.specs.Prelude.{if◌then◌else◌}
-use Rattle.std.proofs.lemmas.Bool.{eq-eqb, lt-ltb, and_from}
-use Rattle.turn_words.specs.Modulo.{add, minus}
-use Rattle.turn_words.specs.FormLaws.{IsQuad}
-use Rattle.turn_words.specs.Wheels.{IsWheel}
-use Rattle.turn_words.specs.SpokePaths.{place_round}
-use Rattle.turn_words.specs.Lemmas.Sums.{add-cases, minus-cases, add-lt, minus-lt}
+use Rattle.spoke_paths.proofs.Common.{◌≡◌, ℕ, ◌<◌, ◌≤◌, arith, refl, sym, ◌∙◌, ap, Bool, true, false, not, List, [], ◌∷◌, length, get_or, eq-eqb, lt-ltb, and_from, if◌then◌else◌, IsQuad, add-cases, minus-cases, add-lt, minus-lt, add, minus, place_round, IsWheel}
 use Rattle.spoke_paths.specs.PathSteps.{is_quad, upper_way, lower_way}
 use Rattle.spoke_paths.specs.PathTurns.{HasQuads}
 

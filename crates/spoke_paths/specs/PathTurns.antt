@@ -10,10 +10,6 @@ use Rattle.spoke_paths.specs.declared.step.PathStep.{PathStep}
 abbrev pub from_vertex : ℕ → Bool
 from_vertex at = at % 2 == 0
 
--- where the spoke with a number comes, round the point that the path stands at before it
-abbrev pub round_at : List ℕ → List ℕ → ℕ → ℕ
-round_at places path at = place_round places (from_vertex at) (slice_index path at)
-
 -- the turn of the spoke with a number, from 1 on
 abbrev pub turn_of : List ℕ → List ℕ → ℕ → ℕ
 turn_of places path at =

@@ -1,8 +1,5 @@
 -- Going on along a ring, going back and taking out a spur are loop steps.
-use Rattle.std.proofs.Common.{◌≡◌, ℕ, ◌+◌, ◌-◌, ◌%◌, ◌<◌, ◌≤◌, arith, refl, sym, ◌∙◌, ap, ap₂, subst, Bool, true, false, not, List, [], ◌∷◌, ◌++◌, take, drop, length, get_or, append_assoc, All}
-use Rattle.std.proofs.Math.Seq.{drop-append_seam, take-append_seam}
-use Rattle.std.proofs.lemmas.List.{length-append}
-use Rattle.std.proofs.lemmas.List.Elements.{All-take, All-drop}
+use Rattle.spoke_rings.proofs.Common.{◌≡◌, ℕ, ◌+◌, ◌-◌, ◌%◌, ◌<◌, ◌≤◌, arith, refl, sym, ◌∙◌, ap, ap₂, subst, Bool, true, false, not, List, [], ◌∷◌, ◌++◌, take, drop, length, get_or, append_assoc, All, drop-append_seam, take-append_seam, length-append, All-take, All-drop}
 use Rattle.spoke_rings.specs.CyclicWords.{IsLoop}
 use Rattle.spoke_rings.specs.LoopSteps.{LoopLeads}
 use Rattle.spoke_rings.specs.Private.Rings.{RingView, from_vertex, ring_turn, Acts, Shortens}

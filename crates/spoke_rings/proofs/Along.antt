@@ -1,8 +1,5 @@
 -- Closed lists that are gone along again and again.
-use Rattle.std.proofs.Common.{◌≡◌, ℕ, ◌+◌, ◌-◌, ◌<◌, ◌≤◌, inl, inr, arith, sym, ◌∙◌, ap, zero, suc, List, ◌++◌, take, drop, length, get_or}
-use Rattle.std.proofs.Math.Nat.{add-mod_right, mod-eq_of_lt}
-use Rattle.std.proofs.lemmas.Bool.{cases_lt}
-use Rattle.std.proofs.lemmas.List.{get_or-drop, get_or-take, get_or_append_left, get_or-append_right, length-append, length-drop, length-take-le}
+use Rattle.spoke_rings.proofs.Common.{◌≡◌, ℕ, ◌+◌, ◌-◌, ◌<◌, ◌≤◌, inl, inr, arith, sym, ◌∙◌, ap, zero, suc, List, ◌++◌, take, drop, length, get_or, add-mod_right, mod-eq_of_lt, cases_lt, get_or-drop, get_or-take, get_or_append_left, get_or-append_right, length-append, length-drop, length-take-le}
 use Rattle.spoke_rings.specs.CyclicWords.{spoke_along}
 
 pub along-first : (s : List ℕ) (k : ℕ) → k < length s → spoke_along s k ≡ get_or s k 0

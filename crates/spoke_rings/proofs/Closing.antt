@@ -1,8 +1,5 @@
 -- How a bracket is closed, turn by turn, from its end back to its begin.
-use Rattle.std.proofs.Common.{◌≡◌, ◌≢◌, ℕ, ◌+◌, ◌-◌, ◌%◌, ◌<◌, ◌≤◌, ◌⊎◌, inl, inr, arith, sym, ◌∙◌, ap, zero, suc, false}
-use Rattle.std.proofs.lemmas.Bool.{cases_eq}
-use Rattle.turn_words.specs.Modulo.{add, minus}
-use Rattle.turn_words.specs.Lemmas.Across.{one-minus, two-down}
+use Rattle.spoke_rings.proofs.Common.{◌≡◌, ◌≢◌, ℕ, ◌+◌, ◌-◌, ◌%◌, ◌<◌, ◌≤◌, ◌⊎◌, inl, inr, arith, sym, ◌∙◌, ap, zero, suc, false, cases_eq, one-minus, two-down, add, minus}
 use Rattle.spoke_rings.specs.Private.Rings.{IsBracket, TurnsPushed}
 
 -- how a bracket stands of which so many turns are left to be pushed down

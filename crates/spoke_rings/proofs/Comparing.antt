@@ -1,7 +1,5 @@
 -- Where the comparison of two closed lists stands, and what its ends show.
-use Rattle.std.proofs.Common.{◌≡◌, ℕ, ◌+◌, ◌-◌, ◌*◌, ◌/◌, ◌%◌, ◌<◌, ◌≤◌, inl, inr, arith, sym, ◌∙◌, ap, List, length}
-use Rattle.std.proofs.lemmas.Bool.{cases_lt}
-use Rattle.std.proofs.lemmas.Grind.{same_number_lists}
+use Rattle.spoke_rings.proofs.Common.{◌≡◌, ℕ, ◌+◌, ◌-◌, ◌*◌, ◌/◌, ◌%◌, ◌<◌, ◌≤◌, inl, inr, arith, sym, ◌∙◌, ap, List, length, cases_lt, same_number_lists}
 use Rattle.spoke_rings.specs.CyclicWords.{spoke_along}
 use Rattle.spoke_rings.specs.Rotations.{IsRotation}
 use Rattle.spoke_rings.proofs.Along.{along-first, along-round, same-rows, rotated, rotated-length, rotated-along}

@@ -1,11 +1,5 @@
 -- Where nothing stands at any seam of a ring, its turns are canonical.
-use Rattle.std.proofs.Common.{◌≡◌, ◌≢◌, ℕ, ◌+◌, ◌-◌, ◌%◌, ◌<◌, ◌≤◌, inl, inr, arith, sym, ◌∙◌, ap, zero, suc, Bool, true, false, List, length, get_or}
-use Rattle.std.proofs.Math.Nat.{mod-lt}
-use Rattle.std.proofs.lemmas.Bool.{cases_eq, cases_lt}
-use Rattle.turn_words.specs.Modulo.{add, minus}
-use Rattle.turn_words.specs.Lemmas.Sums.{add-cases, add-lt, minus-lt}
-use Rattle.spoke_paths.proofs.Ways.{up-one, less-one}
-use Rattle.settling.specs.TurnRows.{IsCanonicalRow}
+use Rattle.spoke_rings.proofs.Common.{IsCanonicalRow, up-one, less-one, ◌≡◌, ◌≢◌, ℕ, ◌+◌, ◌-◌, ◌%◌, ◌<◌, ◌≤◌, inl, inr, arith, sym, ◌∙◌, ap, zero, suc, Bool, true, false, List, length, get_or, mod-lt, cases_eq, cases_lt, add-cases, add-lt, minus-lt, add, minus}
 use Rattle.spoke_rings.specs.CyclicWords.{IsLoop, IsFullWheel, turn_along, cyclic_turn, spoke_along, stands_before}
 use Rattle.spoke_rings.specs.Private.Rings.{IsFine}
 use Rattle.spoke_rings.proofs.RingTurns.{turn_at, turn-round, turn-seam, turn-behind, spoke-below, place-below}

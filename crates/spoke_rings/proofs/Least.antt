@@ -1,6 +1,5 @@
 -- Rows are compared by their first difference, and some start of a closed list is least.
-use Rattle.std.proofs.Common.{◌≡◌, ℕ, ◌+◌, ◌-◌, ◌*◌, ◌<◌, inl, inr, arith, refl, sym, ◌∙◌, ap, subst, zero, suc}
-use Rattle.std.proofs.lemmas.Bool.{cases_eq, cases_lt}
+use Rattle.spoke_rings.proofs.Common.{◌≡◌, ℕ, ◌+◌, ◌-◌, ◌*◌, ◌<◌, inl, inr, arith, refl, sym, ◌∙◌, ap, subst, zero, suc, cases_eq, cases_lt}
 use Rattle.spoke_rings.proofs.Along.{same-rows}
 
 -- a row from a start on

@@ -1,3 +1,4 @@
+pub mod Common
 pub mod Along
 pub mod Least
 pub mod Comparing

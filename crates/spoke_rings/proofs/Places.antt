@@ -1,8 +1,5 @@
 -- Turns and moves between places below a degree.
-use Rattle.std.proofs.Common.{◌≡◌, ℕ, ◌+◌, ◌-◌, ◌<◌, ◌≤◌, arith, sym, ◌∙◌, ap, ap₂, Bool, false}
-use Rattle.turn_words.specs.Modulo.{add, minus}
-use Rattle.turn_words.specs.Lemmas.Sums.{add-cases, minus-cases}
-use Rattle.turn_words.specs.Lemmas.Sums.{minus-one}
+use Rattle.spoke_rings.proofs.Common.{◌≡◌, ℕ, ◌+◌, ◌-◌, ◌<◌, ◌≤◌, arith, sym, ◌∙◌, ap, ap₂, Bool, false, add-cases, minus-cases, minus-one, add, minus}
 use Rattle.spoke_rings.specs.Private.Rings.{one_on}
 
 pub turn-on : (d p q from to : ℕ) → from ≡ p → to ≡ q → from < d → to < d → from ≤ to → to - from ≡ add d q (minus d p)

@@ -1,17 +1,8 @@
 -- What a push over the seam makes of the turns, and that it is a way across a quad.
-use Rattle.std.proofs.Common.{◌≡◌, ℕ, ◌+◌, ◌-◌, ◌%◌, ◌<◌, ◌≤◌, inl, inr, arith, refl, sym, ◌∙◌, ap, ap₂, subst, zero, suc, Bool, true, false, not, List, [], ◌∷◌, ◌++◌, take, drop, length, get_or}
-use Rattle.std.proofs.Math.Seq.{drop-append_seam, take-append_seam, get_or-append_seam}
-use Rattle.std.proofs.lemmas.Grind.{same_number_lists}
-use Rattle.std.proofs.lemmas.Bool.{cases_eq}
-use Rattle.std.proofs.lemmas.List.{length-append, get_or_append_left}
-use Rattle.turn_words.specs.Modulo.{add, minus}
-use Rattle.turn_words.specs.FormLaws.{IsQuad}
-use Rattle.turn_words.specs.SpokePaths.{place_round}
-use Rattle.turn_words.specs.Lemmas.Sums.{add-cases, minus-cases, minus-one, add-lt, minus-lt}
+use Rattle.spoke_rings.proofs.Common.{up-one, down-one, less-one, more-one, turn-up, turn-down, ◌≡◌, ℕ, ◌+◌, ◌-◌, ◌%◌, ◌<◌, ◌≤◌, inl, inr, arith, refl, sym, ◌∙◌, ap, ap₂, subst, zero, suc, Bool, true, false, not, List, [], ◌∷◌, ◌++◌, take, drop, length, get_or, drop-append_seam, take-append_seam, get_or-append_seam, cases_eq, same_number_lists, length-append, get_or_append_left, IsQuad, add-cases, minus-cases, minus-one, add-lt, minus-lt, add, minus, place_round}
 use Rattle.spoke_rings.specs.CyclicWords.{stands_before, turn_along, IsLoop, IsFullWheel}
 use Rattle.spoke_rings.specs.LoopSteps.{LoopLeads}
 use Rattle.spoke_rings.specs.Private.Rings.{RingView, Pushes, TurnsPushed, one_on, from_vertex, ring_turn, Acts}
-use Rattle.spoke_paths.proofs.Ways.{up-one, down-one, less-one, more-one, turn-up, turn-down}
 use Rattle.spoke_rings.proofs.Leading.{leads-same, leads-on, quad-down, quad-up, seam-down, seam-up}
 use Rattle.spoke_rings.proofs.RingTurns.{turn_at, turn-seam, turn-behind, stands-odd, place-below, spoke-below}
 

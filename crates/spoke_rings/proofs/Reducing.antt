@@ -1,9 +1,5 @@
 -- How far a ring is reduced, and what its acts make of that.
-use Rattle.std.proofs.Common.{◌≡◌, ◌≢◌, ℕ, ◌+◌, ◌-◌, ◌*◌, ◌<◌, ◌≤◌, ◌⊎◌, inl, inr, arith, refl, sym, ◌∙◌, ap, ap₂, subst, suc, Bool, true, false, List, length, get_or}
-use Rattle.std.proofs.lemmas.Bool.{cases_eq, cases_lt}
-use Rattle.turn_words.specs.Modulo.{add, minus}
-use Rattle.turn_words.specs.SpokePaths.{place_round}
-use Rattle.turn_words.specs.Lemmas.Sums.{add-cases, minus-cases, minus-one}
+use Rattle.spoke_rings.proofs.Common.{◌≡◌, ◌≢◌, ℕ, ◌+◌, ◌-◌, ◌*◌, ◌<◌, ◌≤◌, ◌⊎◌, inl, inr, arith, refl, sym, ◌∙◌, ap, ap₂, subst, suc, Bool, true, false, List, length, get_or, cases_eq, cases_lt, add-cases, minus-cases, minus-one, add, minus, place_round}
 use Rattle.spoke_rings.specs.CyclicWords.{IsLoop, IsFullWheel}
 use Rattle.spoke_rings.specs.Private.Rings.{RingView, ring_turn, Acts, Pushes, Rises, Shortens, IsBracket, IsFine, IsFineRing, turns_sum}
 use Rattle.spoke_rings.proofs.RingTurns.{turn-round, turn-seam, spoke-below, place-below}

@@ -1,11 +1,7 @@
 -- The turns of a ring, and what is left of them where it is gone on along.
-use Rattle.std.proofs.Common.{◌≡◌, ℕ, ◌+◌, ◌-◌, ◌%◌, ◌<◌, ◌≤◌, inl, inr, arith, refl, sym, ◌∙◌, ap, ap₂, Bool, true, false, not, List, take, drop, length, get_or}
-use Rattle.std.proofs.lemmas.Bool.{cases_eq, eq-eqb, ne_eqb}
-use Rattle.turn_words.specs.Modulo.{add, minus}
-use Rattle.turn_words.specs.Wheels.{IsWheel}
-use Rattle.turn_words.specs.SpokePaths.{place_round}
-use Rattle.std.proofs.lemmas.List.Elements.{All-append, All-take, All-drop, All-get_or}
+use Rattle.spoke_rings.proofs.Common.{◌≡◌, ℕ, ◌+◌, ◌-◌, ◌%◌, ◌<◌, ◌≤◌, inl, inr, arith, refl, sym, ◌∙◌, ap, ap₂, Bool, true, false, not, List, take, drop, length, get_or, cases_eq, eq-eqb, ne_eqb, All-append, All-take, All-drop, All-get_or, add, minus, place_round}
 use Rattle.std.proofs.Math.Bool.{not-not}
+use Rattle.turn_words.specs.Wheels.{IsWheel}
 use Rattle.spoke_rings.specs.CyclicWords.{spoke_along, stands_before, turn_along, IsLoop}
 use Rattle.spoke_rings.proofs.Along.{along-first, along-round, rotated, rotated-along, rotated-length}
 

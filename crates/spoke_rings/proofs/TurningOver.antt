@@ -1,12 +1,5 @@
 -- How a ring with turns -2 alone is taken across all the quads beside it, turn by turn.
-use Rattle.std.proofs.Common.{◌≡◌, ℕ, ◌+◌, ◌-◌, ◌%◌, ◌<◌, ◌≤◌, inl, inr, arith, refl, sym, ◌∙◌, ap, ap₂, subst, suc, Bool, true, false, not, List, [], ◌∷◌, ◌++◌, length, get_or}
-use Rattle.std.proofs.lemmas.Bool.{cases_eq}
-use Rattle.std.proofs.lemmas.List.{append-nil, length-append, get_or_append_left, get_or-append-add}
-use Rattle.std.proofs.lemmas.List.Elements.{All-append, All-cons, All-nil}
-use Rattle.turn_words.specs.Modulo.{add, minus}
-use Rattle.turn_words.specs.SpokePaths.{place_round}
-use Rattle.turn_words.specs.Lemmas.Sums.{add-cases, minus-cases, minus-one, minus-two, add-lt, add-minus}
-use Rattle.turn_words.specs.Lemmas.Across.{two-up}
+use Rattle.spoke_rings.proofs.Common.{IsCanonicalRow, ◌≡◌, ℕ, ◌+◌, ◌-◌, ◌%◌, ◌<◌, ◌≤◌, inl, inr, arith, refl, sym, ◌∙◌, ap, ap₂, subst, suc, Bool, true, false, not, List, [], ◌∷◌, ◌++◌, length, get_or, cases_eq, append-nil, length-append, get_or_append_left, get_or-append-add, All-append, All-cons, All-nil, if◌then◌else◌, two-up, add-cases, minus-cases, minus-one, minus-two, add-lt, add-minus, add, minus, place_round}
 use Rattle.spoke_rings.specs.CyclicWords.{IsLoop, IsFullWheel, turn_along, stands_before}
 use Rattle.spoke_rings.specs.Private.Rings.{RingView, ring_turn, Acts, Pushes, TurnsPushed, TurnsOver, Shortens, IsFineRing}
 use Rattle.spoke_rings.proofs.Along.{same-rows, rotated}
@@ -15,8 +8,6 @@ use Rattle.spoke_rings.proofs.RingTurns.{turn_at, turn-round, turn-seam, turn-be
 use Rattle.spoke_rings.proofs.Pushing.{push-acts, push-turns}
 use Rattle.spoke_rings.proofs.Acting.{WentOn, acts-on, acts-start, went-forward}
 use Rattle.spoke_rings.proofs.Reducing.{fine-on}
-use Rattle.settling.specs.TurnRows.{IsCanonicalRow}
-use Rattle.std.specs.Prelude.{if◌then◌else◌}
 
 -- how the turns of a ring of n + 2 spokes stand after so many pushes of n
 pub data Over (d n : ℕ) (turn : ℕ → ℕ) : ℕ → Type 0 where

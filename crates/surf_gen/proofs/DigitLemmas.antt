@@ -1,9 +1,6 @@
 -- The digits of a number, written from its last one on.
-use Rattle.std.proofs.Common.{◌≡◌, ℕ, ◌+◌, ◌/◌, ◌%◌, ◌^◌, ◌≤◌, ◌<◌, List, [], ◌∷◌, ◌++◌, length, arith, sym, ap, ◌∙◌}
-use Rattle.std.proofs.Math.ListN.{length-append}
+use Rattle.surf_gen.proofs.Common.{◌≡◌, ℕ, ◌+◌, ◌/◌, ◌%◌, ◌^◌, ◌≤◌, ◌<◌, List, [], ◌∷◌, ◌++◌, length, arith, sym, ap, ◌∙◌, length-append, decimal, append_assoc}
 use Rattle.std.proofs.lemmas.Fmt.{decimal_digit, decimal_step, decimal_nonempty, length-decimal-le}
-use mathlib.Core.List.{append_assoc}
-use Rattle.std.specs.Fmt.{decimal}
 
 -- the digits of a number of 32 bits
 pub ten_digits : (n : ℕ) → n < 2 ^ 32 → length (decimal n) ≤ 10

@@ -1,10 +1,5 @@
 -- The faces of a chain are quads of its vertices: their corners are in range, and neighbours differ.
-use Rattle.std.proofs.Common.{◌≡◌, ◌≢◌, ℕ, zero, suc, ◌+◌, ◌-◌, ◌*◌, ◌%◌, ◌<◌, ◌≤◌, Bool, true, false, not, cond, List, [], ◌∷◌, ◌++◌, length, map, arith, sym, subst, ap, ◌∙◌, refl, inl, inr}
-use Rattle.std.specs.Prelude.{◌⊎◌, nat_lt, ◌&&◌, if◌then◌else◌, All}
-use Rattle.std.specs.List.{range_with_len, filter, flat_map}
-use Rattle.std.proofs.lemmas.Bool.{ltb-true, and_parts, cases_lt}
-use Rattle.std.proofs.Math.Nat.{mul-le-mul_left, mod-eq_of_lt, mod_self}
-use Rattle.std.proofs.lemmas.List.Elements.{All-nil, All-cons, All-append, All-filter}
+use Rattle.surf_gen.proofs.Common.{◌≡◌, ◌≢◌, ℕ, zero, suc, ◌+◌, ◌-◌, ◌*◌, ◌%◌, ◌<◌, ◌≤◌, Bool, true, false, not, cond, List, [], ◌∷◌, ◌++◌, length, map, arith, sym, subst, ap, ◌∙◌, refl, inl, inr, mul-le-mul_left, mod-eq_of_lt, mod_self, ltb-true, and_parts, cases_lt, All-nil, All-cons, All-append, All-filter, range_with_len, filter, flat_map, ◌⊎◌, nat_lt, ◌&&◌, if◌then◌else◌, All}
 use Rattle.surf_gen.specs.declared.points.Point.{Point}
 use Rattle.surf_gen.specs.Chains.{point, points, is_glued, is_cut_out, partner, vertices, cells, vertex_number, number, behind}
 use Rattle.surf_gen.specs.Places.{IsPoint}

@@ -1,9 +1,5 @@
 -- Lines of numbers, written from their last byte on.
-use Rattle.std.proofs.Common.{◌≡◌, ℕ, suc, ◌-◌, ◌<◌, ◌≤◌, List, [], ◌∷◌, ◌++◌, length, map, drop, get_or, arith, sym, ap, ◌∙◌, refl}
-use Rattle.std.proofs.Math.Seq.{drop-cons}
-use mathlib.Core.List.{append_assoc}
-use Rattle.std.specs.Fmt.{decimal}
-use Rattle.std.specs.List.{join_with_byte}
+use Rattle.surf_gen.proofs.Common.{◌≡◌, ℕ, suc, ◌-◌, ◌<◌, ◌≤◌, List, [], ◌∷◌, ◌++◌, length, map, drop, get_or, arith, sym, ap, ◌∙◌, refl, drop-cons, decimal, join_with_byte, append_assoc}
 use Rattle.surf_gen.specs.ChainTexts.{line_of}
 
 -- what stands in a line behind a number, where these numbers follow

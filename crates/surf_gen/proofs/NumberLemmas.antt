@@ -1,12 +1,5 @@
 -- The numbers of the vertices of a chain: row for row, and torus for torus, they rise by one.
-use Rattle.std.proofs.Common.{◌≡◌, ℕ, zero, suc, ◌+◌, ◌-◌, ◌*◌, ◌<◌, ◌≤◌, Bool, true, false, not, ◌++◌, length, map, arith, sym, subst, ap, ◌∙◌, refl}
-use Rattle.std.specs.Prelude.{nat_lt, ◌==◌, ◌&&◌, if◌then◌else◌}
-use Rattle.std.specs.List.{range_with_len, filter}
-use Rattle.std.proofs.Math.ListN.{length-map}
-use Rattle.std.proofs.Math.Nat.{mul-le-mul_left}
-use Rattle.std.proofs.Math.Bool.{and-false}
-use Rattle.std.proofs.lemmas.Bool.{lt-ltb, le-ltb, ne_eqb}
-use Rattle.std.proofs.lemmas.List.FromFn.{length-range_with_len}
+use Rattle.surf_gen.proofs.Common.{◌≡◌, ℕ, zero, suc, ◌+◌, ◌-◌, ◌*◌, ◌<◌, ◌≤◌, Bool, true, false, not, ◌++◌, length, map, arith, sym, subst, ap, ◌∙◌, refl, and-false, length-map, mul-le-mul_left, lt-ltb, le-ltb, ne_eqb, length-range_with_len, range_with_len, filter, nat_lt, ◌==◌, ◌&&◌, if◌then◌else◌}
 use Rattle.surf_gen.specs.declared.points.Point.{Point}
 use Rattle.surf_gen.specs.Chains.{point, is_glued, partner, glued_before, vertices, vertex_number, number}
 use Rattle.surf_gen.specs.Parts.{points_of_row, points_of_torus}

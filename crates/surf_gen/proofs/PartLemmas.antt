@@ -1,10 +1,5 @@
 -- A part of the text grows by the points of a column, a row or a torus.
-use Rattle.std.proofs.Common.{◌≡◌, ℕ, ◌+◌, List, [], ◌∷◌, ◌++◌, map, arith, sym, ap, ◌∙◌}
-use Rattle.std.specs.List.{range_with_len, flat_map}
-use Rattle.std.proofs.lemmas.List.Concat.{flat_map-append}
-use Rattle.std.proofs.lemmas.List.{map-id}
-use Rattle.std.proofs.lemmas.List.FromFn.{map-range_with_len_more}
-use mathlib.Core.List.{append_assoc, append-nil}
+use Rattle.surf_gen.proofs.Common.{◌≡◌, ℕ, ◌+◌, List, [], ◌∷◌, ◌++◌, map, arith, sym, ap, ◌∙◌, map-id, flat_map-append, map-range_with_len_more, range_with_len, flat_map, append_assoc, append-nil}
 use Rattle.surf_gen.specs.declared.points.Point.{Point}
 use Rattle.surf_gen.specs.declared.text.Part.{Part}
 use Rattle.surf_gen.specs.Parts.{part_text}

@@ -1,10 +1,5 @@
 -- What a test keeps of points in a row, and how such lists join.
-use Rattle.std.proofs.Common.{◌≡◌, ◌≢◌, ℕ, zero, suc, ◌+◌, ◌-◌, ◌*◌, ◌<◌, ◌≤◌, Bool, true, false, cond, List, [], ◌∷◌, ◌++◌, length, map, arith, sym, ap, ◌∙◌, refl}
-use Rattle.std.specs.List.{range_with_len, filter, flat_map}
-use Rattle.std.proofs.Math.ListN.{length-append}
-use Rattle.std.proofs.lemmas.List.{map-append}
-use Rattle.std.proofs.lemmas.List.Elements.{filter-append}
-use Rattle.std.proofs.lemmas.List.FromFn.{length-map-range_with_len}
+use Rattle.surf_gen.proofs.Common.{◌≡◌, ◌≢◌, ℕ, zero, suc, ◌+◌, ◌-◌, ◌*◌, ◌<◌, ◌≤◌, Bool, true, false, cond, List, [], ◌∷◌, ◌++◌, length, map, arith, sym, ap, ◌∙◌, refl, length-append, map-append, filter-append, length-map-range_with_len, range_with_len, filter, flat_map}
 use Rattle.surf_gen.proofs.PartLemmas.{rows_more}
 use Rattle.surf_gen.specs.declared.points.Point.{Point}
 

@@ -1,12 +1,5 @@
 -- The text of a chain of tori, in its parts.
-use Rattle.std.proofs.Common.{◌≡◌, ℕ, Bool, true, false, not, cond, List, [], ◌∷◌, ◌++◌, length, map, sym, ap, ◌∙◌, refl}
-use Rattle.std.specs.Prelude.{codes, if◌then◌else◌}
-use Rattle.std.specs.List.{filter, flat_map}
-use Rattle.std.specs.Fmt.{decimal}
-use Rattle.std.proofs.Math.ListN.{length-map}
-use Rattle.std.proofs.lemmas.List.{map-append}
-use Rattle.std.proofs.lemmas.List.Concat.{flat_map-append}
-use mathlib.Core.List.{append_assoc, append-nil}
+use Rattle.surf_gen.proofs.Common.{◌≡◌, ℕ, Bool, true, false, not, cond, List, [], ◌∷◌, ◌++◌, length, map, sym, ap, ◌∙◌, refl, length-map, map-append, flat_map-append, decimal, filter, flat_map, codes, if◌then◌else◌, append_assoc, append-nil}
 use Rattle.surf_gen.specs.declared.points.Point.{Point}
 use Rattle.surf_gen.specs.declared.text.Part.TheVariants.{Vertices, Faces}
 use Rattle.surf_gen.specs.Chains.{points, is_glued, is_cut_out, vertices, cells, face}

@@ -1,10 +1,5 @@
 -- One write after another.
-use Rattle.std.proofs.Common.{◌≡◌, ℕ, ◌+◌, ◌-◌, ◌≤◌, List, ◌++◌, length, take, drop, Option, None, Some, refl, sym, ap, ◌∙◌, subst, arith}
-use Rattle.std.proofs.Math.Seq.{take-add, take-append-add}
-use Rattle.std.proofs.Math.ListN.{length-append}
-use Rattle.std.proofs.lemmas.List.{take_rest, take-append-le, length-drop}
-use mathlib.Core.List.{append_assoc}
-use Rattle.std.specs.Prelude.{Result, Ok, Err, OnErr}
+use Rattle.surf_io.proofs.Common.{◌≡◌, ℕ, ◌+◌, ◌-◌, ◌≤◌, List, ◌++◌, length, take, drop, Option, None, Some, refl, sym, ap, ◌∙◌, subst, arith, length-append, take-add, take-append-add, take_rest, take-append-le, length-drop, Result, Ok, Err, OnErr, append_assoc}
 use Rattle.surf_io.specs.Bytes.{append_told, Appends, AppendsPrefix}
 use Rattle.surf_io.specs.Calls.{WroteAll, WrotePart}
 

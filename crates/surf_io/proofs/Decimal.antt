@@ -1,13 +1,7 @@
 -- The digits of a number, written from its last one.
-use Rattle.std.proofs.Common.{◌≡◌, ℕ, ◌+◌, ◌-◌, ◌/◌, ◌%◌, ◌^◌, ◌≤◌, ◌<◌, List, [], ◌∷◌, ◌++◌, length, drop, set, arith, sym, ap, ◌∙◌, ℤ, pos, negsuc, true}
-use Rattle.std.proofs.lemmas.List.{length-drop, drop-set}
-use Rattle.std.proofs.Math.ListN.{length-append}
-use Rattle.std.proofs.lemmas.Fmt.{decimal_digit, decimal_step, decimal_nonempty, length-decimal-le}
-use mathlib.Core.List.{append_assoc}
-use Rattle.std.specs.Fmt.{decimal, signed_decimal}
-use Rattle.std.specs.Int.Signed.{lt_z}
-use lib.IntN.{nat_abs}
+use Rattle.surf_io.proofs.Common.{◌≡◌, ℕ, ◌+◌, ◌-◌, ◌/◌, ◌%◌, ◌^◌, ◌≤◌, ◌<◌, List, [], ◌∷◌, ◌++◌, length, drop, set, arith, sym, ap, ◌∙◌, ℤ, pos, negsuc, true, length-append, decimal_digit, decimal_step, decimal_nonempty, length-decimal-le, length-drop, drop-set, decimal, signed_decimal, nat_abs, append_assoc}
 use Rattle.std.proofs.lemmas.Bool.{ltb-true}
+use Rattle.std.specs.Int.Signed.{lt_z}
 
 -- at most twenty digits are written, and there are some left to write, so there is room
 pub room : (text : List ℕ) (start n rest : ℕ) → n < 2 ^ 64 → rest < 2 ^ 64 → length text ≡ 20 → start ≤ 20

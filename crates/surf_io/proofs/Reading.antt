@@ -1,8 +1,5 @@
 -- Reading a file in pieces.
-use Rattle.std.proofs.Common.{◌≡◌, ℕ, ◌+◌, ◌≤◌, List, ◌++◌, length, take, drop, Option, None, Some, IfSome, arith, sym, ap, ◌∙◌}
-use Rattle.std.proofs.Math.Seq.{take-add, take-append-add}
-use Rattle.std.proofs.lemmas.List.{length-drop, length-take, length-take-le, take-take, take-append-le}
-use mathlib.Core.List.{append_assoc}
+use Rattle.surf_io.proofs.Common.{◌≡◌, ℕ, ◌+◌, ◌≤◌, List, ◌++◌, length, take, drop, Option, None, Some, IfSome, arith, sym, ap, ◌∙◌, take-add, take-append-add, length-drop, length-take, length-take-le, take-take, take-append-le, append_assoc}
 use Rattle.surf_io.specs.Files.{GivesFrom}
 
 -- the first `filled` bytes are the file's

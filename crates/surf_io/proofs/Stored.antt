@@ -1,10 +1,7 @@
 -- Looking a file up by its name.
-use Rattle.std.proofs.Common.{◌≡◌, ℕ, List, ◌∷◌, true, false, nat_eq, cond, Option, Some, ap, sym, ◌∙◌, subst}
-use Rattle.std.specs.Option.{IsSomeAnd}
-use Rattle.std.specs.Ordering.{nat_cmp, eq_by_cmp}
-use Rattle.std.specs.Cmp.Lexicographic.{slice_cmp, texts_ties, nat_list_cmp_total}
+use Rattle.surf_io.proofs.Common.{◌≡◌, ℕ, List, ◌∷◌, true, false, nat_eq, cond, Option, Some, ap, sym, ◌∙◌, subst, slice_cmp, texts_ties, nat_list_cmp_total, find, nat_cmp, eq_by_cmp}
 use Rattle.std.proofs.lemmas.Cmp.{eq_by_cmp_equiv}
-use Rattle.std.specs.FinMap.{find}
+use Rattle.std.specs.Option.{IsSomeAnd}
 use lib.Pointwise.{pointwise}
 
 same_test : (name key : List ℕ) → pointwise nat_eq key name ≡ eq_by_cmp (slice_cmp nat_cmp) name key

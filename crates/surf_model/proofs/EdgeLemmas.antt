@@ -1,10 +1,5 @@
 -- Edges of a mesh without its table: both ways, between used vertices, and round each face.
-use Rattle.std.proofs.Common.{◌≡◌, ◌≢◌, ◌⊎◌, inl, inr, ℕ, ◌<◌, Bool, true, false, eqb, List, [], length, get_or, refl, sym, ◌∙◌, subst, arith}
-use Rattle.std.specs.Prelude.{Contains}
-use Rattle.std.specs.List.{list_any}
-use Rattle.std.proofs.lemmas.Bool.{eqb-true}
-use Rattle.std.proofs.lemmas.Bool.Decides.{nat_tests}
-use Rattle.std.proofs.lemmas.List.Folds.{Any-from_list_any, list_any-from_Any}
+use Rattle.surf_model.proofs.Common.{◌≡◌, ◌≢◌, ◌⊎◌, inl, inr, ℕ, ◌<◌, Bool, true, false, eqb, List, [], length, get_or, refl, sym, ◌∙◌, subst, arith, eqb-true, nat_tests, Any-from_list_any, list_any-from_Any, list_any, Contains}
 use Rattle.surf_model.specs.FaceLists.{FaceList, FaceSide, IsFace, IsFaceList, face_at, all_sides, next_corner, joins, is_edge, is_used}
 use Rattle.surf_model.specs.Darts.{IsSide, tail_of, head_of}
 use Rattle.surf_model.specs.declared.edges.Side.{Side}

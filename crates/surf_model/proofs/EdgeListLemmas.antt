@@ -1,8 +1,5 @@
 -- What reading and growing a stored list of edges needs, said of the plain lists.
-use Rattle.std.proofs.Common.{◌≡◌, ℕ, zero, suc, ◌+◌, ◌-◌, ◌<◌, ◌≤◌, List, [], ◌∷◌, ◌++◌, length, map, get_or, take, drop, refl, ap, sym, ◌∙◌, subst, arith, length-append}
-use Rattle.std.specs.Prelude.{sum_by}
-use Rattle.std.proofs.lemmas.List.{get_or-map, get_or-take, get_or-drop, length-take-le, length-drop, length-map, length_push}
-use Rattle.std.proofs.lemmas.List.Sums.{sum_by-cons}
+use Rattle.surf_model.proofs.Common.{◌≡◌, ℕ, zero, suc, ◌+◌, ◌-◌, ◌<◌, ◌≤◌, List, [], ◌∷◌, ◌++◌, length, map, get_or, take, drop, refl, ap, sym, ◌∙◌, subst, arith, length-append, get_or-map, get_or-take, get_or-drop, length-take-le, length-drop, length-map, length_push, sum_by-cons, sum_by}
 use Rattle.surf_model.specs.Parts.{parts, EndsRise}
 use Rattle.surf_model.specs.EdgeLists.{DartEdge, dart_edge_in, dart_count, dart_of, zipped_edges, stored_edges, IsEdgeList}
 use Rattle.surf_model.specs.declared.edge_list.EdgeEnds.{EdgeEnds}

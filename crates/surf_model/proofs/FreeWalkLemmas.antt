@@ -1,7 +1,5 @@
 -- Spur moves leave a walk the same up to spurs, so walks without spurs to which they lead are equal.
-use Rattle.std.proofs.Common.{◌≡◌, ℕ, suc, ◌<◌, List, [], ◌∷◌, ◌++◌, length, refl, ap, sym, ◌∙◌, subst, arith, append_assoc}
-use Rattle.std.specs.Prelude.{All, Some}
-use Rattle.std.proofs.lemmas.List.Elements.{All-nil, All-cons, All-append, All-map}
+use Rattle.surf_model.proofs.Common.{◌≡◌, ℕ, suc, ◌<◌, List, [], ◌∷◌, ◌++◌, length, refl, ap, sym, ◌∙◌, subst, arith, append_assoc, All-nil, All-cons, All-append, All-map, All, Some}
 use Rattle.surf_model.specs.FaceLists.{FaceList}
 use Rattle.surf_model.specs.Moves.{apply, apply_all}
 use Rattle.surf_model.specs.Rewriting.{raised, all_raised, inverse_of, sides_of_move, way_back}

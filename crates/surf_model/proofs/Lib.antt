@@ -1,3 +1,4 @@
+pub mod Common
 pub mod FilterLemmas
 pub mod PartsLemmas
 pub mod JoinedPartsLemmas

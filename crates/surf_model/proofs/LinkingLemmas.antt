@@ -1,7 +1,5 @@
 -- A side is linked to its edge and to the next side of that edge.
-use Rattle.std.proofs.Common.{◌≡◌, ◌≢◌, inl, inr, ℕ, ◌<◌, true, List, length, get_or, set, refl, ap, sym, ◌∙◌, subst}
-use Rattle.std.proofs.lemmas.Bool.{cases_eq}
-use Rattle.std.proofs.lemmas.List.{get_or-set_same, get_or-set_other}
+use Rattle.surf_model.proofs.Common.{◌≡◌, ◌≢◌, inl, inr, ℕ, ◌<◌, true, List, length, get_or, set, refl, ap, sym, ◌∙◌, subst, cases_eq, get_or-set_same, get_or-set_other}
 use Rattle.surf_model.specs.FaceLists.{next_corner}
 use Rattle.surf_model.specs.EdgeLists.{DartEdge, dart_edge_in}
 use Rattle.surf_model.specs.Links.{edge_at, dart_at, IsLinked}

@@ -1,10 +1,5 @@
 -- A mesh has one table, and the sides in it are the sides of the mesh.
-use Rattle.std.proofs.Common.{◌≡◌, ◌⊎◌, inl, inr, ℕ, zero, suc, ◌+◌, ◌-◌, ◌<◌, ◌≤◌, ◌↔◌, Bool, true, List, [], ◌∷◌, length, map, get_or, refl, ap, sym, ◌∙◌, subst, arith}
-use Rattle.std.specs.Prelude.{All, AllPairs, Any, Contains, filter, flat_map}
-use Rattle.std.specs.List.{enumerate_from}
-use Rattle.std.proofs.lemmas.Bool.Decides.{nat_tests}
-use Rattle.std.proofs.lemmas.List.{length-map}
-use Rattle.std.proofs.lemmas.List.Elements.{All-nil, All-append, All-weaker, All-map, All-filter, All-contains, All-contains_itself, Contains-get_or, filter_passes}
+use Rattle.surf_model.proofs.Common.{◌≡◌, ◌⊎◌, inl, inr, ℕ, zero, suc, ◌+◌, ◌-◌, ◌<◌, ◌≤◌, ◌↔◌, Bool, true, List, [], ◌∷◌, length, map, get_or, refl, ap, sym, ◌∙◌, subst, arith, nat_tests, length-map, All-nil, All-append, All-weaker, All-map, All-filter, All-contains, All-contains_itself, Contains-get_or, filter_passes, enumerate_from, All, AllPairs, Any, Contains, filter, flat_map}
 use Rattle.surf_model.specs.FaceLists.{FaceList, FaceSide, all_sides, sides_of_face, joins}
 use Rattle.surf_model.specs.Edges.{Edge, IsTableOf, IsEdgeOf, IsPairBefore, side_name}
 use Rattle.surf_model.specs.Darts.{IsSide}

@@ -1,13 +1,5 @@
 -- Which sides are the two sides of one edge, said of the table of the mesh.
-use Rattle.std.proofs.Common.{◌≡◌, ◌⊎◌, inl, inr, ℕ, suc, ◌+◌, ◌-◌, ◌<◌, Bool, true, List, [], ◌∷◌, ◌++◌, length, get_or, take, refl, ap, sym, ◌∙◌, subst, arith, length-append}
-use Rattle.std.specs.Prelude.{AllPairs, Any, Contains, filter, flat_map, sum_by}
-use Rattle.std.specs.List.{enumerate_from}
-use Rattle.std.proofs.lemmas.Bool.{cases_lt}
-use Rattle.std.proofs.lemmas.Bool.Decides.{nat_tests}
-use Rattle.std.proofs.lemmas.List.{length-map, get_or-map, get_or_default, get_or_append_left, get_or-append_right}
-use Rattle.std.proofs.lemmas.List.Sums.{sum_by-cons}
-use Rattle.std.proofs.lemmas.List.Elements.{All-filter, filter_passes, All-contains}
-use Rattle.std.proofs.lemmas.List.Kept.{AllPairs-filter}
+use Rattle.surf_model.proofs.Common.{◌≡◌, ◌⊎◌, inl, inr, ℕ, suc, ◌+◌, ◌-◌, ◌<◌, Bool, true, List, [], ◌∷◌, ◌++◌, length, get_or, take, refl, ap, sym, ◌∙◌, subst, arith, length-append, cases_lt, nat_tests, length-map, get_or-map, get_or_default, get_or_append_left, get_or-append_right, All-filter, filter_passes, All-contains, AllPairs-filter, sum_by-cons, enumerate_from, AllPairs, Any, Contains, filter, flat_map, sum_by}
 use Rattle.surf_model.specs.FaceLists.{FaceList, FaceSide, face_at, all_sides, joins}
 use Rattle.surf_model.specs.Edges.{Edge, IsTableOf, IsEdgeOf, side_name, edge_in}
 use Rattle.surf_model.specs.Darts.{IsSide, side_number, tail_of, head_of}

@@ -1,8 +1,6 @@
 -- The table of moves is a table of replacements.
-use Rattle.std.proofs.Common.{◌≡◌, ℕ, zero, suc, ◌+◌, ◌-◌, ◌<◌, ◌≤◌, Bool, true, false, not, List, [], ◌∷◌, ◌++◌, length, take, drop, get_or, refl, ap, sym, ◌∙◌, arith, append_assoc, length-append}
-use Rattle.std.specs.Prelude.{◌↔◌, ◌==◌, ◌&&◌, nat_eq, nat_lt, nat_le, cond, Some, None}
-use Rattle.std.proofs.lemmas.Bool.{and_parts, ltb-true, leb-true, eqb-true, lt-ltb, le-leb, eq-eqb}
-use Rattle.std.proofs.lemmas.List.{take-append-drop, take_at, drop_at, drop-drop, drop_more, take_more, length-take-le, get_or-append-add}
+use Rattle.surf_model.proofs.Common.{◌≡◌, ℕ, zero, suc, ◌+◌, ◌-◌, ◌<◌, ◌≤◌, Bool, true, false, not, List, [], ◌∷◌, ◌++◌, length, take, drop, get_or, refl, ap, sym, ◌∙◌, arith, append_assoc, length-append, and_parts, ltb-true, leb-true, eqb-true, lt-ltb, le-leb, eq-eqb, take-append-drop, take_at, drop_at, drop-drop, drop_more, take_more, length-take-le, get_or-append-add, ◌==◌, nat_eq, nat_lt, nat_le, Some, None}
+use Rattle.std.specs.Prelude.{◌↔◌, ◌&&◌, cond}
 use lib.Pointwise.{bytes_decides}
 use Rattle.surf_model.specs.FaceLists.{FaceList, face_at, corners_from, next_corner, is_edge}
 use Rattle.surf_model.specs.Walks.{darts}

@@ -1,8 +1,5 @@
 -- What the functions on stored face lists need, said of the plain lists.
-use Rattle.std.proofs.Common.{◌≡◌, ℕ, ◌+◌, ◌-◌, ◌<◌, ◌≤◌, List, [], ◌∷◌, ◌++◌, length, get_or, take, drop, ap, ap₂, sym, subst, ◌∙◌, arith, length-append}
-use Rattle.std.specs.Prelude.{All}
-use Rattle.std.proofs.lemmas.List.{take-append-drop, take_all, drop_all, get_or-take, get_or-drop, length-take-le, length-drop, length-map, map-append, length_push, take-map, drop-map}
-use Rattle.std.proofs.lemmas.List.Elements.{All-push, All-same}
+use Rattle.surf_model.proofs.Common.{◌≡◌, ℕ, ◌+◌, ◌-◌, ◌<◌, ◌≤◌, List, [], ◌∷◌, ◌++◌, length, get_or, take, drop, ap, ap₂, sym, subst, ◌∙◌, arith, length-append, take-append-drop, take_all, drop_all, get_or-take, get_or-drop, length-take-le, length-drop, length-map, map-append, length_push, take-map, drop-map, All-push, All-same, All}
 use Rattle.surf_model.specs.Parts.{parts, EndsRise, last_end}
 use Rattle.surf_model.specs.StoredEdges.{IsNumbering}
 use Rattle.surf_model.specs.Vertices.{numbers}

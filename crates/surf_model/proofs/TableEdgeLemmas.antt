@@ -1,10 +1,5 @@
 -- Edges of a mesh by its table: where an edge stands there, how many sides it has, and that places follow the order of the ends.
-use Rattle.std.proofs.Common.{◌≡◌, ◌⊎◌, inl, inr, ℕ, ◌<◌, true, List, length, refl, ap, sym, ◌∙◌, subst, arith}
-use Rattle.std.specs.Prelude.{filter}
-use Rattle.std.proofs.lemmas.Bool.{cases_lt, cases_eq}
-use Rattle.std.proofs.lemmas.List.{length-map, get_or_default}
-use Rattle.std.proofs.lemmas.List.Elements.{filter_agree}
-use Rattle.std.proofs.lemmas.List.Folds.{Any-from_list_any}
+use Rattle.surf_model.proofs.Common.{◌≡◌, ◌⊎◌, inl, inr, ℕ, ◌<◌, true, List, length, refl, ap, sym, ◌∙◌, subst, arith, cases_lt, cases_eq, length-map, get_or_default, filter_agree, Any-from_list_any, filter}
 use Rattle.surf_model.specs.FaceLists.{FaceList, FaceSide, all_sides, joins, is_edge}
 use Rattle.surf_model.specs.Edges.{Edge, IsTableOf, IsEdgeOf, HasEnds, IsPairBefore, side_name, edge_in}
 use Rattle.surf_model.specs.Surfaces.{sides_between}

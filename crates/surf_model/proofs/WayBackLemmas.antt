@@ -1,8 +1,5 @@
 -- What a move leaves: a walk with the same ends, from which the move back leads home.
-use Rattle.std.proofs.Common.{◌≡◌, ℕ, ◌+◌, ◌-◌, ◌<◌, Bool, not, List, [], ◌∷◌, ◌++◌, length, get_or, refl, ap, sym, ◌∙◌, subst, arith, append_assoc, length-append}
-use Rattle.std.specs.Prelude.{IsTrue, All, Some}
-use Rattle.std.proofs.lemmas.List.{get_or-append-add, get_or_append_left}
-use Rattle.std.proofs.lemmas.List.Elements.{All-append}
+use Rattle.surf_model.proofs.Common.{◌≡◌, ℕ, ◌+◌, ◌-◌, ◌<◌, Bool, not, List, [], ◌∷◌, ◌++◌, length, get_or, refl, ap, sym, ◌∙◌, subst, arith, append_assoc, length-append, get_or-append-add, get_or_append_left, All-append, IsTrue, All, Some}
 use Rattle.std.proofs.Math.Bool.{not-not}
 use Rattle.surf_model.specs.FaceLists.{FaceList, face_at, corners_from, is_used}
 use Rattle.surf_model.specs.Walks.{IsWalk, HaveCommonEnds}

@@ -1,6 +1,5 @@
 -- Reading one thing after another.
-use Rattle.std.proofs.Common.{◌≡◌, List, [], ◌∷◌, ◌++◌, refl, sym, ap, append_assoc}
-use Rattle.std.specs.Prelude.{Option, Some, None, Result, Ok, Err}
+use Rattle.text_scan.proofs.Common.{◌≡◌, List, [], ◌∷◌, ◌++◌, refl, sym, ap, append_assoc, Option, Some, None, Result, Ok, Err}
 use Rattle.text_scan.specs.Each.{ok_first}
 
 -- what was read before the rest

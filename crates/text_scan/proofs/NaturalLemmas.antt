@@ -1,12 +1,5 @@
 -- Digits, and words that are numbers.
-use Rattle.std.proofs.Common.{◌≡◌, ℕ, zero, suc, ◌+◌, ◌-◌, ◌*◌, ◌<◌, ◌≤◌, Bool, true, false, cond, not, eqb, ltb, ◌&&◌, ◌||◌, List, [], ◌∷◌, ◌++◌, length, take, drop, get_or, fold, refl, sym, ap, ◌∙◌, append_assoc, append-nil, take-append-drop, length-drop, arith, le_trans}
-use Rattle.std.specs.Prelude.{Some, None, position, bytes_eq, codes}
-use Rattle.std.specs.List.{list_all, list_any, before_first, after_first, position_or_len}
-use Rattle.std.proofs.lemmas.List.{take_more, take_all}
-use Rattle.std.proofs.lemmas.List.Sums.{fold-append}
-use Rattle.std.proofs.lemmas.List.Folds.{list_all-append}
-use Rattle.std.proofs.lemmas.Option.{cond_some}
-use Rattle.std.proofs.lemmas.Bool.{and_parts, and_left, and_right, ltb-true, leb-true}
+use Rattle.text_scan.proofs.Common.{◌≡◌, ℕ, zero, suc, ◌+◌, ◌-◌, ◌*◌, ◌<◌, ◌≤◌, Bool, true, false, cond, not, eqb, ltb, ◌&&◌, ◌||◌, List, [], ◌∷◌, ◌++◌, length, take, drop, get_or, fold, refl, sym, ap, ◌∙◌, append_assoc, append-nil, take-append-drop, length-drop, arith, le_trans, and_parts, and_left, and_right, ltb-true, leb-true, take_more, take_all, list_all-append, fold-append, cond_some, list_all, list_any, before_first, after_first, position_or_len, Some, None, position, bytes_eq, codes}
 use Rattle.text_scan.specs.Lines.{is_filled}
 use Rattle.text_scan.specs.Numbers.{is_digit, is_natural, value_of, unsigned, is_exponent_mark, is_decimal, has_exponent_or_none, is_unsigned_text}
 use Rattle.text_scan.specs.Steps.{begins_with, IsPastDigits}

@@ -1,7 +1,5 @@
 -- The words of the present line and the lines behind it, byte by byte from a place in a text.
-use Rattle.std.proofs.Common.{◌≡◌, ℕ, ◌+◌, Bool, true, false, cond, eqb, ◌||◌, List, [], ◌∷◌, map, filter, refl, sym, ap, ◌∙◌, inl, inr, arith}
-use Rattle.std.specs.List.{before_first, slice_split, onto_first, enumerate_from}
-use Rattle.std.proofs.lemmas.Bool.{or_parts, or_cases, not-true, eqb-true, ne_eqb}
+use Rattle.text_scan.proofs.Common.{◌≡◌, ℕ, ◌+◌, Bool, true, false, cond, eqb, ◌||◌, List, [], ◌∷◌, map, filter, refl, sym, ap, ◌∙◌, inl, inr, arith, or_parts, or_cases, not-true, eqb-true, ne_eqb, before_first, slice_split, onto_first, enumerate_from}
 use Rattle.text_scan.specs.Lines.{Line, is_filled, is_blank, uncommented, cut, words, lines_from}
 use Rattle.text_scan.specs.Unread.{is_line_feed, words_here, behind}
 use Rattle.text_scan.specs.Steps.{ends_word, from_first, begins_word}

@@ -1,13 +1,8 @@
 -- One step over the bytes of a text.
-use Rattle.std.proofs.Common.{◌≡◌, ◌≢◌, ℕ, ◌+◌, ◌-◌, ◌*◌, ◌/◌, ◌^◌, ◌<◌, ◌≤◌, min, Bool, true, false, cond, not, eqb, ◌||◌, List, [], ◌∷◌, ◌++◌, length, take, drop, get_or, length-append, length-drop, refl, sym, ap, ap₂, subst, ◌∙◌, append_assoc, append-nil, inl, inr, arith}
-use Rattle.std.specs.Prelude.{Some, None, option_map}
-use Rattle.std.specs.List.{list_all, before_first, position_or_len, onto_first}
-use Rattle.std.proofs.lemmas.List.{take_all, drop-drop, get_or-drop}
-use Rattle.std.proofs.lemmas.Grind.{pow_more}
-use Rattle.std.proofs.lemmas.Bool.{cases_Bool, not-true, not-false, ne_eqb, eq-eqb, and_parts, and_from, and_left, and_right, or_parts, or_cases, both_ways, cases_lt}
-use Rattle.std.proofs.lemmas.List.Sums.{fold-append}
-use Rattle.std.proofs.lemmas.List.Folds.{list_all-append}
+use Rattle.text_scan.proofs.Common.{◌≡◌, ◌≢◌, ℕ, ◌+◌, ◌-◌, ◌*◌, ◌/◌, ◌^◌, ◌<◌, ◌≤◌, min, Bool, true, false, cond, not, eqb, ◌||◌, List, [], ◌∷◌, ◌++◌, length, take, drop, get_or, length-append, length-drop, refl, sym, ap, ap₂, subst, ◌∙◌, append_assoc, append-nil, inl, inr, arith, cases_Bool, not-true, not-false, ne_eqb, eq-eqb, and_parts, and_from, and_left, and_right, or_parts, or_cases, both_ways, cases_lt, take_all, get_or-drop, list_all-append, fold-append, list_all, before_first, position_or_len, onto_first, Some, None, option_map}
 use Rattle.std.proofs.Math.Nat.{min-eq_left, min-eq_right, pow-le-pow_right}
+use Rattle.std.proofs.lemmas.Grind.{pow_more}
+use Rattle.std.proofs.lemmas.List.{drop-drop}
 use Rattle.text_scan.specs.Lines.{is_filled, is_blank, cut, lines_from}
 use Rattle.text_scan.specs.Numbers.{is_digit, is_natural, value_of, natural_of}
 use Rattle.text_scan.specs.Unread.{is_line_feed, words_here, behind, next_natural}

@@ -1,9 +1,5 @@
 -- Number texts at the front of a text.
-use Rattle.std.proofs.Common.{◌≡◌, ℕ, ◌≤◌, Bool, true, false, not, eqb, ◌||◌, List, [], ◌∷◌, ◌++◌, length, get_or, refl, sym, ap, ap₂, subst, ◌∙◌, append_assoc, append-nil, arith}
-use Rattle.std.specs.Prelude.{bytes_eq, codes}
-use Rattle.std.specs.List.{list_all, list_any, before_first, after_first}
-use Rattle.std.proofs.lemmas.List.Folds.{list_all-append}
-use Rattle.std.proofs.lemmas.Bool.{and_parts, and_from, not_from_false, or_left, or_right, both_ways}
+use Rattle.text_scan.proofs.Common.{◌≡◌, ℕ, ◌≤◌, Bool, true, false, not, eqb, ◌||◌, List, [], ◌∷◌, ◌++◌, length, get_or, refl, sym, ap, ap₂, subst, ◌∙◌, append_assoc, append-nil, arith, and_parts, and_from, not_from_false, or_left, or_right, both_ways, list_all-append, list_all, list_any, before_first, after_first, bytes_eq, codes}
 use Rattle.text_scan.specs.Lines.{is_filled, is_blank}
 use Rattle.text_scan.specs.Numbers.{is_digit, is_natural, unsigned, is_point, is_exponent_mark, is_decimal, has_exponent_or_none, is_unsigned_text, is_number_text}
 use Rattle.text_scan.specs.Unread.{words_here, next_is_number_text}

@@ -1,9 +1,6 @@
 -- What the steps over the bytes are to what is left to read.
-use Rattle.std.proofs.Common.{◌≡◌, ℕ, ◌+◌, Bool, true, false, List, [], ◌∷◌, drop, refl, sym, ap, subst, ◌∙◌, take, drop-drop, length-take, filter, cond, ◌<◌, ◌≤◌, ◌^◌, ◌-◌, arith}
-use Rattle.std.specs.Prelude.{Option, Some, None, MatchOption, unwrap_or}
-use Rattle.std.specs.List.{before_first, position_or_len, slice_split, onto_first}
+use Rattle.text_scan.proofs.Common.{◌≡◌, ℕ, ◌+◌, Bool, true, false, List, [], ◌∷◌, drop, refl, sym, ap, subst, ◌∙◌, take, drop-drop, length-take, filter, cond, ◌<◌, ◌≤◌, ◌^◌, ◌-◌, arith, Bor, eqb, length, before_first, position_or_len, slice_split, onto_first, Option, Some, None, MatchOption, unwrap_or}
 use Rattle.std.specs.Cmp.Lexicographic.{pointwise}
-use Rattle.std.proofs.Common.{Bor, eqb, length}
 use Rattle.text_scan.specs.Lines.{Line, cut, is_filled, is_blank, uncommented, words, unmarked, lines_from, full_lines}
 use Rattle.text_scan.specs.Unread.{Unread, LinesLeft, lines_left, at_line, past_word, next_word, is_line_feed, words_here, behind, unread_at}
 use Rattle.text_scan.specs.Steps.{ends_word, begins_with, begins_word, IsPast, IsFirstWord}

@@ -1,13 +1,10 @@
 -- Lines that were written are read again.
-use Rattle.std.proofs.Common.{◌≡◌, ℕ, suc, ◌==◌, ◌+◌, ◌-◌, ◌*◌, ◌%◌, ◌^◌, ◌<◌, ◌≤◌, true, false, not, List, [], ◌∷◌, ◌++◌, refl, ap, ◌∙◌, append_assoc, arith}
-use Rattle.std.specs.Prelude.{Some, nat_le, fold, decimal, flat_map, All, ℤ, pos, negsuc, map, option_map}
-use Rattle.std.specs.Fmt.{signed_decimal}
-use Rattle.std.specs.List.{list_all, join_with_byte}
-use Rattle.std.proofs.lemmas.Bool.{lt-ltb, le-leb, leb-true, and_parts, and_from}
+use Rattle.text_scan.proofs.Common.{◌≡◌, ℕ, suc, ◌==◌, ◌+◌, ◌-◌, ◌*◌, ◌%◌, ◌^◌, ◌<◌, ◌≤◌, true, false, not, List, [], ◌∷◌, ◌++◌, refl, ap, ◌∙◌, append_assoc, arith, lt-ltb, le-leb, leb-true, and_parts, and_from, list_all-append, list_all, join_with_byte, Some, nat_le, decimal, flat_map, All, ℤ, pos, negsuc, option_map}
 use Rattle.std.proofs.lemmas.Fmt.{decimal_by_steps}
 use Rattle.std.proofs.lemmas.List.{append-nil}
-use Rattle.std.proofs.lemmas.List.Folds.{list_all-append}
 use Rattle.std.proofs.lemmas.List.Elements.{All-head, All-tail, All-cons, All-nil}
+use Rattle.std.specs.Fmt.{signed_decimal}
+use Rattle.std.specs.Prelude.{fold, map}
 use Rattle.text_scan.specs.Lines.{Line, is_filled, cut, lines_from}
 use Rattle.text_scan.specs.Numbers.{is_digit, is_natural, value_of, natural_of, signed_of, fits_i64, number_below, number_of, integer_of}
 use Rattle.text_scan.specs.Each.{each_some}

@@ -1,10 +1,5 @@
 -- The face below each edge, by the darts that are kept for the faces.
-use Rattle.std.proofs.Common.{◌≡◌, ◌≢◌, inl, inr, ℕ, zero, suc, ◌+◌, ◌<◌, false, List, length, refl, ap, sym, ◌∙◌, subst, arith}
-use Rattle.std.proofs.Math.ListN.{set}
-use Rattle.std.specs.Prelude.{Option, Some, None, is_some, replicate}
-use Rattle.std.proofs.lemmas.Bool.{cases_eq, cases_lt}
-use Rattle.std.proofs.lemmas.List.{length-replicate, get_or-replicate, get_or_past, length-set, get_or-set_same, get_or-set_other}
-use Rattle.halfedge_map.specs.RotationSystems.{Rotations}
+use Rattle.tree_cotree.proofs.Common.{Rotations, ◌≡◌, ◌≢◌, inl, inr, ℕ, zero, suc, ◌+◌, ◌<◌, false, List, length, refl, ap, sym, ◌∙◌, subst, arith, set, cases_eq, cases_lt, length-replicate, get_or-replicate, get_or_past, length-set, get_or-set_same, get_or-set_other, Option, Some, None, is_some, replicate}
 use Rattle.tree_cotree.specs.Searches.{kept_at}
 use Rattle.tree_cotree.specs.Markings.{AreApart}
 use Rattle.tree_cotree.specs.EdgeFaces.{AreBelowEdges}

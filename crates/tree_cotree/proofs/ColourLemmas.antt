@@ -1,9 +1,5 @@
 -- A colouring with a tree, a cotree and a root face is one of a split: ways are there within the tree and within the cotree.
-use Rattle.std.proofs.Common.{◌≡◌, ◌<◌, ℕ, true, List, length, get_or, refl, ap, sym, ◌∙◌, subst}
-use Rattle.surf_model.specs.FaceLists.{is_used}
-use Rattle.halfedge_map.specs.OrientedMeshes.{OrientedMesh, IsOrientedSurface}
-use Rattle.halfedge_map.specs.RotationSystems.{Rotations, rotations_of, IsRotationSystem, NamesAll}
-use Rattle.halfedge_map.proofs.SystemLemmas.{rotation_system, names_all}
+use Rattle.tree_cotree.proofs.Common.{rotation_system, names_all, OrientedMesh, IsOrientedSurface, Rotations, rotations_of, IsRotationSystem, NamesAll, ◌≡◌, ◌<◌, ℕ, true, List, length, get_or, refl, ap, sym, ◌∙◌, subst, is_used}
 use Rattle.tree_cotree.specs.declared.split.Kind.{Kind}
 use Rattle.tree_cotree.specs.declared.split.Kind.TheVariants.{Tree, Cotree}
 use Rattle.tree_cotree.specs.SpanningTrees.{IsSpanningTree}

@@ -1,12 +1,6 @@
 -- A set of edges that spans the nodes has, from each root, an order of a search within it: the nodes are put in one after another, each
 -- across an edge of the set.
-use Rattle.std.proofs.Common.{◌≡◌, inl, inr, ℕ, zero, suc, ◌+◌, ◌-◌, ◌<◌, ◌≤◌, Bool, true, false, List, [], ◌∷◌, ◌++◌, length, get_or, refl, ap, sym, ◌∙◌, subst, arith}
-use Rattle.std.proofs.Math.ListN.{set}
-use Rattle.std.specs.Prelude.{Option, Some, None, replicate}
-use Rattle.std.proofs.lemmas.Bool.{cases_lt, both_ways}
-use Rattle.std.proofs.lemmas.List.{length_push, get_or_push, get_or_append_left, length-replicate}
-use Rattle.surf_model.specs.Numbers.{count_below}
-use Rattle.halfedge_map.specs.RotationSystems.{Rotations, IsRotationSystem}
+use Rattle.tree_cotree.proofs.Common.{Rotations, IsRotationSystem, ◌≡◌, inl, inr, ℕ, zero, suc, ◌+◌, ◌-◌, ◌<◌, ◌≤◌, Bool, true, false, List, [], ◌∷◌, ◌++◌, length, get_or, refl, ap, sym, ◌∙◌, subst, arith, set, cases_lt, both_ways, length_push, get_or_push, get_or_append_left, length-replicate, Option, Some, None, replicate, count_below}
 use Rattle.tree_cotree.specs.SpanningTrees.{IsStepIn, IsSpanningTree}
 use Rattle.tree_cotree.specs.Searches.{kept_at, IsFound, IsOrder, FindsAll}
 use Rattle.tree_cotree.proofs.SetLemmas.{with_one, with_itself, with_keeps, with_cases, count_with, count_few, same_from_count, some_outside}

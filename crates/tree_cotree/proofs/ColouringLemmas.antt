@@ -1,19 +1,6 @@
 -- Kinds of edges that are made by joining classes, edge by edge: what they are when the edges below n have been tried, and the trees that
 -- they make in the end.
-use Rattle.std.proofs.Common.{◌≡◌, ◌≢◌, inl, inr, ℕ, ◌+◌, ◌/◌, ◌<◌, ◌≤◌, Bool, true, false, List, [], ◌∷◌, length, get_or, refl, ap, sym, ◌∙◌, subst, arith}
-use Rattle.std.proofs.Math.ListN.{set}
-use Rattle.std.specs.List.{range_with_len}
-use Rattle.std.specs.Prelude.{replicate}
-use Rattle.std.proofs.lemmas.Bool.{cases_Bool, cases_eq, cases_lt, both_ways}
-use Rattle.std.proofs.lemmas.List.{length-replicate, get_or-set_same, get_or-set_other, length-set, get_or_past}
-use Rattle.surf_model.specs.FaceLists.{is_used}
-use Rattle.surf_model.specs.Surfaces.{IsPath, AreJoined}
-use Rattle.connectivity.specs.Classes.{joined_at}
-use Rattle.connectivity.proofs.Joining.{joined_at_same, joined_at_ends, joined_refl, joined_step, joined_trans}
-use Rattle.surf_model.specs.Numbers.{count_below}
-use Rattle.halfedge_map.specs.OrientedMeshes.{OrientedMesh, IsOrientedSurface}
-use Rattle.halfedge_map.specs.RotationSystems.{Rotations, rotations_of, IsRotationSystem, IsDartStep, IsDartFrom}
-use Rattle.halfedge_map.proofs.SystemLemmas.{rotation_system, names_all}
+use Rattle.tree_cotree.proofs.Common.{joined_at_same, joined_at_ends, joined_refl, joined_step, joined_trans, joined_at, rotation_system, names_all, OrientedMesh, IsOrientedSurface, Rotations, rotations_of, IsRotationSystem, IsDartStep, IsDartFrom, ◌≡◌, ◌≢◌, inl, inr, ℕ, ◌+◌, ◌/◌, ◌<◌, ◌≤◌, Bool, true, false, List, [], ◌∷◌, length, get_or, refl, ap, sym, ◌∙◌, subst, arith, set, cases_Bool, cases_eq, cases_lt, both_ways, length-replicate, get_or-set_same, get_or-set_other, length-set, get_or_past, range_with_len, replicate, is_used, count_below, IsPath, AreJoined}
 use Rattle.tree_cotree.specs.declared.split.Kind.{Kind}
 use Rattle.tree_cotree.specs.declared.split.Kind.TheVariants.{Tree, Cotree, Left}
 use Rattle.tree_cotree.specs.declared.search.Nodes.{Nodes}

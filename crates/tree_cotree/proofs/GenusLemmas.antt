@@ -1,21 +1,7 @@
 -- Each surface has a split, and so a genus: its edges are tried one after another, as a colouring is made, until they span its vertices,
 -- and then its faces.
-use Rattle.std.proofs.Common.{◌≡◌, inl, inr, ℕ, zero, suc, ◌+◌, ◌*◌, ◌/◌, ◌<◌, ◌≤◌, Bool, true, false, List, length, get_or, refl, ap, sym, ◌∙◌, subst, arith}
-use Rattle.std.proofs.Math.ListN.{set}
-use Rattle.std.specs.List.{range_with_len}
-use Rattle.std.specs.Prelude.{replicate}
-use Rattle.std.proofs.lemmas.Bool.{cases_Bool, cases_eq, both_ways}
-use Rattle.std.proofs.lemmas.List.{length-replicate}
-use Rattle.surf_model.specs.FaceLists.{FaceList, IsFaceList, is_used}
-use Rattle.surf_model.specs.Edges.{Edge, IsTableOf}
-use Rattle.surf_model.specs.Surfaces.{IsSurface}
-use Rattle.surf_model.specs.Numbers.{count_below}
+use Rattle.tree_cotree.proofs.Common.{joined_at, names_all, used_vertices, OrientedMesh, IsOrientedSurface, Rotations, rotations_of, ◌≡◌, inl, inr, ℕ, zero, suc, ◌+◌, ◌*◌, ◌/◌, ◌<◌, ◌≤◌, Bool, true, false, List, length, get_or, refl, ap, sym, ◌∙◌, subst, arith, set, cases_Bool, cases_eq, both_ways, length-replicate, range_with_len, replicate, Edge, IsTableOf, FaceList, IsFaceList, is_used, count_below, IsSurface}
 use Rattle.surf_model.proofs.EdgeTables.{some_table}
-use Rattle.connectivity.specs.Classes.{joined_at}
-use Rattle.halfedge_map.specs.OrientedMeshes.{OrientedMesh, IsOrientedSurface}
-use Rattle.halfedge_map.specs.DartMaps.{used_vertices}
-use Rattle.halfedge_map.specs.RotationSystems.{Rotations, rotations_of}
-use Rattle.halfedge_map.proofs.SystemLemmas.{names_all}
 use Rattle.tree_cotree.specs.RingCounts.{any_below}
 use Rattle.tree_cotree.specs.declared.split.Kind.{Kind}
 use Rattle.tree_cotree.specs.declared.split.Kind.TheVariants.{Tree, Cotree, Left}

@@ -1,14 +1,8 @@
 -- A spanning tree put in edge after edge, each bringing a new node: at its end there is one ring. Of the tree the rings begin as
 -- the vertices, and each edge is put in; of the cotree they begin as the faces, and each edge is taken out.
-use Rattle.std.proofs.Common.{◌≡◌, ◌≢◌, ◌⊎◌, inl, inr, ℕ, zero, suc, ◌+◌, ◌-◌, ◌<◌, ◌≤◌, Bool, true, false, not, List, [], ◌∷◌, refl, ap, sym, ◌∙◌, subst, arith}
-use Rattle.std.proofs.lemmas.Bool.{cases_Bool, both_ways}
-use Rattle.surf_model.specs.Numbers.{count_below}
-use Rattle.surf_model.specs.Surfaces.{IsPath}
-use Rattle.halfedge_map.specs.Orbits.{IsReached}
+use Rattle.tree_cotree.proofs.Common.{IsPermutationBelow, IsReached, Rotations, IsRotationSystem, ◌≡◌, ◌≢◌, ◌⊎◌, inl, inr, ℕ, zero, suc, ◌+◌, ◌-◌, ◌<◌, ◌≤◌, Bool, true, false, not, List, [], ◌∷◌, refl, ap, sym, ◌∙◌, subst, arith, cases_Bool, both_ways, count_below, IsPath}
 use Rattle.tree_cotree.specs.RingCounts.{exchanged}
-use Rattle.halfedge_map.specs.RotationSystems.{Rotations, IsRotationSystem}
 use Rattle.tree_cotree.specs.SpanningTrees.{after_dart, IsStepIn, IsSpanningTree}
-use Rattle.halfedge_map.proofs.OrbitLemmas.{IsPermutationBelow}
 use Rattle.tree_cotree.proofs.ExchangeLemmas.{IsOnMerged, joins_rings, exchanged_permutes}
 use Rattle.tree_cotree.proofs.SetLemmas.{with_one, with_itself, with_other, with_keeps, with_cases, count_with, count_few, same_from_count, some_outside}
 use Rattle.tree_cotree.proofs.AfterLemmas.{after_permutes, after_agrees, after_exchanges, DifferAt, reached_same}

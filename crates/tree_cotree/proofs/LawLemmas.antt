@@ -1,11 +1,5 @@
 -- The laws of splits, from those of rotation systems.
-use Rattle.std.proofs.Common.{◌≡◌, ℕ, zero, suc, ◌+◌, ◌*◌, ◌<◌, true, not, length, refl, arith}
-use Rattle.surf_model.specs.FaceLists.{is_used}
-use Rattle.surf_model.specs.Numbers.{count_below}
-use Rattle.halfedge_map.specs.OrientedMeshes.{OrientedMesh, IsOrientedSurface}
-use Rattle.halfedge_map.specs.DartMaps.{used_vertices}
-use Rattle.halfedge_map.specs.RotationSystems.{rotations_of, NamesAll}
-use Rattle.halfedge_map.proofs.SystemLemmas.{rotation_system, names_all}
+use Rattle.tree_cotree.proofs.Common.{rotation_system, names_all, used_vertices, OrientedMesh, IsOrientedSurface, rotations_of, NamesAll, ◌≡◌, ℕ, zero, suc, ◌+◌, ◌*◌, ◌<◌, true, not, length, refl, arith, is_used, count_below}
 use Rattle.tree_cotree.specs.SpanningTrees.{HasOneRing}
 use Rattle.tree_cotree.specs.Splits.{SplitView, HasTrees, kind_of, is_tree_kind, is_cotree_kind, is_left_kind, in_tree, in_cotree, is_left}
 use Rattle.tree_cotree.specs.declared.split.Kind.{Kind}

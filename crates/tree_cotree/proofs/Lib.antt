@@ -1,3 +1,4 @@
+pub mod Common
 pub mod ClassLemmas
 pub mod ExchangeLemmas
 pub mod SetLemmas

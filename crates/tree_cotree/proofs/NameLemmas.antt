@@ -1,8 +1,5 @@
 -- Classes that bear names: where two numbers are related exactly if they have one name, there are as many classes as names.
-use Rattle.std.proofs.Common.{◌≡◌, ◌≢◌, inl, inr, ℕ, zero, suc, ◌<◌, ◌≤◌, Bool, true, false, not, eqb, refl, ap, sym, ◌∙◌, subst, arith}
-use Rattle.std.proofs.lemmas.Bool.{cases_Bool, or_cases, or_left, or_right, both_ways, eqb-true, eq-eqb}
-use Rattle.std.specs.Cmp.Derive.{one_truth}
-use Rattle.surf_model.specs.Numbers.{count_below}
+use Rattle.tree_cotree.proofs.Common.{◌≡◌, ◌≢◌, inl, inr, ℕ, zero, suc, ◌<◌, ◌≤◌, Bool, true, false, not, eqb, refl, ap, sym, ◌∙◌, subst, arith, cases_Bool, or_cases, or_left, or_right, both_ways, eqb-true, eq-eqb, one_truth, count_below}
 use Rattle.tree_cotree.specs.RingCounts.{any_below, is_least, class_count}
 use Rattle.tree_cotree.proofs.ClassLemmas.{found_below, passes_below, count_same, count_less}
 

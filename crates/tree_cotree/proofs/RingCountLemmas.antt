@@ -1,17 +1,9 @@
 -- The rings of the set without edges, and of the set of all edges: they are the vertices, and the faces.
-use Rattle.std.proofs.Common.{◌≡◌, ℕ, ◌<◌, Bool, true, false, length, slice_index, ap, sym, ◌∙◌}
-use Rattle.surf_model.specs.FaceLists.{is_used}
-use Rattle.surf_model.specs.Numbers.{count_below}
-use Rattle.halfedge_map.specs.Orbits.{IsReached}
-use Rattle.halfedge_map.specs.OrientedMeshes.{OrientedMesh, IsOrientedSurface}
-use Rattle.halfedge_map.specs.DartMaps.{used_vertices}
-use Rattle.halfedge_map.specs.RotationSystems.{Rotations, rotations_of, IsRotationSystem}
-use Rattle.halfedge_map.proofs.SystemLemmas.{rotation_system, names_all}
+use Rattle.tree_cotree.proofs.Common.{IsPermutationBelow, rotation_system, names_all, used_vertices, IsReached, OrientedMesh, IsOrientedSurface, Rotations, rotations_of, IsRotationSystem, ◌≡◌, ℕ, ◌<◌, Bool, true, false, length, slice_index, ap, sym, ◌∙◌, is_used, count_below}
 use Rattle.tree_cotree.specs.RingCounts.{meets, ring_count}
 use Rattle.tree_cotree.specs.RingViews.{RingView, AreRingsOf, is_inside, rings_of}
 use Rattle.tree_cotree.specs.RingSets.{rings_of_set, HaveNoEdge, HaveEveryEdge}
 use Rattle.tree_cotree.specs.SpanningTrees.{after_dart}
-use Rattle.halfedge_map.proofs.OrbitLemmas.{IsPermutationBelow}
 use Rattle.tree_cotree.proofs.AfterLemmas.{after_permutes, after_agrees}
 use Rattle.tree_cotree.proofs.ExchangeLemmas.{meets_from, reached_from}
 use Rattle.tree_cotree.proofs.GrowthLemmas.{HasNodes}

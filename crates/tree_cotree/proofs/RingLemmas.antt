@@ -1,18 +1,7 @@
 -- The rings of a set of edges, kept as a list.
-use Rattle.std.proofs.Common.{◌≡◌, ◌≢◌, inl, inr, ℕ, suc, ◌+◌, ◌<◌, Bool, false, not, List, [], ◌∷◌, ◌++◌, length, get_or, refl, ap, sym}
-use Rattle.std.proofs.Common.{◌∙◌, subst, arith}
-use Rattle.std.proofs.Math.ListN.{set}
-use Rattle.std.specs.Prelude.{swap, slice_index, replicate}
-use Rattle.std.proofs.lemmas.Bool.{cases_eq, cases_lt}
-use Rattle.std.proofs.lemmas.List.{get_or-map, length-map, get_or-set_same, get_or-set_other, length-set, length_push, get_or_push}
-use Rattle.std.proofs.lemmas.List.{get_or_append_left, get_or_past, get_or-replicate, length-replicate}
+use Rattle.tree_cotree.proofs.Common.{IsPermutationBelow, rotation_system, darts_of, next_of, twin_of, edge_of, OrientedMesh, IsOrientedSurface, Rotations, rotations_of, IsRotationSystem, ◌≡◌, ◌≢◌, inl, inr, ℕ, suc, ◌+◌, ◌<◌, Bool, false, not, List, [], ◌∷◌, ◌++◌, length, get_or, refl, ap, sym, ◌∙◌, subst, arith, set, cases_eq, cases_lt, get_or-map, length-map, get_or-set_same, get_or-set_other, length-set, length_push, get_or_push, get_or_append_left, get_or_past, get_or-replicate, length-replicate, swap, replicate, DartName}
 use Rattle.std.proofs.lemmas.List.Edits.{swap_is}
-use Rattle.surf_model.specs.declared.names.DartName.{DartName}
-use Rattle.halfedge_map.specs.OrientedMeshes.{OrientedMesh, IsOrientedSurface}
-use Rattle.halfedge_map.specs.DartMaps.{darts_of, next_of, twin_of, edge_of}
-use Rattle.halfedge_map.specs.RotationSystems.{Rotations, rotations_of, IsRotationSystem}
-use Rattle.halfedge_map.proofs.OrbitLemmas.{IsPermutationBelow}
-use Rattle.halfedge_map.proofs.SystemLemmas.{rotation_system}
+use Rattle.std.specs.Prelude.{slice_index}
 use Rattle.tree_cotree.specs.RingCounts.{ring_count, exchanged}
 use Rattle.tree_cotree.specs.SpanningTrees.{after_dart}
 use Rattle.tree_cotree.specs.RingViews.{RingView, AreRingsOf, ChangesByOne, dart_numbers, is_inside, rings_of}

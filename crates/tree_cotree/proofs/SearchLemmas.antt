@@ -1,20 +1,8 @@
 -- What an order of a search needs to grow, and what it is when it grows no more.
-use Rattle.std.proofs.Common.{◌≡◌, ◌≢◌, inl, inr, ℕ, zero, suc, ◌+◌, ◌<◌, ◌≤◌, Bool, true, false, List, [], ◌∷◌, ◌++◌, length, get_or, refl, ap, sym, ◌∙◌, subst, arith}
-use Rattle.std.proofs.Math.ListN.{set}
-use Rattle.std.specs.Prelude.{Option, Some, None, is_some}
-use Rattle.std.specs.Option.{option_map}
-use Rattle.std.proofs.lemmas.Bool.{cases_eq, cases_lt}
-use Rattle.std.proofs.lemmas.List.{length_push, get_or_push, get_or_append_left, get_or-set_same, get_or-set_other, length-set, get_or_read, map-append, append-nil, append_assoc, length-append}
-use Rattle.surf_model.specs.declared.names.DartName.{DartName}
-use Rattle.halfedge_map.specs.Orbits.{after_steps, IsReached}
-use Rattle.halfedge_map.specs.OrientedMeshes.{OrientedMesh, IsOrientedSurface}
-use Rattle.halfedge_map.specs.RotationSystems.{Rotations, rotations_of, IsRotationSystem}
-use Rattle.halfedge_map.proofs.DartLemmas.{next_permutes, face-next}
+use Rattle.tree_cotree.proofs.Common.{next_permutes, face-next, IsPermutationBelow, AreAlike, two_alike, steps_within, reached_keeps, rotation_system, after_steps, IsReached, OrientedMesh, IsOrientedSurface, Rotations, rotations_of, IsRotationSystem, ◌≡◌, ◌≢◌, inl, inr, ℕ, zero, suc, ◌+◌, ◌<◌, ◌≤◌, Bool, true, false, List, [], ◌∷◌, ◌++◌, length, get_or, refl, ap, sym, ◌∙◌, subst, arith, set, cases_eq, cases_lt, length_push, get_or_push, get_or_append_left, get_or-set_same, get_or-set_other, length-set, get_or_read, map-append, append-nil, append_assoc, length-append, option_map, Option, Some, None, is_some, DartName}
 use Rattle.halfedge_map.proofs.VertexLemmas.{turns_permute, origin-turned}
-use Rattle.halfedge_map.proofs.SystemLemmas.{rotation_system}
 use Rattle.tree_cotree.specs.declared.search.Nodes.{Nodes}
 use Rattle.tree_cotree.specs.declared.search.Nodes.TheVariants.{Vertices, Faces}
-use Rattle.halfedge_map.proofs.OrbitLemmas.{IsPermutationBelow, AreAlike, two_alike, steps_within, reached_keeps}
 use Rattle.tree_cotree.specs.RingViews.{dart_numbers}
 use Rattle.tree_cotree.specs.Searches.{node_of, turn_of, kept_at, IsFound, IsNamed, LeadsBack, IsOrder, IsCrossed, AreAdded}
 use Rattle.tree_cotree.proofs.AfterLemmas.{twin_edge}

@@ -1,7 +1,5 @@
 -- Sets of numbers as tests: one number more, and sets with equal counts.
-use Rattle.std.proofs.Common.{◌≡◌, ◌≢◌, ◌⊎◌, inl, inr, ℕ, zero, suc, ◌+◌, ◌<◌, ◌≤◌, Bool, true, false, ◌||◌, eqb, refl, sym, ◌∙◌, subst, arith}
-use Rattle.std.proofs.lemmas.Bool.{cases_Bool, cases_lt, or_cases, or_left, or_right, both_ways, eqb-true, eq-eqb}
-use Rattle.surf_model.specs.Numbers.{count_below}
+use Rattle.tree_cotree.proofs.Common.{◌≡◌, ◌≢◌, ◌⊎◌, inl, inr, ℕ, zero, suc, ◌+◌, ◌<◌, ◌≤◌, Bool, true, false, ◌||◌, eqb, refl, sym, ◌∙◌, subst, arith, cases_Bool, cases_lt, or_cases, or_left, or_right, both_ways, eqb-true, eq-eqb, count_below}
 use Rattle.tree_cotree.proofs.ClassLemmas.{count_less}
 
 -- the set with one number more

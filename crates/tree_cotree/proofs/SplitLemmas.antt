@@ -1,13 +1,8 @@
 -- Tree, cotree and leftover edges of a rotation system: the rings of the tree and of tree and leftover edges, sets of faces that
 -- are closed under crossing edges, and the number of leftover edges, which is even.
-use Rattle.std.proofs.Common.{◌≡◌, inl, inr, ℕ, zero, suc, ◌+◌, ◌<◌, ◌≤◌, Bool, true, false, not, eqb, cond, refl, ap, sym, ◌∙◌, subst, arith}
-use Rattle.std.proofs.lemmas.Bool.{cases_Bool, cases_eq}
-use Rattle.surf_model.specs.Numbers.{count_below}
-use Rattle.halfedge_map.specs.Orbits.{after_steps, IsReached}
+use Rattle.tree_cotree.proofs.Common.{IsPermutationBelow, steps_within, reached_step, after_steps, IsReached, Rotations, IsRotationSystem, ◌≡◌, inl, inr, ℕ, zero, suc, ◌+◌, ◌<◌, ◌≤◌, Bool, true, false, not, eqb, cond, refl, ap, sym, ◌∙◌, subst, arith, cases_Bool, cases_eq, count_below}
 use Rattle.tree_cotree.specs.RingCounts.{any_below, meets, is_least, ring_count}
-use Rattle.halfedge_map.specs.RotationSystems.{Rotations, IsRotationSystem}
 use Rattle.tree_cotree.specs.SpanningTrees.{after_dart, IsSpanningTree, HasOneRing}
-use Rattle.halfedge_map.proofs.OrbitLemmas.{IsPermutationBelow, steps_within, reached_step}
 use Rattle.tree_cotree.proofs.ClassLemmas.{count_same, passes_below}
 use Rattle.tree_cotree.proofs.ExchangeLemmas.{meets_from}
 use Rattle.tree_cotree.proofs.AfterLemmas.{after_permutes, go_on, turn}

@@ -1,13 +1,6 @@
 -- The tree that a search makes: a node's dart leads back to a node found before, so following the darts ends at the root.
-use Rattle.std.proofs.Common.{◌≡◌, ◌≢◌, ◌⊎◌, inl, inr, ℕ, zero, suc, ◌+◌, ◌<◌, Bool, true, false, cond, List, [], ◌∷◌, length, get_or, refl, ap, sym, ◌∙◌, subst, arith}
-use Rattle.std.proofs.Math.ListN.{set}
-use Rattle.std.specs.Prelude.{Option, Some, None, is_some}
-use Rattle.std.proofs.lemmas.Bool.{cases_Bool, cases_eq, cases_lt, both_ways}
-use Rattle.surf_model.specs.Surfaces.{IsPath, AreJoined}
-use Rattle.surf_model.specs.Numbers.{count_below}
-use Rattle.halfedge_map.specs.RotationSystems.{Rotations, IsRotationSystem, IsDartStep, IsDartFrom}
+use Rattle.tree_cotree.proofs.Common.{joined_trans, Rotations, IsRotationSystem, IsDartStep, IsDartFrom, ◌≡◌, ◌≢◌, ◌⊎◌, inl, inr, ℕ, zero, suc, ◌+◌, ◌<◌, Bool, true, false, cond, List, [], ◌∷◌, length, get_or, refl, ap, sym, ◌∙◌, subst, arith, set, cases_Bool, cases_eq, cases_lt, both_ways, get_or-set_same, get_or-set_other, length-set, Option, Some, None, is_some, count_below, IsPath, AreJoined}
 use Rattle.tree_cotree.specs.SpanningTrees.{StepsIn}
-use Rattle.std.proofs.lemmas.List.{get_or-set_same, get_or-set_other, length-set}
 use Rattle.tree_cotree.specs.declared.split.Kind.{Kind}
 use Rattle.tree_cotree.specs.declared.split.Kind.TheVariants.{Tree, Cotree, Left}
 use Rattle.tree_cotree.specs.Searches.{same_kind, has_kind, kept_at, IsFound, IsNamed, LeadsBack, IsOrder, IsSearched, FindsAll}
@@ -16,7 +9,6 @@ use Rattle.tree_cotree.proofs.SetLemmas.{with_one, with_itself, with_other, with
 use Rattle.tree_cotree.proofs.ClassLemmas.{count_same}
 use Rattle.tree_cotree.proofs.AfterLemmas.{twin_edge}
 use Rattle.tree_cotree.proofs.GrowthLemmas.{HasNodes}
-use Rattle.connectivity.proofs.Joining.{joined_trans}
 
 pub crossed_from : (maps : Rotations) (node : ℕ → ℕ) (allowed : ℕ → Bool) (bound root : ℕ) (from : List (Option ℕ))
     (s : IsSearched maps node allowed bound root from)

@@ -1,11 +1,6 @@
 -- A tree that a search makes has another root when the dart between the two is turned: the order of the search, with the new root's
 -- dart at the front. And ways up such a tree, a dart longer or shorter.
-use Rattle.std.proofs.Common.{◌≡◌, ◌≢◌, inl, inr, ℕ, zero, suc, ◌+◌, ◌<◌, ◌≤◌, Bool, true, List, [], ◌∷◌, ◌++◌, length, get_or, refl, ap, sym, ◌∙◌, subst, arith}
-use Rattle.std.proofs.Math.ListN.{set}
-use Rattle.std.specs.Prelude.{Option, Some, None}
-use Rattle.std.proofs.lemmas.Bool.{cases_eq, cases_lt}
-use Rattle.std.proofs.lemmas.List.{get_or-set_same, get_or-set_other, length-set, length_push, get_or_push, get_or_append_left}
-use Rattle.halfedge_map.specs.RotationSystems.{Rotations, IsRotationSystem}
+use Rattle.tree_cotree.proofs.Common.{Rotations, IsRotationSystem, ◌≡◌, ◌≢◌, inl, inr, ℕ, zero, suc, ◌+◌, ◌<◌, ◌≤◌, Bool, true, List, [], ◌∷◌, ◌++◌, length, get_or, refl, ap, sym, ◌∙◌, subst, arith, set, cases_eq, cases_lt, get_or-set_same, get_or-set_other, length-set, length_push, get_or_push, get_or_append_left, Option, Some, None}
 use Rattle.tree_cotree.specs.Searches.{kept_at, IsFound, IsNamed, LeadsBack, IsOrder, FindsAll}
 use Rattle.tree_cotree.specs.Ways.{HasRoot, IsWay, IsWayUp}
 use Rattle.tree_cotree.proofs.AfterLemmas.{twin_edge}

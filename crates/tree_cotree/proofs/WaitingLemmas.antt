@@ -1,11 +1,5 @@
 -- The darts that wait while a search is underway: each found node is crossed, or a dart of it waits.
-use Rattle.std.proofs.Common.{◌≡◌, ◌⊎◌, inl, inr, ℕ, zero, suc, ◌+◌, ◌-◌, ◌<◌, ◌≤◌, Bool, List, [], ◌∷◌, ◌++◌, length, get_or, refl, ap, sym, ◌∙◌, subst, arith}
-use Rattle.std.specs.Prelude.{Option, Some, None, IfSome, IfNone}
-use Rattle.std.specs.Option.{option_to_list}
-use Rattle.std.proofs.lemmas.Bool.{cases_lt}
-use Rattle.std.proofs.lemmas.List.{length-append, length_push, get_or_append_left, get_or-append_right, get_or-append-add, append-nil, map-append}
-use Rattle.surf_model.specs.declared.names.DartName.{DartName}
-use Rattle.halfedge_map.specs.RotationSystems.{Rotations}
+use Rattle.tree_cotree.proofs.Common.{Rotations, ◌≡◌, ◌⊎◌, inl, inr, ℕ, zero, suc, ◌+◌, ◌-◌, ◌<◌, ◌≤◌, Bool, List, [], ◌∷◌, ◌++◌, length, get_or, refl, ap, sym, ◌∙◌, subst, arith, cases_lt, length-append, length_push, get_or_append_left, get_or-append_right, get_or-append-add, append-nil, map-append, option_to_list, Option, Some, None, IfSome, IfNone, DartName}
 use Rattle.tree_cotree.specs.RingViews.{dart_numbers}
 use Rattle.tree_cotree.specs.Searches.{IsFound, IsOrder, IsCrossed, IsSearched, AreAdded}
 use Rattle.tree_cotree.specs.Waiting.{waiting_darts, IsAmong, IsTaken}

@@ -1,3 +1,4 @@
+pub mod Common
 pub mod Trying
 pub mod ChainReading
 pub mod TrialOutcomes

@@ -1,42 +1,16 @@
 -- `trial` in the words of the chain.
-use Rattle.std.proofs.Common.{◌≡◌, inl, inr, ℕ, true, List, refl, subst}
-use Rattle.std.specs.Prelude.{Option, Some, None, nat_le, length}
-use Rattle.std.proofs.lemmas.Bool.{and_from, le-leb}
-use Rattle.surf_io.specs.Files.{Files}
-use Rattle.surf_model.specs.FaceLists.{FaceList, IsFaceList}
-use Rattle.surf_model.specs.Surfaces.{IsSurface}
-use Rattle.off_reader.specs.OffTexts.{meaning_of}
-use Rattle.surf_gen.specs.Chains.{chain_mesh}
-use Rattle.surf_gen.specs.ChainTexts.{chain_text}
-use Rattle.surf_gen.specs.Sizes.{IsChain}
-use Rattle.surf_gen.specs.declared.limits.TheConstants.{MOST_GENUS, LEAST_GRID, MOST_GRID}
-use Rattle.surf_gen.specs.declared.walks.TrialPair.{TrialPair}
-use Rattle.surf_gen.specs.declared.walks.TrialPair.TheVariants.{Commuting, Cell, Loops}
-use Rattle.walk_files.specs.Pairs.{IsPair, pair_fault}
-use Rattle.walk_files.proofs.PairLemmas.{none_of_pair}
-use Rattle.surf_model.specs.declared.decisions.Answer as deciding
-use Rattle.commands.specs.Answers.{Answer, yes_with}
-use Rattle.commands.specs.Checks.{Check, End, Refuse, Pass, Passes, pass, ◌>>=◌}
-use Rattle.commands.specs.Lines.{refused}
+use Rattle.trial_commands.proofs.Common.{AreGeneraOf, behind, refused_behind, sound-pass_unless, meant_told, unless_told, Answer, yes_with, Check, End, Refuse, Pass, Passes, pass, ◌>>=◌, refused, off_line, pair_line, told, joined_few, meaning_of, ◌≡◌, inl, inr, ℕ, true, List, refl, subst, and_from, le-leb, Option, Some, None, nat_le, chain_text, chain_mesh, IsChain, MOST_GENUS, LEAST_GRID, MOST_GRID, TrialPair, Commuting, Cell, Loops, Files, FaceList, IsFaceList, AreNumbersOf, IsOrientableSurface, SurfaceNumbers, as_passes, sound-few, few_pass, numbers_of, genera_of, of_few_components, IsPair, pair_fault}
+use Rattle.closed_surfaces.proofs.SomeParts.{some_parts}
 use Rattle.commands.specs.Outcomes.{Outcome, AnswersTo, IsAnswerOf}
-use Rattle.commands.specs.Refusals.{off_line, pair_line, told}
-use Rattle.surf_model.specs.OrientableSurfaces.{IsOrientableSurface}
-use Rattle.surface_commands.specs.Surface.{numbers_of, genera_of}
-use Rattle.closed_surfaces.specs.ComponentGenera.{AreGeneraOf}
-use Rattle.surf_model.specs.Genera.{AreNumbersOf}
-use Rattle.surface_commands.specs.SurfaceInput.{of_few_components}
-use Rattle.trial_commands.specs.Trial.{IsTrialRow, IsTried, AreDecisions, IsRightOn, is_within, size_fault, surface_spelled, pair_walks, pair_decided, pairs_decided, trial_text, trial}
 use Rattle.commands.specs.declared.status.Status.{Status}
 use Rattle.commands.specs.declared.status.Status.TheVariants.{Yes, Refused}
-use Rattle.surf_model.specs.declared.numbers.SurfaceNumbers.{SurfaceNumbers}
+use Rattle.std.specs.Prelude.{length}
+use Rattle.surf_model.specs.Surfaces.{IsSurface}
+use Rattle.walk_files.proofs.PairLemmas.{none_of_pair}
+use Rattle.surf_model.specs.declared.decisions.Answer as deciding
+use Rattle.trial_commands.specs.Trial.{IsTrialRow, IsTried, AreDecisions, IsRightOn, is_within, size_fault, surface_spelled, pair_walks, pair_decided, pairs_decided, trial_text, trial}
 use Rattle.trial_commands.specs.declared.trial.Decisions.{Decisions}
 use Rattle.trial_commands.proofs.ChainReading.{chain_read}
-use Rattle.commands.proofs.Deciding.{behind, refused_behind}
-use Rattle.surface_commands.proofs.Measuring.{as_passes}
-use Rattle.closed_surfaces.proofs.SomeParts.{some_parts}
-use Rattle.commands.proofs.Sound.{sound-pass_unless, meant_told, unless_told}
-use Rattle.surface_commands.proofs.Surfaces.{sound-few, few_pass}
-use Rattle.manifold_check.proofs.PartPieces.{joined_few}
 use Rattle.trial_commands.proofs.Trying.{spelled_passed, sound-spelled, sizes, within_bounds, with_surface, with_few, with_numbers, with_genera, with_decisions, with_cell, with_loops, in_order, on_pair}
 
 -- ---- out of bounds

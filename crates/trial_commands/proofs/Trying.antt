@@ -1,41 +1,15 @@
 -- How the checks of `trial` end.
-use Rattle.std.proofs.Common.{◌≡◌, inl, inr, ℕ, true, false, List, [], ◌∷◌, refl, sym, subst, codes}
-use Rattle.std.specs.Prelude.{Option, Some, None, Result, Ok, Err, IfOk, MatchResult, decimal, ◌↔◌}
-use Rattle.surf_io.specs.Files.{Files}
-use Rattle.surf_model.specs.FaceLists.{FaceList, IsFaceList}
-use Rattle.off_reader.specs.OffTexts.{meaning_of}
-use Rattle.off_reader.specs.declared.off_fault.OffFault.{OffFault}
-use Rattle.surf_gen.specs.declared.walks.TrialPair.{TrialPair}
-use Rattle.surf_gen.specs.declared.walks.TrialPair.TheVariants.{Commuting, Cell, Loops}
-use Rattle.surf_model.specs.declared.decisions.Answer as deciding
-use Rattle.surf_model.specs.declared.decisions.Answer.TheVariants.{Homotopic, Different}
-use Rattle.surf_gen.specs.ChainTexts.{chain_text}
-use Rattle.surf_gen.specs.TrialWalks.{first_walk, second_walk}
-use Rattle.surf_gen.specs.declared.limits.TheConstants.{MOST_GENUS, LEAST_GRID, MOST_GRID}
-use Rattle.surf_model.specs.Moves as moves
-use Rattle.walk_files.specs.Pairs.{pair_fault}
-use Rattle.walk_files.specs.declared.pair.PairFault.{PairFault}
-use Rattle.commands.specs.Answers.{Answer, yes_with}
-use Rattle.commands.specs.Checks.{Check, End, Refuse, Pass, Passes, meant, pass, pass_unless, ◌>>=◌}
-use Rattle.commands.specs.Inputs.{walk_at}
-use Rattle.commands.specs.Refusals.{off_line, pair_line, told}
-use Rattle.commands.specs.Stops.{Stops, Tells}
-use Rattle.surf_model.specs.OrientableSurfaces.{IsOrientableSurface}
-use Rattle.surf_model.specs.Genera.{AreNumbersOf}
-use Rattle.closed_surfaces.specs.ComponentGenera.{AreGeneraOf}
-use Rattle.surface_commands.specs.Surface.{numbers_of, genera_of}
-use Rattle.surface_commands.specs.SurfaceInput.{as_surface, of_few_components}
-use Rattle.trial_commands.specs.Trial.{is_within, size_fault, surface_spelled, decision_on, pair_walks, pair_decided, pairs_decided, trial_text, trial}
-use Rattle.commands.specs.declared.stop.Stop.{Stop}
-use Rattle.surf_model.specs.declared.numbers.SurfaceNumbers.{SurfaceNumbers}
+use Rattle.trial_commands.proofs.Common.{AreGeneraOf, stops_first, stops_next, told_stops, one_decision, differs, IsSound, sound-then, sound-pass, sound-meant, sound-pass_unless, Answer, yes_with, Check, End, Refuse, Pass, Passes, meant, pass, pass_unless, ◌>>=◌, off_line, pair_line, told, Stops, Tells, meaning_of, ◌≡◌, inl, inr, ℕ, true, false, List, [], ◌∷◌, refl, sym, subst, codes, Option, Some, None, Result, Ok, Err, IfOk, MatchResult, decimal, ◌↔◌, chain_text, first_walk, second_walk, MOST_GENUS, LEAST_GRID, MOST_GRID, TrialPair, Commuting, Cell, Loops, Files, FaceList, IsFaceList, AreNumbersOf, IsOrientableSurface, Homotopic, Different, SurfaceNumbers, sound-numbers, sound-genera, as_passed, sound-as_surface, sound-few, few_passed, numbers_of, genera_of, as_surface, of_few_components, pair_fault}
 use Rattle.closed_surfaces.specs.declared.signed_mesh.SignedMesh.{SignedMesh}
-use Rattle.trial_commands.specs.declared.trial.Decisions.{Decisions}
-use Rattle.commands.proofs.Checking.{stops_first, stops_next, told_stops}
-use Rattle.commands.proofs.Deciding.{one_decision, differs}
-use Rattle.surface_commands.proofs.Measuring.{sound-numbers, sound-genera, as_passed}
 use Rattle.commands.proofs.MeshTexts.{is_face_list}
-use Rattle.commands.proofs.Sound.{IsSound, sound-then, sound-pass, sound-meant, sound-pass_unless}
-use Rattle.surface_commands.proofs.Surfaces.{sound-as_surface, sound-few, few_passed}
+use Rattle.commands.specs.Inputs.{walk_at}
+use Rattle.commands.specs.declared.stop.Stop.{Stop}
+use Rattle.off_reader.specs.declared.off_fault.OffFault.{OffFault}
+use Rattle.walk_files.specs.declared.pair.PairFault.{PairFault}
+use Rattle.surf_model.specs.declared.decisions.Answer as deciding
+use Rattle.surf_model.specs.Moves as moves
+use Rattle.trial_commands.specs.Trial.{is_within, size_fault, surface_spelled, decision_on, pair_walks, pair_decided, pairs_decided, trial_text, trial}
+use Rattle.trial_commands.specs.declared.trial.Decisions.{Decisions}
 
 -- what is meant and passes is what was read
 meant_mesh : (read : Result FaceList OffFault) (mesh : FaceList) → Passes (meant off_line read) mesh → read ≡ Ok mesh

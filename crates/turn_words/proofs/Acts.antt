@@ -1,6 +1,5 @@
 -- What a put means for a state, and for a recorder.
-use Rattle.std.proofs.Common.{◌≡◌, ℕ, ◌<◌, arith, sym, ◌∙◌, ap, ap₂, List, [], ◌∷◌, ◌++◌, length, reverse, Option, Some}
-use Rattle.std.proofs.lemmas.List.{reverse-reverse, append-nil}
+use Rattle.turn_words.proofs.Common.{◌≡◌, ℕ, ◌<◌, arith, sym, ◌∙◌, ap, ap₂, List, [], ◌∷◌, ◌++◌, length, reverse, Option, Some, reverse-reverse, append-nil}
 use Rattle.turn_words.specs.Modulo.{add, minus}
 use Rattle.turn_words.specs.PutTurns.{put}
 use Rattle.turn_words.specs.HyperStates.{HyperState, turn_to, value_at, hyper_next, BelongsTo, LeadOn}

@@ -1,6 +1,5 @@
 -- Spokes put one after another, in two lists.
-use Rattle.std.proofs.Common.{◌≡◌, ℕ, refl, sym, ◌∙◌, ap, List, [], ◌∷◌, ◌++◌, append_assoc}
-use Rattle.std.proofs.lemmas.List.{append-nil}
+use Rattle.turn_words.proofs.Common.{◌≡◌, ℕ, refl, sym, ◌∙◌, ap, List, [], ◌∷◌, ◌++◌, append_assoc, append-nil}
 use Rattle.turn_words.specs.FormLaws.{led, NotesAlong}
 use Rattle.turn_words.specs.declared.step.Step.{Step}
 

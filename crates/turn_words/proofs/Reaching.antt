@@ -1,9 +1,6 @@
 -- The steps of a put lead to its word, in front of whatever comes next; so a word reaches what its entries, put one
 -- after another, leave.
-use Rattle.std.proofs.Common.{◌≡◌, ℕ, ◌<◌, ◌≤◌, inl, inr, arith, refl, sym, ◌∙◌, ap, true, false, List, [], ◌∷◌, ◌++◌, reverse, length, Option, Some, None}
-use Rattle.std.specs.Prelude.{option_map, option_and_then}
-use Rattle.std.proofs.lemmas.Bool.{cases_eq, eq-eqb, ne_eqb}
-use Rattle.std.proofs.lemmas.List.{append-nil, length-reverse}
+use Rattle.turn_words.proofs.Common.{◌≡◌, ℕ, ◌<◌, ◌≤◌, inl, inr, arith, refl, sym, ◌∙◌, ap, true, false, List, [], ◌∷◌, ◌++◌, reverse, length, Option, Some, None, cases_eq, eq-eqb, ne_eqb, append-nil, length-reverse, option_map, option_and_then}
 use Rattle.turn_words.specs.Modulo.{add, minus}
 use Rattle.turn_words.specs.PutTurns.{Put, is_open, flipped, closed, put}
 use Rattle.turn_words.specs.Private.PutSteps.{flip_steps, close_steps, put_steps}

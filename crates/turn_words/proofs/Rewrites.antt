@@ -1,7 +1,5 @@
 -- What a flip and a close make of a word that is read from its end, and the steps that they note.
-use Rattle.std.proofs.Common.{◌≡◌, ◌≢◌, ℕ, ◌+◌, ◌-◌, ◌<◌, ◌≤◌, inl, inr, arith, refl, sym, ◌∙◌, ap, ap₂, zero, suc, Bool, true, false, List, [], ◌∷◌, ◌++◌, All, length, reverse, replicate, Option, Some, None, append_assoc}
-use Rattle.std.proofs.lemmas.Bool.{eq-eqb, ne_eqb}
-use Rattle.std.proofs.lemmas.List.{append-nil, length-append, length-replicate, length-reverse}
+use Rattle.turn_words.proofs.Common.{◌≡◌, ◌≢◌, ℕ, ◌+◌, ◌-◌, ◌<◌, ◌≤◌, inl, inr, arith, refl, sym, ◌∙◌, ap, ap₂, zero, suc, Bool, true, false, List, [], ◌∷◌, ◌++◌, All, length, reverse, replicate, Option, Some, None, append_assoc, eq-eqb, ne_eqb, append-nil, length-append, length-replicate, length-reverse}
 use Rattle.turn_words.specs.Modulo.{minus}
 use Rattle.turn_words.specs.PutTurns.{is_open, flipped, closed}
 use Rattle.turn_words.specs.Recorded.{with_steps}

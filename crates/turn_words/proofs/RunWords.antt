@@ -1,7 +1,5 @@
 -- A word as it is kept, and what the edits at its end make of it.
-use Rattle.std.proofs.Common.{◌≡◌, ◌≢◌, ℕ, ◌+◌, ◌-◌, ◌<◌, ◌≤◌, ◌^◌, ◌⊎◌, inl, inr, arith, refl, sym, ◌∙◌, ap, ap₂, zero, suc, true, false, eqb, ◌&&◌, List, [], ◌∷◌, ◌++◌, length, reverse, replicate, take, drop, get_or}
-use Rattle.std.proofs.lemmas.Bool.{cases_eq, eq-eqb, ne_eqb}
-use Rattle.std.proofs.lemmas.List.{length-append, length-replicate, length-take-le, length_push, get_or-take, take_more, take-append-drop}
+use Rattle.turn_words.proofs.Common.{◌≡◌, ◌≢◌, ℕ, ◌+◌, ◌-◌, ◌<◌, ◌≤◌, ◌^◌, ◌⊎◌, inl, inr, arith, refl, sym, ◌∙◌, ap, ap₂, zero, suc, true, false, eqb, ◌&&◌, List, [], ◌∷◌, ◌++◌, length, reverse, replicate, take, drop, get_or, cases_eq, eq-eqb, ne_eqb, length-append, length-replicate, length-take-le, length_push, get_or-take, take_more, take-append-drop}
 use Rattle.std.specs.Bool.{Decides}
 use Rattle.turn_words.specs.Modulo.{add}
 use Rattle.turn_words.specs.PutTurns.{is_open}

@@ -1,7 +1,5 @@
 -- The table of the five cases, with the word written from its start.
-use Rattle.std.proofs.Common.{◌≡◌, ◌≢◌, ℕ, ◌≤◌, inl, inr, refl, sym, ◌∙◌, ap, ap₂, zero, suc, true, List, [], ◌∷◌, ◌++◌, reverse, replicate, append_assoc}
-use Rattle.std.proofs.lemmas.Bool.{cases_Bool}
-use Rattle.std.proofs.lemmas.List.{reverse-append, reverse-reverse}
+use Rattle.turn_words.proofs.Common.{◌≡◌, ◌≢◌, ℕ, ◌≤◌, inl, inr, refl, sym, ◌∙◌, ap, ap₂, zero, suc, true, List, [], ◌∷◌, ◌++◌, reverse, replicate, append_assoc, cases_Bool, reverse-append, reverse-reverse}
 use Rattle.turn_words.specs.Modulo.{add, minus}
 use Rattle.turn_words.specs.PutTurns.{Put, is_open, flipped, closed, put, put_last}
 use Rattle.turn_words.specs.FiveCases.{FiveCases}

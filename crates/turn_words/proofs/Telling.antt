@@ -1,5 +1,5 @@
 -- What a recorder tells after more steps were noted, one after another.
-use Rattle.std.proofs.Common.{◌≡◌, sym, ◌∙◌, ap, subst, List, [], ◌++◌, Option, Some, None, append_assoc}
+use Rattle.turn_words.proofs.Common.{◌≡◌, sym, ◌∙◌, ap, subst, List, [], ◌++◌, Option, Some, None, append_assoc}
 use Rattle.turn_words.specs.Recorded.{with_steps, TellsMore}
 use Rattle.turn_words.specs.declared.step.Step.{Step}
 

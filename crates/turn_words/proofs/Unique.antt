@@ -1,6 +1,5 @@
 -- A turn word reaches one canonical word: the one that is left when its entries are put one after another.
-use Rattle.std.proofs.Common.{◌≡◌, ◌↔◌, ℕ, ◌+◌, ◌<◌, ◌≤◌, arith, refl, sym, ◌∙◌, ap, ap₂, subst, zero, suc, List, [], ◌∷◌, ◌++◌, All, length, reverse, take, get_or}
-use Rattle.std.proofs.lemmas.List.{reverse-reverse, take_more, take_all}
+use Rattle.turn_words.proofs.Common.{◌≡◌, ◌↔◌, ℕ, ◌+◌, ◌<◌, ◌≤◌, arith, refl, sym, ◌∙◌, ap, ap₂, subst, zero, suc, List, [], ◌∷◌, ◌++◌, All, length, reverse, take, get_or, reverse-reverse, take_more, take_all}
 use Rattle.turn_words.specs.Modulo.{add}
 use Rattle.turn_words.specs.PutTurns.{put}
 use Rattle.turn_words.specs.StepTable.{Reaches}

@@ -1,41 +1,19 @@
 -- What a certificate that convinces is written as spells it again, and `verify` accepts it.
-use Rattle.std.proofs.Common.{◌≡◌, ℕ, ◌^◌, ◌<◌, ◌≤◌, List, [], length, length-append, refl, sym, ap, subst, arith}
-use Rattle.std.specs.Prelude.{codes, Option, Some, Result, Ok, Err}
-use Rattle.surf_io.specs.Files.{Files}
-use Rattle.surf_model.specs.FaceLists.{FaceList, IsFaceList, HasFileSize}
-use Rattle.surf_model.specs.Moves.{PeakedMoves}
-use Rattle.surf_model.specs.Walks.{IsWalk}
-use Rattle.move_checker.specs.Verdicts.{verdict_of}
-use Rattle.move_checker.specs.declared.judge.Verdict.{Verdict}
-use Rattle.move_checker.specs.declared.judge.Verdict.TheVariants.{Accepted}
-use Rattle.move_checker.proofs.Judgement.{accepted_exactly}
-use Rattle.labellings.specs.declared.denial.Denial as denials
-use Rattle.walk_files.specs.Certificates.{head_of_text, moves_of_text, with_peak, list_behind, list_of_text}
-use Rattle.walk_files.specs.Denials.{denial_of_lines, denial_behind, denial_of_text}
-use Rattle.walk_files.specs.DenialTexts.{denial_text}
-use Rattle.walk_files.specs.MoveTexts.{list_text}
-use Rattle.walk_files.specs.declared.certificate.CertHead.{CertHead}
-use Rattle.walk_files.specs.declared.certificate.CertHead.TheVariants as heads
-use Rattle.walk_files.specs.declared.fault.CertFault.{CertFault}
-use Rattle.walk_files.proofs.RoundTrip.{list_of_text-answered}
-use Rattle.walk_files.proofs.DenialRoundTrip.{denial_of_text-answered}
-use Rattle.labellings.specs.declared.verdict.DenialVerdict.TheVariants as verdicts
+use Rattle.verify_commands.proofs.Common.{Pass, as_certificate, certificate_behind, certificate_of, SpellsCertificate, Outcome, IsAnswerOf, Certificate, Moves, Denial, MOST_BYTES, Status, Yes, accepted_exactly, verdict_of, Verdict, Accepted, ◌≡◌, ℕ, ◌^◌, ◌<◌, ◌≤◌, List, [], length, length-append, refl, sym, ap, subst, arith, Option, Some, Result, Ok, Err, Files, FaceList, IsFaceList, HasFileSize, PeakedMoves, IsWalk, head_of_text, moves_of_text, with_peak, list_behind, list_of_text, denial_text, denial_of_lines, denial_behind, denial_of_text, list_text, CertHead, CertFault}
+use Rattle.commands.specs.Certificates.{Convinces, IsPeakLow, decision_line, certificate_text}
+use Rattle.commands.specs.Lines.{line}
+use Rattle.std.specs.Prelude.{codes}
 use Rattle.surf_model.specs.declared.decisions.Answer.TheVariants.{Homotopic, Different}
+use Rattle.walk_files.proofs.DenialRoundTrip.{denial_of_text-answered}
+use Rattle.walk_files.proofs.RoundTrip.{list_of_text-answered}
+use Rattle.labellings.specs.declared.denial.Denial as denials
+use Rattle.walk_files.specs.declared.certificate.CertHead.TheVariants as heads
+use Rattle.labellings.specs.declared.verdict.DenialVerdict.TheVariants as verdicts
 use Rattle.verify_commands.proofs.FittingDenials.{denial_fits}
 use Rattle.verify_commands.proofs.FittingMoves.{list_fits}
 use Rattle.verify_commands.proofs.VerifyRows.{sound-verify}
 use Rattle.verify_commands.proofs.VerifyOutcomes.{judged_input}
-use Rattle.commands.specs.Certificates.{Convinces, IsPeakLow, decision_line, certificate_text}
-use Rattle.commands.specs.Checks.{Pass}
-use Rattle.commands.specs.Inputs.{as_certificate, certificate_behind, certificate_of, SpellsCertificate}
-use Rattle.commands.specs.Lines.{line}
-use Rattle.commands.specs.Outcomes.{Outcome, IsAnswerOf}
 use Rattle.verify_commands.specs.Verify.{verify, judgement, IsVerifyInput, verdict_answer, denial_answer}
-use Rattle.commands.specs.declared.certificate.Certificate.{Certificate}
-use Rattle.commands.specs.declared.certificate.Certificate.TheVariants.{Moves, Denial}
-use Rattle.commands.specs.declared.inputs.TheConstants.{MOST_BYTES}
-use Rattle.commands.specs.declared.status.Status.{Status}
-use Rattle.commands.specs.declared.status.Status.TheVariants.{Yes}
 
 -- ---- the certificate of a text that is a list, and of one that is a denial
 

@@ -1,24 +1,15 @@
 -- The numbers of a denial that holds are those of the program, and its words are points exactly where its degree is 4.
-use Rattle.std.proofs.Common.{◌≡◌, inl, inr, ℕ, ◌+◌, ◌^◌, ◌<◌, ◌≤◌, ◌&&◌, eqb, lit≤, true, false, List, [], ◌∷◌, length, length-append, get_or, refl, ap, subst, ◌∙◌, arith, ℤ, pos, negsuc, ◌+ℤ◌, ◌-ℤ◌}
-use Rattle.std.specs.Prelude.{All, Option, Some, None}
-use Rattle.std.proofs.lemmas.Bool.{cases_Bool, lt-ltb}
-use Rattle.std.proofs.lemmas.Int.{ints}
-use Rattle.std.proofs.lemmas.List.{get_or_default}
-use Rattle.surf_model.specs.FaceLists.{FaceList, FaceSide}
-use Rattle.surf_model.specs.Edges.{side_name}
-use Rattle.text_scan.specs.Numbers.{fits_i64}
-use Rattle.turn_words.specs.declared.word.Word.{Word}
-use Rattle.turn_words.specs.declared.word.Word.TheVariants.{Turns, Flat}
-use Rattle.flat_forms.specs.Vectors.{unit_step}
-use Rattle.flat_forms.specs.Pairs.{sum_of_pairs}
+use Rattle.verify_commands.proofs.Common.{DenialHolds, IsGood, FaceLabels, LabellingView, tail_label, head_label, ◌≡◌, inl, inr, ℕ, ◌+◌, ◌^◌, ◌<◌, ◌≤◌, ◌&&◌, eqb, lit≤, true, false, List, [], ◌∷◌, length, length-append, get_or, refl, ap, subst, ◌∙◌, arith, ℤ, pos, negsuc, ◌+ℤ◌, ◌-ℤ◌, cases_Bool, lt-ltb, get_or_default, All, Option, Some, None, side_name, FaceList, FaceSide, AreNumbers, FitsDegree, ReadsBack, denial_text}
 use Rattle.flat_forms.specs.Lemmas.StepsInThePlane.{right_one, up_one, left_one, down_one, is-unit}
-use Rattle.labellings.specs.Denials.{DenialHolds}
-use Rattle.labellings.specs.GoodLabellings.{IsGood}
-use Rattle.labellings.specs.Labellings.{FaceLabels, LabellingView, tail_label, head_label}
+use Rattle.flat_forms.specs.Pairs.{sum_of_pairs}
+use Rattle.flat_forms.specs.Vectors.{unit_step}
 use Rattle.labellings.specs.QuadPaths.{quad_path, side_from, spokes, spokes_by_labels, spokes_of_sides}
 use Rattle.labellings.specs.WalkWords.{in_pairs, IsWordOf}
 use Rattle.labellings.specs.declared.denial.Denial.{Denial}
-use Rattle.walk_files.specs.DenialTexts.{AreNumbers, FitsDegree, ReadsBack, denial_text}
+use Rattle.std.proofs.lemmas.Int.{ints}
+use Rattle.text_scan.specs.Numbers.{fits_i64}
+use Rattle.turn_words.specs.declared.word.Word.{Word}
+use Rattle.turn_words.specs.declared.word.Word.TheVariants.{Turns, Flat}
 use Rattle.verify_commands.proofs.TextLengths.{places_below}
 
 -- ---- how far some steps lead

@@ -1,21 +1,14 @@
 -- The numbers of a list of moves that leads are those of the program.
-use Rattle.std.proofs.Common.{◌≡◌, ℕ, ◌+◌, ◌^◌, ◌<◌, ◌≤◌, Bool, true, false, eqb, List, [], ◌∷◌, length, take, drop, get_or, refl, subst, arith}
-use Rattle.std.specs.Prelude.{if◌then◌else◌, ◌&&◌, nat_lt, nat_le, All, sum_by, Some, None}
-use Rattle.std.proofs.lemmas.Bool.{and_parts, eqb-true, ltb-true, leb-true}
+use Rattle.verify_commands.proofs.Common.{greatest_darts-more, greatest_darts-first, ◌≡◌, ℕ, ◌+◌, ◌^◌, ◌<◌, ◌≤◌, Bool, true, false, eqb, List, [], ◌∷◌, length, take, drop, get_or, refl, subst, arith, and_parts, eqb-true, ltb-true, leb-true, if◌then◌else◌, nat_lt, nat_le, All, sum_by, Some, None, FaceList, IsFace, IsFaceList, HasFileSize, face_at, corners_from, is_edge, is_used, total_sides, PeakedMoves, apply, apply_all, Leads, greatest_darts, same_walk, IsWalk, darts, Move, MoveFits, FitsFormat, list_text}
 use Rattle.std.proofs.lemmas.List.Elements.{All-head, All-tail, All-cons, All-nil}
 use Rattle.std.proofs.lemmas.List.Sums.{sum_by-cons, get_or-le-sum_by}
 use Rattle.std.proofs.lemmas.Option.{option_and_then_some}
-use Rattle.surf_model.specs.FaceLists.{FaceList, IsFace, IsFaceList, HasFileSize, face_at, corners_from, is_edge, is_used, total_sides}
-use Rattle.surf_model.specs.Walks.{IsWalk, darts}
-use Rattle.surf_model.specs.Moves.{PeakedMoves, apply, apply_all, Leads, greatest_darts, same_walk}
-use Rattle.surf_model.specs.declared.limits.TheConstants.{MOST_PEAK}
-use Rattle.surf_model.specs.declared.moves.Move.{Move}
-use Rattle.surf_model.specs.declared.moves.Move.TheVariants.{Insert, Remove, Across}
+use Rattle.std.specs.Prelude.{◌&&◌}
 use Rattle.surf_model.proofs.EdgeLemmas.{head_used, used_below}
 use Rattle.surf_model.proofs.WayBackLemmas.{keeps_walk}
-use Rattle.move_checker.proofs.Judgement.{greatest_darts-more, greatest_darts-first}
 use Rattle.surf_model.specs.PeakedLists.{LeadsAtPeak}
-use Rattle.walk_files.specs.MoveTexts.{MoveFits, FitsFormat, list_text}
+use Rattle.surf_model.specs.declared.limits.TheConstants.{MOST_PEAK}
+use Rattle.surf_model.specs.declared.moves.Move.TheVariants.{Insert, Remove, Across}
 use Rattle.verify_commands.proofs.TextLengths.{moves_below}
 
 -- ---- the numbers of a mesh

@@ -1,21 +1,9 @@
 -- A certificate, line by line.
-use Rattle.std.proofs.Common.{◌≡◌, ℕ, List, [], ◌∷◌, ◌++◌, refl, ap, ◌∙◌}
-use Rattle.std.specs.Prelude.{Some, None, Result, Ok, Err}
+use Rattle.verify_commands.proofs.Common.{told_stops, meant, certificate_of, certificate_line, Stops, Tells, Stop, ◌≡◌, ℕ, List, [], ◌∷◌, ◌++◌, refl, ap, ◌∙◌, Some, None, Result, Ok, Err, Move, before_ok, before_ok-more, moves_left-started, moves_of_text, head_of_text, answer_first, moves_left, CertFault}
 use Rattle.std.proofs.lemmas.List.{append-nil}
-use Rattle.surf_model.specs.declared.moves.Move.{Move}
-use Rattle.walk_files.specs.Certificates.{moves_of_text, head_of_text}
-use Rattle.walk_files.specs.Readers.{Certificate, answer_first, moves_left}
+use Rattle.walk_files.specs.Readers.{Certificate}
 use Rattle.walk_files.specs.declared.certificate.CertHead.TheVariants.{Moves}
-use Rattle.walk_files.specs.declared.fault.CertFault.{CertFault}
-use Rattle.walk_files.proofs.EachLemmas.{before_ok, before_ok-more}
-use Rattle.walk_files.proofs.ReaderLemmas.{moves_left-started}
 use Rattle.commands.specs.declared.certificate.Certificate.TheVariants as certificates
-use Rattle.commands.proofs.Checking.{told_stops}
-use Rattle.commands.specs.Checks.{meant}
-use Rattle.commands.specs.Inputs.{certificate_of}
-use Rattle.commands.specs.Refusals.{certificate_line}
-use Rattle.commands.specs.Stops.{Stops, Tells}
-use Rattle.commands.specs.declared.stop.Stop.{Stop}
 
 -- ---- all lines
 

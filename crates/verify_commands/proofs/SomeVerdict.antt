@@ -1,28 +1,14 @@
 -- Each denial has a verdict, and one.
-use Rattle.std.proofs.Common.{◌≡◌, ◌⊎◌, inl, inr, ℕ, zero, suc, ◌<◌, List, length, refl, sym, ap, ◌∙◌, subst, arith}
-use Rattle.std.specs.Prelude.{Option, slice_index}
-use Rattle.std.proofs.lemmas.Bool.{cases_lt}
-use Rattle.surf_io.specs.Files.{Files}
-use Rattle.surf_model.specs.Edges.{Edge, edge_in}
-use Rattle.surf_model.specs.FaceLists.{FaceList, IsFaceList}
+use Rattle.verify_commands.proofs.Common.{IsSound, sound-pass, Answer, End, Refuse, Pass, Certificate, Moves, Denial, IsVerdict, HasShape, HasDegree, HasPlaces, IsGood, LabellingView, DenialVerdict, ◌≡◌, ◌⊎◌, inl, inr, ℕ, zero, suc, ◌<◌, List, length, refl, sym, ap, ◌∙◌, subst, arith, cases_lt, Option, slice_index, Files, Edge, edge_in, FaceList, IsFaceList}
+use Rattle.labellings.proofs.EdgeRuleLemmas.{each-edge, least-against}
+use Rattle.labellings.proofs.VerdictLemmas.{one_verdict}
+use Rattle.labellings.specs.TableRules.{EntryMeetsRule}
+use Rattle.labellings.specs.declared.fault.LabelFault.TheVariants.{Shape, Degree, PlaceTwice, EdgeRule}
+use Rattle.labellings.specs.declared.verdict.DenialVerdict.TheVariants.{Label, WordWrong, Equal, Accepted}
 use Rattle.surf_model.proofs.EdgeTables.{some_table}
 use Rattle.turn_words.specs.Wheels.{StandsTwice, IsFirstTwice}
-use Rattle.labellings.specs.GoodLabellings.{HasShape, HasDegree, HasPlaces, IsGood}
-use Rattle.labellings.specs.Labellings.{LabellingView}
-use Rattle.labellings.specs.TableRules.{EntryMeetsRule}
 use Rattle.labellings.specs.declared.denial.Denial as denials
-use Rattle.labellings.specs.declared.fault.LabelFault.TheVariants.{Shape, Degree, PlaceTwice, EdgeRule}
-use Rattle.labellings.proofs.EdgeRuleLemmas.{each-edge, least-against}
-use Rattle.labellings.specs.DenialVerdicts.{IsVerdict}
-use Rattle.labellings.specs.declared.verdict.DenialVerdict.{DenialVerdict}
-use Rattle.labellings.specs.declared.verdict.DenialVerdict.TheVariants.{Label, WordWrong, Equal, Accepted}
-use Rattle.labellings.proofs.VerdictLemmas.{one_verdict}
-use Rattle.commands.proofs.Sound.{IsSound, sound-pass}
-use Rattle.commands.specs.Answers.{Answer}
-use Rattle.commands.specs.Checks.{End, Refuse, Pass}
 use Rattle.verify_commands.specs.Verify.{judgement, denial_answer}
-use Rattle.commands.specs.declared.certificate.Certificate.{Certificate}
-use Rattle.commands.specs.declared.certificate.Certificate.TheVariants.{Moves, Denial}
 
 -- below a bound there is a least number of which something fails, or it holds of all
 least_or_all : (n : ℕ) (P : ℕ → Type 0) → ((k : ℕ) → k < n → (P k → ⊥) → ((j : ℕ) → j < k → P j) → ⊥) → (((j : ℕ) → j < n → P j) → ⊥) → ⊥

@@ -1,36 +1,16 @@
 -- A certificate that is read in pieces, and judged while it is read.
-use Rattle.std.proofs.Common.{true, ◌≡◌, inl, inr, ℕ, ◌+◌, ◌<◌, ◌≤◌, List, [], ◌∷◌, ◌++◌, length, refl, sym, ap, ◌∙◌, subst}
-use Rattle.std.specs.Prelude.{Option, Some, None, Result, Ok, Err, IfSome, IsSome, MatchOption}
-use Rattle.surf_io.specs.Files.{Files, file_of}
-use Rattle.surf_model.specs.declared.moves.Move.{Move}
+use Rattle.verify_commands.proofs.Common.{stops_next, told_stops, IsText, Texts, Check, End, Refuse, Passes, IsTold, file, meant, where_told, IsCertificateEnd, certificate_in, certificate_in_bytes, certificate_of, certificate_line, too_large, Stops, StopsReading, bytes_of, Certificate as Certified, MOST_BYTES, Stop, Refused, ReadFault, OutOfMemory, true, ◌≡◌, inl, inr, ℕ, ◌+◌, ◌<◌, ◌≤◌, List, [], ◌∷◌, ◌++◌, length, refl, sym, ap, ◌∙◌, subst, Option, Some, None, Result, Ok, Err, IsSome, MatchOption, Files, file_of, Move, before_ok, moves_left-step, head_of_text, moves_of_text, denial_of_lines, count_in, next_answer, after_answer, answer_first, moves_left, denial_left, Streamed, reader_at, streams_list, IsIn, IsAnswer, IsWithin, CertHead, Labels, CertFault, StreamEnd}
+use Rattle.commands.specs.declared.refusal.Input.{Input}
+use Rattle.commands.specs.declared.text.Text.{Text}
 use Rattle.labellings.specs.declared.denial.Denial.{Denial}
-use Rattle.walk_files.specs.Certificates.{head_of_text, moves_of_text}
-use Rattle.walk_files.specs.Denials.{denial_of_lines}
-use Rattle.walk_files.specs.Readers.{Certificate, count_in, next_answer, after_answer, answer_first, moves_left, denial_left}
-use Rattle.walk_files.specs.Streams.{Streamed, reader_at, streams_list, IsIn, IsAnswer, IsWithin}
-use Rattle.walk_files.specs.declared.certificate.CertHead.{CertHead}
-use Rattle.walk_files.specs.declared.certificate.CertHead.TheVariants.{Moves, Labels}
-use Rattle.walk_files.specs.declared.fault.CertFault.{CertFault}
-use Rattle.walk_files.specs.declared.stream_end.StreamEnd.{StreamEnd}
+use Rattle.std.specs.Prelude.{IfSome}
+use Rattle.walk_files.specs.Readers.{Certificate}
+use Rattle.walk_files.specs.declared.certificate.CertHead.TheVariants.{Moves}
 use Rattle.walk_files.specs.declared.stream_end.StreamEnd.TheVariants.{Fault, TooLarge, Cert}
 use Rattle.walk_files.specs.declared.stream_end.StreamEnd.TheVariants as ends
-use Rattle.walk_files.proofs.EachLemmas.{before_ok}
-use Rattle.walk_files.proofs.ReaderLemmas.{moves_left-step}
-use Rattle.commands.specs.Answers.{IsText, Texts}
-use Rattle.commands.specs.Checks.{Check, End, Refuse, Passes, IsTold, file, meant, where_told}
-use Rattle.commands.specs.Inputs.{IsCertificateEnd, certificate_in, certificate_in_bytes, certificate_of}
 use Rattle.verify_commands.specs.Progress.{peak_in}
-use Rattle.commands.specs.Refusals.{certificate_line, too_large}
-use Rattle.commands.specs.Stops.{Stops, StopsReading, bytes_of}
-use Rattle.commands.specs.declared.certificate.Certificate.{Certificate as Certified}
 use Rattle.commands.specs.declared.certificate.Certificate.TheVariants as certificates
-use Rattle.commands.specs.declared.inputs.TheConstants.{MOST_BYTES}
-use Rattle.commands.specs.declared.refusal.Input.{Input}
 use Rattle.commands.specs.declared.refusal.Input.TheVariants as inputs
-use Rattle.commands.specs.declared.stop.Stop.{Stop}
-use Rattle.commands.specs.declared.stop.Stop.TheVariants.{Refused, ReadFault, OutOfMemory}
-use Rattle.commands.specs.declared.text.Text.{Text}
-use Rattle.commands.proofs.Checking.{stops_next, told_stops}
 use Rattle.verify_commands.proofs.Gathering.{list-moves, list-wrong, one_more, none_more, wrong_line, left_start, text_stops}
 
 -- ---- files that are told

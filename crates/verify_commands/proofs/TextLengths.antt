@@ -1,14 +1,9 @@
 -- A text is at least as long as its lines are many, and a line as its words are.
-use Rattle.std.proofs.Common.{ℕ, ◌+◌, ◌≤◌, List, [], ◌∷◌, ◌++◌, length, length-append, map, ap, arith}
-use Rattle.std.specs.Prelude.{decimal, flat_map}
-use Rattle.std.specs.List.{join_with_byte}
-use Rattle.std.proofs.lemmas.Grind.{flat_map-append}
-use Rattle.std.proofs.lemmas.List.{length-map}
-use Rattle.text_scan.specs.Plain.{line_of}
-use Rattle.surf_model.specs.Moves.{PeakedMoves}
+use Rattle.verify_commands.proofs.Common.{ℕ, ◌+◌, ◌≤◌, List, [], ◌∷◌, ◌++◌, length, length-append, map, ap, arith, length-map, decimal, flat_map, PeakedMoves, face_words, places_words, word_words, labels_head_words, lines_behind_faces, denial_text, move_words, list_lines, list_text}
 use Rattle.labellings.specs.declared.denial.Denial.{Denial}
-use Rattle.walk_files.specs.MoveTexts.{move_words, list_lines, list_text}
-use Rattle.walk_files.specs.DenialTexts.{face_words, places_words, word_words, labels_head_words, lines_behind_faces, denial_text}
+use Rattle.std.proofs.lemmas.Grind.{flat_map-append}
+use Rattle.std.specs.List.{join_with_byte}
+use Rattle.text_scan.specs.Plain.{line_of}
 
 -- words with a byte between each two
 joined : (words : List (List ℕ)) → length words ≤ length (join_with_byte 32 words) + 1

@@ -1,36 +1,15 @@
 -- `verify` in the words of the mesh.
-use Rattle.std.proofs.Common.{◌≡◌, inr, ℕ, ◌≤◌, List, [], ◌∷◌, codes, refl, sym, ap, ◌∙◌, subst}
-use Rattle.std.specs.Prelude.{◌↔◌, Option}
-use Rattle.surf_io.specs.Files.{Files}
-use Rattle.surf_model.specs.FaceLists.{FaceList}
-use Rattle.surf_model.specs.Moves.{PeakedMoves, Leads, greatest_darts}
-use Rattle.move_checker.specs.Verdicts.{verdict_of}
-use Rattle.move_checker.specs.declared.judge.Verdict.{Verdict}
-use Rattle.move_checker.specs.declared.judge.Verdict.TheVariants.{Accepted, Peak, AtMove, End}
-use Rattle.move_checker.proofs.Judgement.{accepted_exactly}
-use Rattle.labellings.specs.Denials.{DenialHolds}
-use Rattle.labellings.specs.declared.denial.Denial.{Denial}
+use Rattle.verify_commands.proofs.Common.{mesh_valid, mesh_passes, held, meant_told, Answer, IsText, Refuse, Pass, Passes, IsTold, Holds, IsCertificateEnd, certificate_in, certificate_in_bytes, certificate_of, SpellsPair, SpellsCertificate, Outcome, AnswersTo, IsAnswerOf, certificate_line, Certificate, Status, Yes, IsVerdict, DenialHolds, DenialVerdict, accepted_exactly, verdict_of, Verdict, Accepted, Peak, AtMove, ◌≡◌, inr, ℕ, ◌≤◌, List, [], ◌∷◌, codes, refl, sym, ap, ◌∙◌, subst, ◌↔◌, Option, Files, FaceList, PeakedMoves, Leads, greatest_darts}
+use Rattle.commands.proofs.Judgements.{IsJudgedBy, judged_by, judgement_answered}
 use Rattle.labellings.proofs.WalkWordLemmas.{denial_excludes}
-use Rattle.labellings.specs.DenialVerdicts.{IsVerdict}
-use Rattle.labellings.specs.declared.verdict.DenialVerdict.{DenialVerdict}
+use Rattle.labellings.specs.declared.denial.Denial.{Denial}
+use Rattle.move_checker.specs.declared.judge.Verdict.TheVariants.{End}
 use Rattle.labellings.specs.declared.verdict.DenialVerdict.TheVariants as verdicts
 use Rattle.commands.specs.declared.certificate.Certificate.TheVariants as certificates
 use Rattle.commands.specs.declared.refusal.Input.TheVariants as inputs
-use Rattle.commands.proofs.Judgements.{IsJudgedBy, judged_by, judgement_answered}
-use Rattle.commands.proofs.MeshTexts.{mesh_valid}
-use Rattle.commands.proofs.Rows.{mesh_passes}
-use Rattle.commands.proofs.Sound.{held, meant_told}
 use Rattle.verify_commands.proofs.Streaming.{where_told_ends}
 use Rattle.verify_commands.proofs.VerifyRows.{sound-certificate}
-use Rattle.commands.specs.Answers.{Answer, IsText}
-use Rattle.commands.specs.Checks.{Refuse, Pass, Passes, IsTold, Holds}
-use Rattle.commands.specs.Inputs.{IsCertificateEnd, certificate_in, certificate_in_bytes, certificate_of, SpellsPair, SpellsCertificate}
-use Rattle.commands.specs.Outcomes.{Outcome, AnswersTo, IsAnswerOf}
-use Rattle.commands.specs.Refusals.{certificate_line}
 use Rattle.verify_commands.specs.Verify.{verify, verdict_status, denial_status, denial_line, judgement, IsVerifyInput, IsVerified, IsDenialVerified, verdict_answer, denial_answer}
-use Rattle.commands.specs.declared.certificate.Certificate.{Certificate}
-use Rattle.commands.specs.declared.status.Status.{Status}
-use Rattle.commands.specs.declared.status.Status.TheVariants.{Yes}
 
 -- the status is yes exactly where the verdict is that the list is accepted
 yes_accepted : (verdict : Verdict) → verdict_status verdict ≡ Yes → verdict ≡ Accepted
@@ -139,7 +118,8 @@ module _ (files : Option Files) (words : List (List ℕ)) (status : Status) (tex
         let holds = holds_where_yes mesh first second denial told.0 told.1 (sym told.2 ∙ yes) in
         let pair = (held files input.walks_name (SpellsPair mesh first second) input.walks_file).holds in
         denial_excludes mesh first second denial
-        (mesh_valid files input.mesh_name mesh (mesh_passes files input.mesh_name mesh input.mesh_file)) pair.first_walk holds homotopic;
+        (mesh_valid files input.mesh_name mesh (mesh_passes files input.mesh_name mesh input.mesh_file)) pair.are.first_walk holds
+        homotopic;
     accepted = λ mesh first second denial input. (
       λ yes. let told = denial_told mesh first second denial input in holds_where_yes mesh first second denial told.0 told.1
           (sym told.2 ∙ yes),

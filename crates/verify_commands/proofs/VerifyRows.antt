@@ -1,13 +1,5 @@
 -- The certificate that `verify` looks at, and the command: the check of each has an end, and one where its files are told.
-use Rattle.std.proofs.Common.{inl, ℕ, List, refl}
-use Rattle.std.specs.Prelude.{Option}
-use Rattle.surf_io.specs.Files.{Files}
-use Rattle.commands.proofs.MeshTexts.{mesh_valid}
-use Rattle.commands.proofs.Rows.{sound-mesh, sound-pair}
-use Rattle.commands.proofs.Sound.{IsSound, sound-then, sound-meant, sound-file, sound-where_told}
-use Rattle.commands.specs.Checks.{Refuse}
-use Rattle.commands.specs.Inputs.{IsCertificateEnd, certificate_in, certificate_in_bytes, certificate_of, walk_at}
-use Rattle.commands.specs.Refusals.{certificate_line, too_large}
+use Rattle.verify_commands.proofs.Common.{mesh_valid, sound-mesh, sound-pair, IsSound, sound-then, sound-meant, sound-file, sound-where_told, Refuse, IsCertificateEnd, certificate_in, certificate_in_bytes, certificate_of, walk_at, certificate_line, too_large, inl, ℕ, List, refl, Option, Files}
 use Rattle.commands.specs.declared.refusal.Input.TheVariants as inputs
 use Rattle.verify_commands.proofs.SomeVerdict.{sound-judgement}
 use Rattle.verify_commands.specs.Verify.{verify}

@@ -1,26 +1,10 @@
 -- How the checks of `verify` end, by the place where the reading ends, and the verdicts on a denial.
-use Rattle.std.proofs.Common.{inr, ℕ, List, refl, sym, subst, Ok, Err, Result, MatchResult, ◌≡◌}
-use Rattle.std.specs.Prelude.{Option}
-use Rattle.surf_io.specs.Files.{Files}
-use Rattle.surf_model.specs.FaceLists.{FaceList}
-use Rattle.move_checker.specs.Verdicts.{verdict_of}
-use Rattle.move_checker.specs.declared.judge.Verdict.{Verdict}
-use Rattle.labellings.specs.DenialVerdicts.{IsVerdict}
-use Rattle.labellings.specs.declared.denial.Denial as denials
-use Rattle.labellings.specs.declared.verdict.DenialVerdict.{DenialVerdict}
-use Rattle.commands.proofs.Checking.{stops_next, stops_second}
-use Rattle.commands.specs.Answers.{Answer}
-use Rattle.commands.specs.Checks.{Check, Passes, ◌>>=◌}
-use Rattle.commands.specs.Inputs.{mesh_in, pair_in, certificate_in, walk_at}
-use Rattle.verify_commands.specs.Progress.{IsVerdictOnFile}
-use Rattle.commands.specs.Replies.{Concludes, IsReplyTo, Replies}
-use Rattle.commands.specs.Stops.{Stops}
-use Rattle.verify_commands.specs.Verify.{denial_answer, judged_file, judgement, verdict_answer, verify}
-use Rattle.commands.specs.declared.certificate.Certificate.{Certificate}
-use Rattle.commands.specs.declared.certificate.Certificate.TheVariants.{Moves, Denial}
+use Rattle.verify_commands.proofs.Common.{stops_next, stops_second, Answer, Check, Passes, ◌>>=◌, mesh_in, pair_in, certificate_in, walk_at, Concludes, IsReplyTo, Replies, Stops, Certificate, Moves, Denial, Stop, OutOfMemory, IsVerdict, DenialVerdict, verdict_of, Verdict, inr, ℕ, List, refl, sym, subst, MatchResult, ◌≡◌, Option, Files, FaceList}
 use Rattle.commands.specs.declared.reply.Reply.{Reply}
-use Rattle.commands.specs.declared.stop.Stop.{Stop}
-use Rattle.commands.specs.declared.stop.Stop.TheVariants.{OutOfMemory}
+use Rattle.std.proofs.Common.{Ok, Err, Result}
+use Rattle.labellings.specs.declared.denial.Denial as denials
+use Rattle.verify_commands.specs.Progress.{IsVerdictOnFile}
+use Rattle.verify_commands.specs.Verify.{denial_answer, judged_file, judgement, verdict_answer, verify}
 
 -- what is looked at behind the walks, and behind the mesh
 abbrev pub after_pair : Option Files → List ℕ → FaceList → List (List ℕ) → Check Answer

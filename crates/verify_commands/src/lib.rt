@@ -8,5 +8,5 @@
 //!     let reply = verify::verify(alloc, &mut shelf, mesh, walks, certificate)?;
 #![tactic(auto)]
 
-mod progress;
+pub mod progress;
 pub mod verify;

@@ -1,3 +1,4 @@
+pub mod Common
 pub mod Verifying
 pub mod SomeVerdicts
 pub mod VerifyHomologyOutcomes

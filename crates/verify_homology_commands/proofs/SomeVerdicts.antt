@@ -1,29 +1,19 @@
 -- Each certificate of homology has a verdict, and one.
-use Rattle.std.proofs.Common.{◌≡◌, inl, inr, ℕ, zero, suc, ◌<◌, List, [], ◌∷◌, length, get_or, map, refl, sym, ap, ◌∙◌, subst, arith, ℤ, pos, ◌-ℤ◌}
-use Rattle.std.specs.Prelude.{All, Option}
-use Rattle.std.proofs.lemmas.Bool.{cases_lt}
-use Rattle.std.proofs.lemmas.List.{get_or-map, get_or_default, length-map}
-use Rattle.std.proofs.lemmas.List.Elements.{All-nil, All-from_get_or}
-use Rattle.surf_io.specs.Files.{Files}
-use Rattle.surf_model.specs.Edges.{Edge, edge_in}
-use Rattle.surf_model.specs.FaceLists.{FaceList, IsFaceList}
-use Rattle.surf_model.proofs.EdgeTables.{some_table}
-use Rattle.homology.specs.Certificates.{face_number, edge_number}
+use Rattle.verify_homology_commands.proofs.Common.{IsSound, Answer, End, Refuse, Pass, face_number, edge_number, HasEdge, HasFace, IsFirstAgainst, IsVerdict, HomologyCert, HomologyVerdict, ◌≡◌, inl, inr, ℕ, zero, suc, ◌<◌, List, [], ◌∷◌, length, get_or, map, refl, sym, ap, ◌∙◌, subst, arith, ℤ, pos, ◌-ℤ◌, All, Option, Files, FaceList, IsFaceList}
+use Rattle.homology.proofs.ChainVerdictLemmas.{chain_fails, chain_holds}
+use Rattle.homology.proofs.VerdictLemmas.{one_verdict}
 use Rattle.homology.specs.Chains.{boundary, count_difference}
 use Rattle.homology.specs.Cocycles.{face_sum}
 use Rattle.homology.specs.Tallies.{IsLeft, number_at}
-use Rattle.homology.specs.Verdicts.{HasEdge, HasFace, IsFirstAgainst, IsVerdict}
 use Rattle.homology.specs.declared.certificate.EdgeNumber.{EdgeNumber}
 use Rattle.homology.specs.declared.certificate.FaceNumber.{FaceNumber}
-use Rattle.homology.specs.declared.certificate.HomologyCert.{HomologyCert}
 use Rattle.homology.specs.declared.certificate.HomologyCert.TheVariants.{Chain, Cocycle}
-use Rattle.homology.specs.declared.verdict.HomologyVerdict.{HomologyVerdict}
+use Rattle.std.proofs.lemmas.Bool.{cases_lt}
+use Rattle.std.proofs.lemmas.List.{get_or-map, get_or_default, length-map}
+use Rattle.std.proofs.lemmas.List.Elements.{All-nil, All-from_get_or}
+use Rattle.surf_model.proofs.EdgeTables.{some_table}
+use Rattle.surf_model.specs.Edges.{Edge, edge_in}
 use Rattle.homology.specs.declared.verdict.HomologyVerdict.TheVariants as verdicts
-use Rattle.homology.proofs.ChainVerdictLemmas.{chain_fails, chain_holds}
-use Rattle.homology.proofs.VerdictLemmas.{one_verdict}
-use Rattle.commands.proofs.Sound.{IsSound}
-use Rattle.commands.specs.Answers.{Answer}
-use Rattle.commands.specs.Checks.{End, Refuse, Pass}
 use Rattle.verify_homology_commands.specs.VerifyHomology.{judgement, verdict_answer}
 
 -- below a bound there is a least number of which something fails, or it holds of all

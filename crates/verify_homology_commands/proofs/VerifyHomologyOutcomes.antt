@@ -1,27 +1,16 @@
 -- `verify-homology` in the words of the mesh.
-use Rattle.std.proofs.Common.{◌≡◌, inr, ℕ, List, [], ◌∷◌, codes, refl, sym, ◌∙◌, subst}
-use Rattle.std.specs.Prelude.{Option, Ok}
-use Rattle.surf_io.specs.Files.{Files}
-use Rattle.surf_model.specs.FaceLists.{FaceList}
-use Rattle.homology.specs.Certificates.{face_number, edge_number}
-use Rattle.homology.specs.Verdicts.{IsVerdict}
-use Rattle.homology.specs.declared.certificate.HomologyCert.{HomologyCert}
-use Rattle.homology.specs.declared.certificate.HomologyCert.TheVariants as certificates
-use Rattle.homology.specs.declared.verdict.HomologyVerdict.{HomologyVerdict}
-use Rattle.homology.specs.declared.verdict.HomologyVerdict.TheVariants.{Face, Edge, Sum, Zero, Accepted}
-use Rattle.homology.proofs.PairingLemmas.{refuted}
-use Rattle.homology_files.specs.HomologyTexts.{cert_of_text}
+use Rattle.verify_homology_commands.proofs.Common.{IsSound, sound-then, sound-meant, sound-file, held, meant_told, Answer, Refuse, Pass, walk_at, SpellsPair, face_number, edge_number, IsVerdict, HomologyCert, HomologyVerdict, cert_of_text, ◌≡◌, inr, ℕ, List, [], ◌∷◌, codes, refl, sym, ◌∙◌, subst, Option, Files, FaceList}
 use Rattle.commands.proofs.Judgements.{IsJudgedBy, judged_by, judgement_answered}
 use Rattle.commands.proofs.MeshTexts.{mesh_valid}
 use Rattle.commands.proofs.Rows.{sound-mesh, sound-pair}
-use Rattle.commands.proofs.Sound.{IsSound, sound-then, sound-meant, sound-file, held, meant_told}
-use Rattle.commands.specs.Answers.{Answer}
-use Rattle.commands.specs.Checks.{Refuse, Pass}
-use Rattle.commands.specs.Inputs.{walk_at, SpellsPair}
 use Rattle.commands.specs.Outcomes.{Outcome, AnswersTo, IsAnswerOf}
-use Rattle.commands.specs.declared.refusal.Input.TheVariants as inputs
 use Rattle.commands.specs.declared.status.Status.{Status}
 use Rattle.commands.specs.declared.status.Status.TheVariants.{Yes}
+use Rattle.homology.proofs.PairingLemmas.{refuted}
+use Rattle.homology.specs.declared.verdict.HomologyVerdict.TheVariants.{Face, Edge, Sum, Zero, Accepted}
+use Rattle.std.specs.Prelude.{Ok}
+use Rattle.homology.specs.declared.certificate.HomologyCert.TheVariants as certificates
+use Rattle.commands.specs.declared.refusal.Input.TheVariants as inputs
 use Rattle.verify_homology_commands.specs.VerifyHomology.{verify_homology, verdict_status, verdict_line, verdict_answer, fault_line, judgement, certificate_in, ShownBy, IsInput, IsHomologyVerified}
 use Rattle.verify_homology_commands.proofs.SomeVerdicts.{sound-judgement}
 
@@ -75,7 +64,7 @@ shown_by : (mesh : FaceList) (first second bytes : List ℕ) (shown : HomologyCe
     → IsVerdict mesh first second shown Accepted → ShownBy mesh first second shown
 shown_by mesh first second bytes (certificates.Chain lines) pair is = (face_number lines, is.1)
 shown_by mesh first second bytes (certificates.Cocycle lines) pair is = λ homologous.
-    refuted mesh (edge_number lines) first second pair.first_walk pair.second_walk is.1 is.2 homologous.0 homologous.1
+    refuted mesh (edge_number lines) first second pair.are.first_walk pair.are.second_walk is.1 is.2 homologous.0 homologous.1
 
 module _ (files : Option Files) (words : List (List ℕ)) (status : Status) (text : List ℕ)
     (answered : (mesh walks certificate : List ℕ) → words ≡ codes "verify-homology" ∷ mesh ∷ walks ∷ certificate ∷ []

@@ -1,17 +1,6 @@
 -- How the checks of `verify-homology` end, by the place where the reading ends.
-use Rattle.std.proofs.Common.{inr, ℕ, List, refl, sym, subst, Ok, Err, Result, MatchResult, ◌≡◌}
-use Rattle.std.specs.Prelude.{Option}
-use Rattle.surf_io.specs.Files.{Files}
-use Rattle.surf_model.specs.FaceLists.{FaceList}
-use Rattle.homology.specs.Verdicts.{IsVerdict}
-use Rattle.homology.specs.declared.certificate.HomologyCert.{HomologyCert}
-use Rattle.homology.specs.declared.verdict.HomologyVerdict.{HomologyVerdict}
-use Rattle.commands.proofs.Checking.{stops_first, stops_next, stops_second}
-use Rattle.commands.specs.Answers.{Answer}
-use Rattle.commands.specs.Checks.{Check, Passes, ◌>>=◌}
-use Rattle.commands.specs.Inputs.{mesh_in, pair_in, walk_at}
+use Rattle.verify_homology_commands.proofs.Common.{stops_first, stops_next, stops_second, Answer, Check, Passes, ◌>>=◌, mesh_in, pair_in, walk_at, Stops, IsVerdict, HomologyCert, HomologyVerdict, inr, ℕ, List, refl, sym, subst, Ok, Err, Result, MatchResult, ◌≡◌, Option, Files, FaceList}
 use Rattle.commands.specs.Replies.{IsReplyTo, Replies}
-use Rattle.commands.specs.Stops.{Stops}
 use Rattle.commands.specs.declared.reply.Reply.{Reply}
 use Rattle.commands.specs.declared.stop.Stop.{Stop}
 use Rattle.commands.specs.declared.stop.Stop.TheVariants.{OutOfMemory}

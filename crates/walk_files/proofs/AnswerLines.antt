@@ -1,9 +1,5 @@
 -- The answer that a line is.
-use Rattle.std.proofs.Common.{◌≡◌, ℕ, Bool, true, false, List, [], ◌∷◌, refl, sym, ap, ◌∙◌}
-use Rattle.std.specs.Prelude.{Option, Some, None, if◌then◌else◌, ◌&&◌, codes}
-use Rattle.std.specs.Str.{bytes_eq}
-use Rattle.text_scan.specs.Lines.{words}
-use Rattle.text_scan.specs.Unread.{Unread, are_words, words_here}
+use Rattle.walk_files.proofs.Common.{◌≡◌, ℕ, Bool, true, false, List, [], ◌∷◌, refl, sym, ap, ◌∙◌, Option, Some, None, if◌then◌else◌, ◌&&◌, codes, bytes_eq, words, Unread, are_words, words_here}
 use Rattle.walk_files.specs.declared.certificate.Answer.{Answer}
 use Rattle.walk_files.specs.declared.certificate.Answer.TheVariants.{Homotopic, Different}
 use Rattle.walk_files.specs.Certificates.{answer_of}

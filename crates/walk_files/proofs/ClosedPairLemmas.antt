@@ -1,10 +1,6 @@
 -- What is first wrong with two closed walks.
-use Rattle.std.proofs.Common.{◌≡◌, ℕ, ◌<◌, List, [], ◌∷◌, length, refl, eq-eqb}
-use Rattle.std.specs.Prelude.{None, Result, IsOk, All, ◌==◌, slice_index}
-use Rattle.std.specs.Result.{result_err}
-use Rattle.std.proofs.lemmas.Bool.{eqb-true}
-use Rattle.surf_model.specs.FaceLists.{FaceList}
-use Rattle.surf_model.specs.Walks.{darts}
+use Rattle.walk_files.proofs.Common.{◌≡◌, ℕ, ◌<◌, List, [], ◌∷◌, length, refl, eq-eqb, eqb-true, None, Result, IsOk, All, slice_index, result_err, FaceList, darts}
+use Rattle.std.specs.Prelude.{◌==◌}
 use Rattle.walk_files.specs.declared.loops.LoopFault.{LoopFault}
 use Rattle.walk_files.specs.declared.loops.LoopFault.TheVariants.{NotClosed, NotTwo}
 use Rattle.walk_files.specs.ClosedPairs.{IsClosedPair, of_entry, open_fault, loops_fault}

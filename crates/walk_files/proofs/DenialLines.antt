@@ -1,14 +1,7 @@
 -- The lines of a denial, one by one.
-use Rattle.std.proofs.Common.{◌≡◌, ℕ, suc, ◌+◌, ◌<◌, Bool, true, false, List, [], ◌∷◌, ◌++◌, length, refl, sym, ap, ◌∙◌, subst, arith, length-append}
-use Rattle.std.specs.Prelude.{Option, Some, None, Err, codes, drop, All, ◌^◌}
-use Rattle.std.specs.Str.{bytes_eq}
-use Rattle.std.proofs.lemmas.List.Elements.{All-head, All-tail}
-use Rattle.text_scan.specs.Lines.{Line, is_filled}
-use Rattle.text_scan.specs.Unread.{Unread, lines_left, at_line, past_word, next_word}
-use Rattle.labellings.specs.Labellings.{FaceLabels, LabellingView}
+use Rattle.walk_files.proofs.Common.{FaceLabels, LabellingView, ◌≡◌, ℕ, suc, ◌+◌, ◌<◌, Bool, true, false, List, [], ◌∷◌, ◌++◌, length, refl, sym, ap, ◌∙◌, subst, arith, length-append, All-head, All-tail, Option, Some, None, Err, codes, All, bytes_eq, some_first, each_some, Line, is_filled, number_of, Unread, lines_left, at_line, past_word, next_word}
+use Rattle.std.specs.Prelude.{drop, ◌^◌}
 use Rattle.walk_files.specs.declared.fault.CertFault.TheVariants.{Bad}
-use Rattle.text_scan.specs.Each.{some_first, each_some}
-use Rattle.text_scan.specs.Numbers.{number_of}
 use Rattle.walk_files.specs.Denials.{sign_of, words_in, denial_in, AreFew}
 use Rattle.walk_files.proofs.FewLemmas.{found_line}
 

@@ -1,20 +1,7 @@
 -- The parts of a denial that are written one after another.
-use Rattle.std.proofs.Common.{◌≡◌, ℕ, zero, suc, ◌+◌, ◌-◌, ◌^◌, ◌<◌, ◌≤◌, false, get_or, List, [], ◌∷◌, ◌++◌, length, drop, refl, sym, ap, ◌∙◌, append_assoc, inl, inr, arith}
-use Rattle.std.specs.Prelude.{Some, map, flat_map, slice_get, slice_index, decimal}
-use Rattle.std.proofs.lemmas.List.Elements.{All-cons, All-nil}
-use Rattle.std.proofs.Math.Nat.{eq-or-lt_of_le}
-use Rattle.turn_words.specs.declared.word.Word.{Word}
-use Rattle.turn_words.specs.declared.word.Word.TheVariants.{Turns, Flat}
-use Rattle.std.proofs.lemmas.List.{append-nil}
+use Rattle.walk_files.proofs.Common.{FaceLabels, LabellingView, labels_at, signs_of, Denial, ◌≡◌, ℕ, zero, suc, ◌+◌, ◌-◌, ◌^◌, ◌<◌, ◌≤◌, false, get_or, List, [], ◌∷◌, ◌++◌, length, drop, refl, sym, ap, ◌∙◌, append_assoc, inl, inr, arith, eq-or-lt_of_le, append-nil, All-cons, All-nil, flat_map-map, slice_get-get_or, Some, flat_map, slice_get, slice_index, decimal, line_of-numbers, spaced, is_flipped, line_of, Word, Turns, Flat}
 use Rattle.std.proofs.lemmas.List.Concat.{flat_map-append}
-use Rattle.std.proofs.lemmas.List.Folds.{flat_map-map}
-use Rattle.std.proofs.lemmas.Option.{slice_get-get_or}
-use Rattle.surf_model.specs.Surfaces.{is_flipped}
-use Rattle.labellings.specs.Labellings.{FaceLabels, LabellingView, labels_at, signs_of}
-use Rattle.labellings.specs.declared.denial.Denial.{Denial}
-use Rattle.text_scan.specs.Plain.{line_of}
-use Rattle.surf_io.specs.Gathered.{spaced}
-use Rattle.surf_io.proofs.Gathering.{line_of-numbers}
+use Rattle.std.specs.Prelude.{map}
 use Rattle.walk_files.specs.DenialTexts.{entry_words, face_words, places_words, word_words, labels_head_words, lines_behind_faces, labelling_text, denial_text, AreNumbers, HasNumbers, AreWordNumbers, HasForm, HasForms, FitsDegree, ReadsBack}
 
 -- entry k of a turn word, behind the first

@@ -1,29 +1,13 @@
 -- A denial that was written is read again.
-use Rattle.std.proofs.Common.{◌≡◌, ℕ, ◌+◌, ◌^◌, ◌<◌, ◌==◌, Bool, true, false, List, [], ◌∷◌, ◌++◌, map, refl, ap, sym, subst, ◌∙◌, arith, append_assoc}
-use Rattle.std.specs.Prelude.{Some, None, Ok, Result, decimal, codes, cond, All}
+use Rattle.walk_files.proofs.Common.{FaceLabels, Denial, ◌≡◌, ℕ, ◌+◌, ◌^◌, ◌<◌, ◌==◌, Bool, true, false, List, [], ◌∷◌, ◌++◌, map, refl, ap, sym, subst, ◌∙◌, arith, append_assoc, and_parts, ne_eqb, append-nil, All-head, All-tail, All-cons, All-nil, All-append, All-map, All-weaker, list_all, Some, None, Ok, Result, decimal, codes, cond, All, bytes_eq, IsWritable, IsLine, decimal_is, numbered, lines_from-written, number-writable, number-read, decimals-writable, numbers-read, integer-writable, integer-read, each_some, unmarked, lines_from, full_lines, end_line, is_digit, number_of, line_of, Word, Turns, Flat}
 use Rattle.std.specs.Fmt.{signed_decimal}
-use Rattle.std.specs.Str.{bytes_eq}
-use Rattle.std.specs.List.{list_all}
-use Rattle.std.proofs.lemmas.Bool.{and_parts, ne_eqb}
-use Rattle.std.proofs.lemmas.List.{append-nil}
-use Rattle.std.proofs.lemmas.List.Elements.{All-head, All-tail, All-cons, All-nil, All-append, All-map, All-weaker}
-use Rattle.text_scan.specs.Lines.{unmarked, lines_from, full_lines, end_line}
-use Rattle.text_scan.specs.Numbers.{is_digit}
-use Rattle.text_scan.specs.Plain.{line_of}
-use Rattle.turn_words.specs.declared.word.Word.{Word}
-use Rattle.turn_words.specs.declared.word.Word.TheVariants.{Turns, Flat}
-use Rattle.labellings.specs.Labellings.{FaceLabels}
-use Rattle.labellings.specs.declared.denial.Denial.{Denial}
-use Rattle.text_scan.specs.Each.{each_some}
 use Rattle.walk_files.specs.declared.certificate.CertHead.TheVariants.{Labels}
 use Rattle.walk_files.specs.declared.certificate.Answer.TheVariants.{Different}
 use Rattle.walk_files.specs.declared.fault.CertFault.{CertFault}
-use Rattle.text_scan.specs.Numbers.{number_of}
 use Rattle.walk_files.specs.NumberTexts.{entries_of}
 use Rattle.walk_files.specs.Certificates.{head_of, head_among, behind_head, head_of_text, fitting_head}
 use Rattle.walk_files.specs.Denials.{sign_of, face_of, is_places, word_of, denial_in, unlabelled, denial_behind, denial_of_text}
 use Rattle.walk_files.specs.DenialTexts.{sign_word, face_words, places_words, entry_words, word_words, labels_head_words, lines_behind_faces, denial_lines, denial_text, AreNumbers, FitsDegree, ReadsBack}
-use Rattle.text_scan.proofs.WrittenLemmas.{IsWritable, IsLine, decimal_is, numbered, lines_from-written, number-writable, number-read, decimals-writable, numbers-read, integer-writable, integer-read}
 
 -- ---- the words that are written
 

@@ -1,14 +1,8 @@
 -- A short text has few lines, each with few words.
-use Rattle.std.proofs.Common.{◌≡◌, inl, inr, ℕ, zero, suc, ◌==◌, ◌+◌, ◌<◌, ◌≤◌, ◌^◌, Bool, true, false, List, [], ◌∷◌, length, drop, refl, sym, subst, arith}
-use Rattle.std.specs.Prelude.{All, map, filter, cond, is_some}
-use Rattle.std.specs.List.{enumerate_from, slice_split, onto_first, before_first}
-use Rattle.std.proofs.lemmas.Bool.{cases_Bool}
-use Rattle.std.proofs.lemmas.List.Elements.{All-head, All-tail, All-cons, All-nil}
+use Rattle.walk_files.proofs.Common.{◌≡◌, inl, inr, ℕ, zero, suc, ◌==◌, ◌+◌, ◌<◌, ◌≤◌, ◌^◌, Bool, true, false, List, [], ◌∷◌, length, drop, refl, sym, subst, arith, cases_Bool, All-head, All-tail, All-cons, All-nil, enumerate_from, slice_split, onto_first, before_first, All, filter, cond, is_some, before_first-yes, before_first-no, Line, is_filled, is_blank, unmarked, uncommented, cut, words, lines_from, full_lines, Unread, lines_left, at_line}
 use Rattle.std.proofs.lemmas.List.Splits.{slice_split-cons_yes, slice_split-cons_no}
-use Rattle.text_scan.specs.Lines.{Line, is_filled, is_blank, unmarked, uncommented, cut, words, lines_from, full_lines}
-use Rattle.text_scan.proofs.ListLemmas.{before_first-yes, before_first-no}
+use Rattle.std.specs.Prelude.{map}
 use Rattle.text_scan.proofs.StepLemmas.{few_lines}
-use Rattle.text_scan.specs.Unread.{Unread, lines_left, at_line}
 use Rattle.walk_files.specs.Certificates.{behind_head, answer_of}
 use Rattle.walk_files.specs.Denials.{AreFew}
 

@@ -1,8 +1,5 @@
 -- The header of a walk text, and what stands behind it.
-use Rattle.std.proofs.Common.{◌≡◌, ◌⊎◌, inl, inr, ℕ, Bool, true, false, List, [], ◌∷◌, drop, refl, sym, ap, ◌∙◌}
-use Rattle.std.specs.Prelude.{codes, Option, Some, None, Result, Err, MatchOption}
-use Rattle.text_scan.specs.Lines.{Line, is_filled, words, full_lines}
-use Rattle.text_scan.specs.Unread.{LinesLeft, Unread, lines_left, at_line, are_words, words_here}
+use Rattle.walk_files.proofs.Common.{◌≡◌, ◌⊎◌, inl, inr, ℕ, Bool, true, false, List, [], ◌∷◌, drop, refl, sym, ap, ◌∙◌, codes, Option, Some, None, Result, Err, MatchOption, Line, is_filled, words, full_lines, LinesLeft, Unread, lines_left, at_line, are_words, words_here}
 use Rattle.walk_files.specs.NumberTexts.{plain_walks_of}
 use Rattle.walk_files.specs.WalkLists.{WalkText}
 use Rattle.walk_files.specs.WalkTexts.{has_header, in_version, walks_behind, walk_text_of}

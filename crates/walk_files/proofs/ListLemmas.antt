@@ -1,9 +1,5 @@
 -- Lists: one element more, and lists of numbers that lie one after another.
-use Rattle.std.proofs.Common.{◌≡◌, ℕ, ◌+◌, ◌-◌, ◌≤◌, List, [], ◌∷◌, ◌++◌, length, take, drop, refl, sym, ap, subst, ◌∙◌, arith}
-use Rattle.std.specs.Prelude.{All, Some, slice_get}
-use Rattle.std.proofs.lemmas.List.{drop-append-le, take-append-le, length-drop}
-use Rattle.std.proofs.lemmas.List.Elements.{All-head, All-tail, All-more}
-use Rattle.std.proofs.lemmas.Option.{slice_get_within, get_or_from_slice_get}
+use Rattle.walk_files.proofs.Common.{◌≡◌, ℕ, ◌+◌, ◌-◌, ◌≤◌, List, [], ◌∷◌, ◌++◌, length, take, drop, refl, sym, ap, subst, ◌∙◌, arith, drop-append-le, take-append-le, length-drop, All-head, All-tail, All-more, slice_get_within, get_or_from_slice_get, All, Some, slice_get}
 use Rattle.walk_files.specs.declared.number_lines.Place.{Place}
 use Rattle.walk_files.specs.NumberLists.{list_at, stored_lists, AreWithin}
 

@@ -1,10 +1,6 @@
 -- What is first wrong with two walks.
-use Rattle.std.proofs.Common.{◌≡◌, ℕ, ◌<◌, List, [], ◌∷◌, length, true, false, refl, eq-eqb}
-use Rattle.std.specs.Prelude.{None, Result, IsOk, All, ◌==◌, slice_index}
-use Rattle.std.specs.Result.{result_err}
-use Rattle.std.proofs.lemmas.Bool.{eqb-true}
-use Rattle.surf_model.specs.FaceLists.{FaceList}
-use Rattle.surf_model.specs.Walks.{darts, HaveCommonEnds}
+use Rattle.walk_files.proofs.Common.{◌≡◌, ℕ, ◌<◌, List, [], ◌∷◌, length, true, false, refl, eq-eqb, eqb-true, None, Result, IsOk, All, slice_index, result_err, FaceList, darts, HaveCommonEnds}
+use Rattle.std.specs.Prelude.{◌==◌}
 use Rattle.walk_files.specs.declared.pair.PairFault.{PairFault}
 use Rattle.walk_files.specs.declared.pair.PairFault.TheVariants.{EndsDiffer, NotTwo}
 use Rattle.walk_files.specs.Pairs.{IsPair, of_entry, ends_fault, pair_fault}
@@ -33,15 +29,13 @@ pair_of_none mesh first second some more none =
       first = first;
       second = second;
       two = refl;
-      first_walk = walks.0;
-      second_walk = walks.1;
-      ends = ends_of_none first second walks.2;
+      are = record { first_walk = walks.0; second_walk = walks.1; ends = ends_of_none first second walks.2 };
     }
 
 pub none_of_pair : (mesh : FaceList) (walks : List (List ℕ)) → IsPair mesh walks → pair_fault mesh walks ≡ None
 none_of_pair mesh walks pair =
-    none_of_walks NotTwo of_entry ends_fault mesh walks pair.first pair.second pair.two pair.first_walk pair.second_walk
-    (no_ends_fault pair.first pair.second pair.ends)
+    none_of_walks NotTwo of_entry ends_fault mesh walks pair.first pair.second pair.two pair.are.first_walk
+    pair.are.second_walk (no_ends_fault pair.first pair.second pair.are.ends)
 
 -- a result that says what is wrong says whether the walks are a pair
 pub says_pair : (mesh : FaceList) (walks : List (List ℕ)) (r : Result (Unit {0}) PairFault) → All (λ walk. 0 < length walk) walks

@@ -1,12 +1,6 @@
 -- What is first wrong with walks that should come in pairs.
-use Rattle.std.proofs.Common.{◌≡◌, ℕ, zero, suc, ◌+◌, ◌*◌, ◌<◌, ◌≤◌, List, [], ◌∷◌, length, drop, Bool, true, false, refl, sym, ap, ◌∙◌, eq-eqb, arith}
-use Rattle.std.specs.Prelude.{Option, Some, None, Result, IsOk, All, ◌==◌, option_map, slice_index, slice_get, if◌then◌else◌}
-use Rattle.std.specs.Option.{option_or}
-use Rattle.std.specs.Result.{result_err}
-use Rattle.std.proofs.lemmas.Bool.{eqb-true}
-use Rattle.std.proofs.lemmas.List.Elements.{All-head, All-tail, All-cons, All-nil}
-use Rattle.surf_model.specs.FaceLists.{FaceList}
-use Rattle.surf_model.specs.Walks.{darts, IsWalk, HaveCommonEnds}
+use Rattle.walk_files.proofs.Common.{◌≡◌, ℕ, zero, suc, ◌+◌, ◌*◌, ◌<◌, ◌≤◌, List, [], ◌∷◌, length, drop, Bool, true, false, refl, sym, ap, ◌∙◌, eq-eqb, arith, eqb-true, All-head, All-tail, All-cons, All-nil, option_or, Option, Some, None, Result, IsOk, All, option_map, slice_index, slice_get, if◌then◌else◌, result_err, FaceList, darts, IsWalk, HaveCommonEnds}
+use Rattle.std.specs.Prelude.{◌==◌}
 use Rattle.walk_files.specs.declared.entries.EntryFault.{EntryFault}
 use Rattle.walk_files.specs.declared.pairs.PairsFault.{PairsFault}
 use Rattle.walk_files.specs.declared.pairs.PairsFault.TheVariants.{NotPairs, EndsDiffer}

@@ -1,13 +1,5 @@
 -- A line whose words are all numbers is a walk line, and the numbers are its walk.
-use Rattle.std.proofs.Common.{◌≡◌, ℕ, ◌+◌, ◌<◌, ◌≤◌, ◌==◌, Bool, true, false, List, [], ◌∷◌, length, map, refl, sym, ap, ◌∙◌, arith}
-use Rattle.std.specs.Prelude.{codes, nat_lt, ◌||◌, if◌then◌else◌, Option, Some, None, option_map, Ok, Err}
-use Rattle.std.specs.List.{list_all}
-use Rattle.std.proofs.lemmas.Bool.{and_parts}
-use Rattle.std.specs.Str.{bytes_eq}
-use Rattle.surf_model.specs.Walks.{darts}
-use Rattle.text_scan.specs.Each.{each_some, some_first}
-use Rattle.text_scan.specs.Lines.{Line, is_filled}
-use Rattle.text_scan.specs.Numbers.{is_digit, is_natural, number_of}
+use Rattle.walk_files.proofs.Common.{◌≡◌, ℕ, ◌+◌, ◌<◌, ◌≤◌, ◌==◌, Bool, true, false, List, [], ◌∷◌, length, map, refl, sym, ap, ◌∙◌, arith, and_parts, list_all, codes, nat_lt, ◌||◌, if◌then◌else◌, Option, Some, None, option_map, Ok, Err, bytes_eq, darts, each_some, some_first, Line, is_filled, is_digit, is_natural, number_of}
 use Rattle.walk_files.specs.LineReads.{walk_on}
 use Rattle.walk_files.specs.WalkTexts.{token_of, behind_vertex, read_tokens, written_out, within_limits}
 use Rattle.walk_files.specs.declared.fault.WalkFault.TheVariants.{TooLong}

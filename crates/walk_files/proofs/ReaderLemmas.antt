@@ -1,13 +1,8 @@
 -- A reader gives the moves of its text one by one.
-use Rattle.std.proofs.Common.{◌≡◌, ℕ, ◌+◌, ◌-◌, ◌==◌, Bool, true, false, List, [], ◌∷◌, drop, refl, sym, ap, ◌∙◌, drop-drop, arith}
-use Rattle.std.specs.Prelude.{Option, Some, None, Result, Ok, Err, cond, option_map}
-use Rattle.std.specs.Option.{ok_or}
-use Rattle.text_scan.specs.Lines.{Line, full_lines, end_line}
-use Rattle.surf_model.specs.declared.moves.Move.{Move}
+use Rattle.walk_files.proofs.Common.{◌≡◌, ℕ, ◌+◌, ◌-◌, ◌==◌, Bool, true, false, List, [], ◌∷◌, drop, refl, sym, ap, ◌∙◌, drop-drop, arith, ok_or, Option, Some, None, Result, Ok, Err, cond, option_map, Move, ok_first, Line, full_lines, end_line}
 use Rattle.walk_files.specs.declared.fault.CertFault.{CertFault}
 use Rattle.walk_files.specs.declared.fault.CertFault.TheVariants.{Bad, Ended, Extra}
 use Rattle.walk_files.specs.declared.certificate.CertHead.{CertHead}
-use Rattle.text_scan.specs.Each.{ok_first}
 use Rattle.walk_files.specs.declared.certificate.CertHead.TheVariants.{Moves}
 use Rattle.walk_files.specs.Certificates.{behind_head, move_of, moves_in, moves_of_text}
 use Rattle.walk_files.specs.Readers.{Certificate, count_in, next_of, next_answer, after_answer, moves_left, answer_first}

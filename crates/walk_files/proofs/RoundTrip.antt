@@ -1,19 +1,11 @@
 -- A list of moves that was written is read again.
-use Rattle.std.proofs.Common.{◌≡◌, ℕ, ◌+◌, ◌-◌, ◌^◌, ◌<◌, eqb, Bool, true, false, List, [], ◌∷◌, ◌++◌, length, map, refl, ap, ◌∙◌, arith}
-use Rattle.std.specs.Prelude.{Some, None, Ok, decimal, codes, All}
-use Rattle.std.proofs.lemmas.Bool.{le-ltb, ne_eqb}
-use Rattle.std.proofs.lemmas.List.Elements.{All-head, All-tail, All-cons, All-map, All-weaker}
-use Rattle.text_scan.specs.Lines.{unmarked, lines_from, full_lines, end_line}
-use Rattle.text_scan.specs.Plain.{line_of}
+use Rattle.walk_files.proofs.Common.{◌≡◌, ℕ, ◌+◌, ◌-◌, ◌^◌, ◌<◌, eqb, Bool, true, false, List, [], ◌∷◌, ◌++◌, length, map, refl, ap, ◌∙◌, arith, le-ltb, ne_eqb, All-head, All-tail, All-cons, All-map, All-weaker, Some, None, Ok, decimal, codes, All, Move, Insert, Remove, Across, IsWritable, IsLine, numbered, lines_from-written, AreWritable, all_writable, decimal-writable, number-writable, number_below-decimal, number-read, unmarked, lines_from, full_lines, end_line, line_of}
 use Rattle.surf_model.specs.Moves.{PeakedMoves}
-use Rattle.surf_model.specs.declared.moves.Move.{Move}
-use Rattle.surf_model.specs.declared.moves.Move.TheVariants.{Insert, Remove, Across}
 use Rattle.walk_files.specs.declared.certificate.CertHead.TheVariants.{Moves}
 use Rattle.walk_files.specs.declared.certificate.Answer.TheVariants.{Homotopic}
 use Rattle.walk_files.specs.Certificates.{head_of, head_among, behind_head, direction_of, move_of, moves_in, head_of_text, fitting_head, moves_of_text, list_behind, list_of_text, with_peak}
 use Rattle.walk_files.specs.MoveTexts.{direction_word, move_words, head_words, list_lines, list_text, FitsFormat, MoveFits}
 use Rattle.walk_files.specs.declared.limits.TheConstants.{MOST_PEAK}
-use Rattle.text_scan.proofs.WrittenLemmas.{IsWritable, IsLine, numbered, lines_from-written, AreWritable, all_writable, decimal-writable, number-writable, number_below-decimal, number-read}
 
 -- ---- the words that are written
 

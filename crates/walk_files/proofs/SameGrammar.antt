@@ -1,9 +1,5 @@
 -- Lines that say the same mean the same in a certificate.
-use Rattle.std.proofs.Common.{◌≡◌, ℕ, ◌^◌, Bool, true, false, List, [], ◌∷◌, take, refl, sym, ◌∙◌, lit≤}
-use Rattle.std.specs.Prelude.{codes, None}
-use Rattle.std.specs.Str.{bytes_eq}
-use Rattle.text_scan.specs.Numbers.{number_of, number_below}
-use Rattle.file_pieces.specs.SameLines.{SameWord, SameWords, SameLine}
+use Rattle.walk_files.proofs.Common.{SameWord, SameWords, SameLine, ◌≡◌, ℕ, ◌^◌, Bool, true, false, List, [], ◌∷◌, take, refl, sym, ◌∙◌, lit≤, codes, None, bytes_eq, number_of, number_below}
 use Rattle.walk_files.specs.Certificates.{head_of, direction_of, spur_of, across_of, move_of}
 
 number_same : (a b : List ℕ) → SameWord a b → number_of a ≡ number_of b

@@ -1,12 +1,6 @@
 -- The denial of a certificate that is read in pieces: its lines behind as many line feeds as lines came before.
-use Rattle.std.proofs.Common.{inl, inr, ◌≡◌, ◌⊎◌, ℕ, zero, suc, ◌+◌, ◌-◌, ◌<◌, cond, List, ◌∷◌, ◌++◌, length, refl, sym, ap, subst, ◌∙◌, arith}
-use Rattle.std.specs.Prelude.{Option, Some, None, Result, Ok, Err, IfSome, replicate}
-use Rattle.text_scan.specs.Lines.{Line, is_filled, cut, unmarked, lines_from, full_lines, end_line}
-use Rattle.text_scan.specs.Unread.{behind}
-use Rattle.text_scan.proofs.PlaceLemmas.{words_here-line_feed, behind-line_feed, cut_first, lines_from_here}
-use Rattle.file_pieces.specs.Reading.{Reads, left_of}
-use Rattle.file_pieces.specs.FileLines.{LinesReading}
-use Rattle.labellings.specs.declared.denial.Denial.{Denial}
+use Rattle.walk_files.proofs.Common.{LinesReading, Reads, left_of, Denial, inl, inr, ◌≡◌, ◌⊎◌, ℕ, zero, suc, ◌+◌, ◌-◌, ◌<◌, List, ◌∷◌, ◌++◌, length, refl, sym, ap, subst, ◌∙◌, arith, Option, Some, None, Result, Ok, Err, IfSome, replicate, words_here-line_feed, behind-line_feed, cut_first, lines_from_here, Line, is_filled, cut, unmarked, lines_from, full_lines, end_line, behind}
+use Rattle.std.proofs.Common.{cond}
 use Rattle.walk_files.specs.Denials.{denial_in, unlabelled}
 use Rattle.walk_files.specs.StreamEnds.{end_of_text}
 use Rattle.walk_files.specs.Streams.{IsAnswer, end_behind}

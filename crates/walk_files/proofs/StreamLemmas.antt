@@ -1,14 +1,7 @@
 -- The lines of a certificate that is read in pieces.
-use Rattle.std.proofs.Common.{◌≡◌, ◌⊎◌, ℕ, ◌+◌, ◌-◌, ◌<◌, ◌≤◌, ◌==◌, Bool, true, false, cond, List, [], ◌∷◌, length, drop, inl, inr, refl, sym, ap, subst, ◌∙◌, arith, drop-drop}
-use Rattle.std.specs.Prelude.{Option, Some, None, Result, Ok, Err, OnOk, IfNone, IfSome, MatchOption, option_map}
-use Rattle.std.specs.Option.{ok_or}
-use Rattle.text_scan.specs.Lines.{Line, is_filled, cut, unmarked, lines_from, full_lines, end_line}
-use Rattle.text_scan.specs.Unread.{Unread, lines_left, at_line}
-use Rattle.surf_model.specs.declared.moves.Move.{Move}
-use Rattle.file_pieces.specs.Reading.{Reads, left_of}
-use Rattle.file_pieces.specs.SameLines.{SameLine}
-use Rattle.file_pieces.specs.FileLines.{ReadsLine, LinesReading}
+use Rattle.walk_files.proofs.Common.{ReadsLine, LinesReading, Reads, left_of, SameLine, ◌≡◌, ◌⊎◌, ℕ, ◌+◌, ◌-◌, ◌<◌, ◌≤◌, ◌==◌, Bool, true, false, List, [], ◌∷◌, length, drop, inl, inr, refl, sym, ap, subst, ◌∙◌, arith, drop-drop, ok_or, Option, Some, None, Result, Ok, Err, OnOk, IfNone, IfSome, MatchOption, option_map, Move, Line, is_filled, cut, unmarked, lines_from, full_lines, end_line, Unread, lines_left, at_line}
 use Rattle.file_pieces.proofs.ShortLemmas.{no_lines}
+use Rattle.std.proofs.Common.{cond}
 use Rattle.walk_files.specs.declared.fault.CertFault.{CertFault}
 use Rattle.walk_files.specs.declared.fault.CertFault.TheVariants.{NoHead, Bad, Ended, Extra}
 use Rattle.walk_files.specs.declared.stream_end.StreamEnd.{StreamEnd}

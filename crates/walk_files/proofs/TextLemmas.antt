@@ -1,13 +1,6 @@
 -- Each walk of a text has a vertex.
-use Rattle.std.proofs.Common.{◌≡◌, ℕ, ◌+◌, ◌<◌, List, [], ◌∷◌, ◌++◌, length, drop, Bool, true, false, refl, sym, ap, subst, ◌∙◌, arith}
-use Rattle.std.specs.Prelude.{Option, Some, None, Result, Ok, Err, All, if◌then◌else◌, ◌||◌, nat_le, nat_lt, map, option_map}
-use Rattle.std.specs.List.{enumerate_from, sum_by}
-use Rattle.std.specs.Option.{ok_or}
-use Rattle.std.proofs.lemmas.List.Elements.{All-head, All-tail, All-cons, All-nil, All-push, filter_passes}
-use Rattle.surf_model.specs.Walks.{darts}
-use Rattle.text_scan.specs.Each.{each_some, each_ok, some_first, ok_first}
-use Rattle.text_scan.specs.Lines.{Line, cut, full_lines, is_filled, lines_from, unmarked, words}
-use Rattle.text_scan.specs.Numbers.{number_of}
+use Rattle.walk_files.proofs.Common.{◌≡◌, ℕ, ◌+◌, ◌<◌, List, [], ◌∷◌, ◌++◌, length, drop, Bool, true, false, refl, sym, ap, subst, ◌∙◌, arith, All-head, All-tail, All-cons, All-nil, All-push, filter_passes, enumerate_from, sum_by, ok_or, Option, Some, None, Result, Ok, Err, All, if◌then◌else◌, ◌||◌, nat_le, nat_lt, option_map, darts, each_some, each_ok, some_first, ok_first, Line, cut, full_lines, is_filled, lines_from, unmarked, words, number_of}
+use Rattle.std.specs.Prelude.{map}
 use Rattle.walk_files.specs.NumberTexts.{line_of_numbers, plain_walks_of, walk_of}
 use Rattle.walk_files.specs.WalkLists.{WalkText}
 use Rattle.walk_files.specs.WalkTexts.{behind_vertex, has_header, in_version, read_tokens, token_of, walk_of_line, walk_text_of, walks_behind, within_limits, written_out}

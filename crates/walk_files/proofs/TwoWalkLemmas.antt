@@ -1,11 +1,6 @@
 -- What is first wrong with two walks, of which something more is asked.
-use Rattle.std.proofs.Common.{◌≡◌, ℕ, ◌<◌, List, [], ◌∷◌, length, Bool, true, false, refl, sym, ap, ◌∙◌, cond, arith}
-use Rattle.std.specs.Prelude.{Option, Some, None, Result, Ok, Err, IsOk, not, option_map, slice_get, All}
-use Rattle.std.specs.Option.{option_or}
-use Rattle.std.specs.Result.{result_err}
-use Rattle.std.proofs.lemmas.List.Elements.{All-head, All-tail}
-use Rattle.surf_model.specs.FaceLists.{FaceList}
-use Rattle.surf_model.specs.Walks.{IsWalk}
+use Rattle.walk_files.proofs.Common.{◌≡◌, ℕ, ◌<◌, List, [], ◌∷◌, length, Bool, true, false, refl, sym, ap, ◌∙◌, arith, All-head, All-tail, option_or, Option, Some, None, Result, Ok, Err, IsOk, not, option_map, slice_get, All, result_err, FaceList, IsWalk}
+use Rattle.std.proofs.Common.{cond}
 use Rattle.walk_files.specs.declared.entries.EntryFault.{EntryFault}
 use Rattle.walk_files.specs.Entries.{vertex_fault, edge_fault, first_fault, walks_fault}
 use Rattle.walk_files.specs.TwoWalks.{two_fault}

@@ -1,23 +1,8 @@
 -- Moves whose lines lie whole in the bytes that are at hand.
-use Rattle.std.proofs.Common.{◌≡◌, ◌≢◌, ℕ, ◌+◌, ◌-◌, ◌*◌, ◌^◌, ◌<◌, ◌≤◌, Bool, true, false, not, List, [], ◌∷◌, ◌++◌, length, take, drop, get_or, append_assoc, append-nil, length-append, refl, subst, sym, ap, ◌∙◌, arith}
-use Rattle.std.specs.Prelude.{Option, Some, None, Ok, IfSome, All}
-use Rattle.std.specs.List.{before_first, list_all}
-use Rattle.std.proofs.lemmas.Bool.{and_parts, and_from, lt-ltb, ne_eqb}
-use Rattle.std.proofs.lemmas.List.{take_all}
-use Rattle.std.proofs.lemmas.List.Elements.{All-head, All-tail, All-cons, All-nil}
+use Rattle.walk_files.proofs.Common.{LinesReading, IsOneLine, ReadsLine, Reads, left_of, ◌≡◌, ◌≢◌, ℕ, ◌+◌, ◌-◌, ◌*◌, ◌^◌, ◌<◌, ◌≤◌, Bool, true, false, List, [], ◌∷◌, ◌++◌, length, take, drop, get_or, append_assoc, length-append, refl, subst, sym, ap, ◌∙◌, arith, and_parts, and_from, lt-ltb, ne_eqb, take_all, All-head, All-tail, All-cons, All-nil, list_all-append, before_first, list_all, Option, Some, None, Ok, IfSome, All, Move, Across, before_first-append, before_first-yes, from_first-append, from_first-yes, words_here-nil, words_here-blank, words_here-word, digits_inside, is_filled, lines_from, is_digit, is_natural, value_of, number_of, is_line_feed, words_here}
+use Rattle.std.proofs.Common.{not, append-nil}
 use Rattle.std.proofs.lemmas.List.Sums.{fold-append}
-use Rattle.std.proofs.lemmas.List.Folds.{list_all-append}
-use Rattle.text_scan.specs.Lines.{is_filled, lines_from}
-use Rattle.text_scan.specs.Numbers.{is_digit, is_natural, value_of, number_of}
 use Rattle.text_scan.specs.Steps.{ends_word, from_first, begins_word}
-use Rattle.text_scan.specs.Unread.{is_line_feed, words_here}
-use Rattle.text_scan.proofs.ListLemmas.{before_first-append, before_first-yes, from_first-append, from_first-yes}
-use Rattle.text_scan.proofs.PlaceLemmas.{words_here-nil, words_here-blank, words_here-word}
-use Rattle.text_scan.proofs.WrittenLemmas.{digits_inside}
-use Rattle.file_pieces.specs.Reading.{Reads, left_of}
-use Rattle.file_pieces.specs.FileLines.{LinesReading, IsOneLine, ReadsLine}
-use Rattle.surf_model.specs.declared.moves.Move.{Move}
-use Rattle.surf_model.specs.declared.moves.Move.TheVariants.{Across}
 use Rattle.walk_files.specs.Certificates.{direction_of, spur_of, across_of, move_of}
 use Rattle.walk_files.specs.Readers.{next_of, next_on}
 use Rattle.walk_files.specs.Streams.{end_behind}

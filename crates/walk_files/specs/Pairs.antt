@@ -1,7 +1,7 @@
 -- Two walks of a mesh with common ends, and what is first wrong with a list of walks that is no such pair.
 use Rattle.std.specs.Prelude.{◌≡◌, ℕ, ◌==◌, not, true, false, if◌then◌else◌, List, [], ◌∷◌, slice_index, Option, Some, None}
 use Rattle.surf_model.specs.FaceLists.{FaceList}
-use Rattle.surf_model.specs.Walks.{darts, IsWalk, HaveCommonEnds}
+use Rattle.surf_model.specs.Walks.{darts, AreWalkPair}
 use Rattle.walk_files.specs.TwoWalks.{two_fault}
 use Rattle.walk_files.specs.declared.entries.EntryFault.{EntryFault}
 use Rattle.walk_files.specs.declared.entries.EntryFault.TheVariants as entry
@@ -13,9 +13,7 @@ pub record IsPair (mesh : FaceList) (walks : List (List ℕ)) : Type 0 where
   pub first : List ℕ
   pub second : List ℕ
   pub two : walks ≡ first ∷ second ∷ []
-  pub first_walk : IsWalk mesh first
-  pub second_walk : IsWalk mesh second
-  pub ends : HaveCommonEnds first second
+  pub are : AreWalkPair mesh first second
 
 -- the same fault, as one of a pair
 abbrev pub of_entry : EntryFault → PairFault

@@ -1,3 +1,4 @@
+pub mod Common
 pub mod WidenedLemmas
 pub mod WidenedPaths
 mod WideningLemmas

@@ -1,22 +1,8 @@
 -- A widened labelling is good: at the component it is the narrow one, elsewhere each edge meets the tree rule.
-use Rattle.std.proofs.Common.{◌≡◌, ◌⊎◌, inl, inr, ℕ, ◌<◌, ◌≤◌, Bool, true, false, cond, List, [], length, get_or, replicate, refl, ap, sym, ◌∙◌, subst, arith}
-use Rattle.std.specs.Prelude.{All, Contains}
-use Rattle.std.proofs.lemmas.Bool.{cases_eq, cases_lt}
-use Rattle.std.proofs.lemmas.List.{get_or-replicate, get_or_past, get_or_default, length-replicate}
-use Rattle.surf_model.specs.FaceLists.{FaceList, IsFaceList, face_at}
-use Rattle.surf_model.specs.Darts.{IsSide, side_after, tail_of, head_of}
-use Rattle.surf_model.specs.Surfaces.{ArePartners, IsClosedManifold, IsCoherent, RunOppositely, is_flipped}
-use Rattle.surf_model.specs.Components.{place_of_face}
-use Rattle.surf_model.specs.declared.edges.Side.{Side}
-use Rattle.turn_words.specs.Modulo.{add}
-use Rattle.surf_model.specs.ComponentParts.{PartsView, AreParts, component_at, component_mesh}
-use Rattle.surf_model.specs.Submeshes.{submesh, signs_among}
+use Rattle.widening.proofs.Common.{HasShape, MeetsSomeRule, SidesMeetRule, IsGood, LabellingView, labels_at, label_at, signs_of, tail_label, head_label, IsOfComponent, face_same_place, IsPiece, IsRenamed, ComesFrom, HasPlaceAmong, renamed_side, renamed, comes_from, edge_of_side, face-submesh, length-submesh, partners_down, flipped_alike, ◌≡◌, ◌⊎◌, inl, inr, ℕ, ◌<◌, ◌≤◌, Bool, true, false, cond, List, [], length, get_or, replicate, refl, ap, sym, ◌∙◌, subst, arith, cases_eq, cases_lt, get_or-replicate, get_or_past, get_or_default, length-replicate, All, Contains, PartsView, AreParts, component_at, component_mesh, IsSide, side_after, tail_of, head_of, FaceList, IsFaceList, face_at, submesh, signs_among, ArePartners, IsClosedManifold, IsCoherent, RunOppositely, is_flipped, Side}
 use Rattle.connectivity.proofs.CornerLemmas.{after_in_mesh}
-use Rattle.manifold_check.proofs.PieceLemmas.{IsPiece, IsRenamed, ComesFrom, HasPlaceAmong, renamed_side, renamed, comes_from, edge_of_side, face-submesh, length-submesh}
-use Rattle.manifold_check.proofs.PieceSurfaces.{partners_down, flipped_alike}
-use Rattle.manifold_check.proofs.PartPieces.{IsOfComponent, face_same_place}
-use Rattle.labellings.specs.Labellings.{LabellingView, labels_at, label_at, signs_of, tail_label, head_label}
-use Rattle.labellings.specs.GoodLabellings.{HasShape, MeetsSomeRule, SidesMeetRule, IsGood}
+use Rattle.surf_model.specs.Components.{place_of_face}
+use Rattle.turn_words.specs.Modulo.{add}
 use Rattle.widening.specs.Widened.{IsWidened}
 
 -- a labelling of component `part` with the signs of the mesh, and the one that is widened from it

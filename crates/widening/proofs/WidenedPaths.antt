@@ -1,28 +1,16 @@
 -- Under a widened labelling the walks of the component have the same spokes, and so the same words.
-use Rattle.std.proofs.Common.{◌≡◌, ◌↔◌, ◌⊎◌, inl, inr, ℕ, suc, ◌+◌, ◌<◌, ◌≤◌, Bool, true, false, cond, List, [], ◌∷◌, ◌++◌, length, get_or, refl, ap, sym, ◌∙◌, subst, arith}
-use Rattle.std.specs.Prelude.{Option, Some}
-use Rattle.surf_model.specs.FaceLists.{FaceList, FaceSide, IsFaceList, is_edge}
+use Rattle.widening.proofs.Common.{IsGood, LabellingView, signs_of, tail_label, head_label, IsOfComponent, walk_alone, IsRenamed, renamed_side, renamed, start_alike, end_alike, ◌≡◌, ◌↔◌, ◌⊎◌, inl, inr, ℕ, suc, ◌+◌, ◌<◌, ◌≤◌, Bool, true, false, cond, List, [], ◌∷◌, ◌++◌, length, get_or, refl, ap, sym, ◌∙◌, subst, arith, Option, Some, PartsView, component_at, component_mesh, IsSide, tail_of, head_of, FaceList, FaceSide, IsFaceList, is_edge, submesh, is_flipped, start_under, end_under, Side}
+use Rattle.connectivity.proofs.EdgeLemmas.{HasSideBetween, side_between}
+use Rattle.flat_forms.specs.Pairs.{sum_of_pairs}
+use Rattle.labellings.proofs.SideLemmas.{HasPartner, entry_of, partner_of, side_found}
+use Rattle.labellings.specs.QuadPaths.{side_from, spokes, spokes_of_sides, spokes_by_labels, quad_path}
+use Rattle.labellings.specs.WalkWords.{IsWordOf, in_pairs}
+use Rattle.manifold_check.proofs.PieceSides.{valid_alone}
 use Rattle.surf_model.specs.Walks.{IsWalk}
-use Rattle.surf_model.specs.Darts.{IsSide, tail_of, head_of}
-use Rattle.surf_model.specs.Surfaces.{is_flipped, start_under, end_under}
-use Rattle.surf_model.specs.declared.edges.Side.{Side}
 use Rattle.turn_words.specs.Canonical.{IsCanonicalOf}
 use Rattle.turn_words.specs.SpokePaths.{turn_word_of}
 use Rattle.turn_words.specs.declared.word.Word.{Word}
 use Rattle.turn_words.specs.declared.word.Word.TheVariants.{Turns, Flat}
-use Rattle.flat_forms.specs.Pairs.{sum_of_pairs}
-use Rattle.surf_model.specs.ComponentParts.{PartsView, component_at, component_mesh}
-use Rattle.surf_model.specs.Submeshes.{submesh}
-use Rattle.connectivity.proofs.EdgeLemmas.{HasSideBetween, side_between}
-use Rattle.manifold_check.proofs.PieceLemmas.{IsRenamed, renamed_side, renamed}
-use Rattle.manifold_check.proofs.PieceSides.{valid_alone}
-use Rattle.manifold_check.proofs.PieceSurfaces.{start_alike, end_alike}
-use Rattle.manifold_check.proofs.PartPieces.{IsOfComponent, walk_alone}
-use Rattle.labellings.specs.Labellings.{LabellingView, signs_of, tail_label, head_label}
-use Rattle.labellings.specs.GoodLabellings.{IsGood}
-use Rattle.labellings.specs.QuadPaths.{side_from, spokes, spokes_of_sides, spokes_by_labels, quad_path}
-use Rattle.labellings.specs.WalkWords.{IsWordOf, in_pairs}
-use Rattle.labellings.proofs.SideLemmas.{HasPartner, entry_of, partner_of, side_found}
 use Rattle.widening.proofs.WidenedLemmas.{Widening, HasSameLabels, same_labels, good_widened}
 
 -- where a side of the component starts and ends under the narrow labelling and under the wide one

@@ -1,12 +1,5 @@
 -- A labelling is widened face by face, in the order of the mesh.
-use Rattle.std.proofs.Common.{◌≡◌, inl, inr, ℕ, ◌+◌, ◌<◌, ◌≤◌, Bool, false, List, [], ◌∷◌, ◌++◌, length, get_or, take, replicate, refl, ap, sym, ◌∙◌, subst, arith}
-use Rattle.std.specs.Prelude.{Contains}
-use Rattle.std.proofs.lemmas.Bool.{cases_eq, cases_lt}
-use Rattle.std.proofs.lemmas.List.{get_or_append_left, get_or_push, get_or_default, length_push, map-append, take_more, take_all}
-use Rattle.surf_model.specs.FaceLists.{FaceList, face_at}
-use Rattle.surf_model.specs.Surfaces.{is_flipped}
-use Rattle.manifold_check.proofs.PieceLemmas.{IsPiece}
-use Rattle.labellings.specs.Labellings.{FaceLabels, LabellingView, labels_at, signs_of}
+use Rattle.widening.proofs.Common.{FaceLabels, LabellingView, labels_at, signs_of, IsPiece, ◌≡◌, inl, inr, ℕ, ◌+◌, ◌<◌, ◌≤◌, Bool, false, List, [], ◌∷◌, ◌++◌, length, get_or, take, replicate, refl, ap, sym, ◌∙◌, subst, arith, cases_eq, cases_lt, get_or_append_left, get_or_push, get_or_default, length_push, map-append, take_more, take_all, Contains, FaceList, face_at, is_flipped}
 use Rattle.widening.specs.Widened.{IsWidened}
 
 -- the faces below n are widened, and `next` of those with names are among them

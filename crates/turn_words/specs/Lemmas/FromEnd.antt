@@ -29,9 +29,6 @@ in-range-good d [] g = tt
 in-range-good d (x ∷ []) g = (g, tt)
 in-range-good d (x ∷ y ∷ r) g = (g.0, in-range-good d (y ∷ r) g.2)
 
-closes-two : (ts : List ℕ) → closes_bracket (2 ∷ ts) ≡ closes_bracket ts
-closes-two ts = refl
-
 closes-other : (x : ℕ) (ts : List ℕ) → x ≢ 1 → x ≢ 2 → closes_bracket (x ∷ ts) ≡ false
 closes-other x ts a b = rw (ne_eqb x 1 a, ne_eqb x 2 b) refl
 

@@ -1,5 +1,4 @@
-use Rattle.std.proofs.Common.{◌≡◌, ◌+◌, ℕ, List, length, drop, get_or, ap, sym, ◌∙◌, arith}
-use Rattle.std.proofs.lemmas.List.{drop-drop, length-drop, get_or-drop}
+use Rattle.chain_pool.proofs.Common.{◌≡◌, ◌+◌, ℕ, List, length, drop, get_or, ap, sym, ◌∙◌, arith, drop-drop, length-drop, get_or-drop}
 use Rattle.chain_pool.proofs.Reading.{rest_left, some_left, first_left}
 use Rattle.chain_pool.proofs.pool.entry_at.Goals as goal
 

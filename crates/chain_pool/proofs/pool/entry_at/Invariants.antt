@@ -1,4 +1,4 @@
-use Rattle.std.proofs.Common.{◌≡◌, drop}
+use Rattle.chain_pool.proofs.Common.{◌≡◌, drop}
 use Rattle.chain_pool.proofs.pool.entry_at.Given as goal
 
 abbrev pub invariant-loop-i : goal.invariant-loop-i

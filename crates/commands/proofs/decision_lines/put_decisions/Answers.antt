@@ -1,10 +1,5 @@
-use Rattle.std.proofs.Common.{◌∙◌, ◌∷◌, [], List, ℕ, ap, arith, get_or, length}
-use Rattle.std.proofs.lemmas.Option.{slice_get-get_or}
-use Rattle.std.proofs.lemmas.Result.{err_from_is_err_and}
-use Rattle.text_scan.specs.Plain.{line_of}
-use Rattle.surf_io.proofs.Gathering.{each-none, each-more, each-fails, puts-same}
+use Rattle.commands.proofs.Common.{◌∙◌, ◌∷◌, [], List, ℕ, ap, arith, get_or, length, slice_get-get_or, err_from_is_err_and, each-none, each-more, each-fails, puts-same, Homotopic, line_of}
 use Rattle.surf_model.specs.declared.decisions.Answer.{Answer}
-use Rattle.surf_model.specs.declared.decisions.Answer.TheVariants.{Homotopic}
 use Rattle.commands.specs.Certificates.{decision_line}
 use Rattle.commands.proofs.GatheredLines.{decision_line-put, decision_word-short}
 use Rattle.commands.proofs.Writing.{writes_each, writes_unput}

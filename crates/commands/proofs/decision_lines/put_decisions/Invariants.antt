@@ -1,4 +1,4 @@
-use Rattle.surf_io.proofs.Gathering.{EachPut}
+use Rattle.commands.proofs.Common.{EachPut}
 use Rattle.commands.specs.Certificates.{decision_line}
 use Rattle.commands.proofs.decision_lines.put_decisions.Given as goal
 

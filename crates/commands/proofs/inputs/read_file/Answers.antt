@@ -1,5 +1,5 @@
-use Rattle.std.proofs.Common.{Err, refl, ap}
-use Rattle.surf_io.specs.Files.{file_of}
+use Rattle.commands.proofs.Common.{refl, ap, file_of}
+use Rattle.std.proofs.Common.{Err}
 use Rattle.commands.specs.Checks.{file}
 use Rattle.commands.specs.Refusals.{too_large}
 use Rattle.commands.specs.declared.inputs.TheConstants.{MOST_BYTES}

@@ -1,4 +1,4 @@
-use Rattle.walk_files.specs.WalkTexts.{walk_text_of}
+use Rattle.commands.proofs.Common.{walk_text_of}
 use Rattle.commands.specs.Checks.{file, meant}
 use Rattle.commands.specs.Refusals.{numbers_line}
 use Rattle.commands.specs.declared.refusal.Input.TheVariants.{Walks}

@@ -1,7 +1,4 @@
-use Rattle.std.proofs.Common.{inr, refl}
-use Rattle.std.proofs.lemmas.Result.{err_from_is_err_and}
-use Rattle.off_reader.specs.OffTexts.{meaning_of}
-use Rattle.off_reader.specs.declared.off_fault.OffFault.TheVariants.{OutOfMemory}
+use Rattle.commands.proofs.Common.{meaning_of, OutOfMemory, inr, refl, err_from_is_err_and}
 use Rattle.commands.specs.Checks.{file, meant}
 use Rattle.commands.specs.Refusals.{off_line}
 use Rattle.commands.specs.declared.refusal.Input.TheVariants.{Mesh}

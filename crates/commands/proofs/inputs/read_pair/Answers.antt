@@ -1,6 +1,4 @@
-use Rattle.std.proofs.Common.{sym}
-use Rattle.std.proofs.lemmas.Result.{err_from_is_err_and}
-use Rattle.walk_files.specs.Pairs.{pair_fault}
+use Rattle.commands.proofs.Common.{sym, err_from_is_err_and, pair_fault}
 use Rattle.commands.specs.Refusals.{pair_line}
 use Rattle.commands.proofs.Running.{only_self, reads_faulty, reads_made, reads_then, tells_no_fault}
 use Rattle.commands.proofs.WalkInputs.{fault_stops, text_passes, text_stops}

@@ -1,5 +1,4 @@
-use Rattle.std.proofs.Common.{refl}
-use Rattle.walk_files.specs.WalkTexts.{walk_text_of}
+use Rattle.commands.proofs.Common.{refl, walk_text_of}
 use Rattle.walk_files.specs.declared.fault.WalkFault.TheVariants.{OutOfMemory}
 use Rattle.commands.specs.Refusals.{numbers_line}
 use Rattle.commands.specs.declared.refusal.Input.TheVariants.{Walks}

@@ -1,5 +1,4 @@
-use Rattle.std.proofs.Common.{◌≡◌, ◌≤◌, take}
-use Rattle.surf_io.specs.Bytes.{Appends}
+use Rattle.commands.proofs.Common.{◌≡◌, ◌≤◌, take, Appends}
 use Rattle.commands.specs.Lines.{in_lines}
 use Rattle.commands.proofs.line.put_lines.Given as goal
 

@@ -1,6 +1,4 @@
-use Rattle.std.specs.Prelude.{codes, flat_map}
-use Rattle.std.proofs.lemmas.Result.{err_from_is_err_and}
-use Rattle.surf_io.proofs.Gathering.{gathers-put, puts-fails, puts-same, puts-then}
+use Rattle.commands.proofs.Common.{err_from_is_err_and, codes, flat_map, gathers-put, puts-fails, puts-same, puts-then}
 use Rattle.commands.proofs.GatheredLines.{link_text, odd_chain_line-put}
 use Rattle.commands.proofs.odd_chain_line.put_line.Goals as goal
 

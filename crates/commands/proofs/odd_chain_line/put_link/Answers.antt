@@ -1,8 +1,4 @@
-use Rattle.std.proofs.Common.{[], ◌++◌, sym}
-use Rattle.std.proofs.lemmas.List.{append-nil}
-use Rattle.std.proofs.lemmas.Result.{err_from_is_err_and}
-use Rattle.surf_io.specs.Gathered.{spaced}
-use Rattle.surf_io.proofs.Gathering.{puts-fails, puts-same, puts-then}
+use Rattle.commands.proofs.Common.{[], ◌++◌, sym, append-nil, err_from_is_err_and, puts-fails, puts-same, puts-then, spaced}
 use Rattle.commands.proofs.odd_chain_line.put_link.Goals as goal
 
 pub returns-in_err-put_behind : goal.returns-in_err-put_behind

@@ -1,6 +1,4 @@
-use Rattle.std.proofs.Common.{arith}
-use Rattle.std.proofs.lemmas.Result.{err_from_is_err_and}
-use Rattle.surf_io.proofs.Gathering.{each-none, each-more, each-fails, each-all}
+use Rattle.commands.proofs.Common.{arith, err_from_is_err_and, each-none, each-more, each-fails, each-all}
 use Rattle.commands.proofs.GatheredLines.{link_text}
 use Rattle.commands.proofs.odd_chain_line.put_links.Goals as goal
 

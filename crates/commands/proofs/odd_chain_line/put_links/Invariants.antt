@@ -1,4 +1,4 @@
-use Rattle.surf_io.proofs.Gathering.{EachPut}
+use Rattle.commands.proofs.Common.{EachPut}
 use Rattle.commands.proofs.GatheredLines.{link_text}
 use Rattle.commands.proofs.odd_chain_line.put_links.Given as goal
 

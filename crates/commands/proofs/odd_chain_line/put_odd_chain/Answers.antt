@@ -1,5 +1,4 @@
-use Rattle.std.proofs.Common.{[], refl}
-use Rattle.std.proofs.lemmas.Result.{err_from_is_err_and}
+use Rattle.commands.proofs.Common.{[], refl, err_from_is_err_and}
 use Rattle.commands.proofs.Writing.{writes_put, writes_unput}
 use Rattle.commands.proofs.odd_chain_line.put_odd_chain.Goals as goal
 

@@ -1,5 +1,4 @@
-use Rattle.std.proofs.Common.{◌∙◌, arith}
-use Rattle.surf_io.specs.Calls.{WroteAll}
+use Rattle.commands.proofs.Common.{◌∙◌, arith, WroteAll}
 use Rattle.commands.specs.Replies.{reply_text}
 use Rattle.commands.proofs.Writing.{AppendsPrefix-whole}
 use Rattle.commands.proofs.reply.settle.Goals as goal

@@ -1,5 +1,4 @@
-use Rattle.std.proofs.lemmas.Result.{err_from_is_err_and}
-use Rattle.walk_files.specs.DenialTexts.{denial_text}
+use Rattle.commands.proofs.Common.{err_from_is_err_and, denial_text}
 use Rattle.commands.proofs.Writing.{writes_behind, writes_no_line}
 use Rattle.commands.proofs.text.put_denial.Goals as goal
 

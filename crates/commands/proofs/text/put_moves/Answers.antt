@@ -1,4 +1,4 @@
-use Rattle.std.proofs.lemmas.Result.{err_from_is_err_and}
+use Rattle.commands.proofs.Common.{err_from_is_err_and}
 use Rattle.walk_files.specs.MoveTexts.{list_text}
 use Rattle.commands.proofs.Writing.{both_err, writes_behind, writes_no_line}
 use Rattle.commands.proofs.text.put_moves.Goals as goal

@@ -1,8 +1,5 @@
-use Rattle.std.proofs.Common.{◌≡◌, ◌<◌, ◌≤◌, List, [], ℕ, Some, length, get_or, refl, subst}
-use Rattle.std.specs.Prelude.{slice_get}
-use Rattle.std.proofs.lemmas.Option.{slice_get_read}
-use Rattle.std.proofs.lemmas.Result.{err_from_is_err_and}
-use Rattle.surf_io.proofs.Gathering.{each-none, each-more, each-fails, puts-same}
+use Rattle.commands.proofs.Common.{◌≡◌, ◌<◌, ◌≤◌, List, [], ℕ, length, get_or, refl, subst, slice_get_read, err_from_is_err_and, slice_get, each-none, each-more, each-fails, puts-same}
+use Rattle.std.proofs.Common.{Some}
 use Rattle.commands.specs.WordTexts.{word_line}
 use Rattle.commands.proofs.GatheredLines.{word_line-put}
 use Rattle.commands.proofs.Writing.{writes_each, writes_unput}

@@ -1,4 +1,4 @@
-use Rattle.surf_io.proofs.Gathering.{EachPut}
+use Rattle.commands.proofs.Common.{EachPut}
 use Rattle.commands.specs.WordTexts.{word_line}
 use Rattle.commands.proofs.word_lines.put_words.Given as goal
 

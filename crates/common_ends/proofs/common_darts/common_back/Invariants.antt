@@ -1,5 +1,4 @@
-use Rattle.std.proofs.Common.{◌≡◌, ◌-◌, drop}
-use Rattle.surf_model.specs.Walks.{darts}
+use Rattle.common_ends.proofs.Common.{◌≡◌, ◌-◌, drop, darts}
 use Rattle.common_ends.proofs.common_darts.common_back.Given as goal
 
 abbrev pub invariant-loop-back : goal.invariant-loop-back

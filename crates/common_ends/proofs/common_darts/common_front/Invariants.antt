@@ -1,4 +1,4 @@
-use Rattle.std.proofs.Common.{◌≡◌, ◌+◌, take}
+use Rattle.common_ends.proofs.Common.{◌≡◌, ◌+◌, take}
 use Rattle.common_ends.proofs.common_darts.common_front.Given as goal
 
 abbrev pub invariant-loop-front : goal.invariant-loop-front

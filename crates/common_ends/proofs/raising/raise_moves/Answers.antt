@@ -1,6 +1,5 @@
-use Rattle.std.proofs.Common.{◌≡◌, inl, inr, ℕ, ◌+◌, max, ap, ◌∙◌, arith}
+use Rattle.common_ends.proofs.Common.{◌≡◌, inl, inr, ℕ, ◌+◌, max, ap, ◌∙◌, arith, PeakedMoves}
 use Rattle.std.proofs.lemmas.Bool.{cases_eq}
-use Rattle.surf_model.specs.Moves.{PeakedMoves}
 use Rattle.common_ends.proofs.PeakLemmas.{raised_more}
 use Rattle.common_ends.proofs.raising.raise_moves.Goals as goal
 

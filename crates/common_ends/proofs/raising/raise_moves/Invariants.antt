@@ -1,5 +1,4 @@
-use Rattle.std.proofs.Common.{◌≡◌, ◌<◌, ◌++◌, max, take}
-use Rattle.surf_model.specs.Rewriting.{all_raised}
+use Rattle.common_ends.proofs.Common.{◌≡◌, ◌<◌, ◌++◌, max, take, all_raised}
 use Rattle.common_ends.proofs.raising.raise_moves.Given as goal
 
 abbrev pub invariant-loop-place : goal.invariant-loop-place

@@ -1,4 +1,4 @@
-use Rattle.std.proofs.Common.{◌≡◌, ◌<◌, length}
+use Rattle.connectivity.proofs.Common.{◌≡◌, ◌<◌, length}
 use Rattle.connectivity.specs.Classes.{IsForest, root_of, HasSameRoots}
 use Rattle.connectivity.proofs.classes.root.Given as goal
 

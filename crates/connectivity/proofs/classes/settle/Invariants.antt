@@ -1,4 +1,4 @@
-use Rattle.std.proofs.Common.{◌≡◌, ◌<◌, ℕ, get_or}
+use Rattle.connectivity.proofs.Common.{◌≡◌, ◌<◌, ℕ, get_or}
 use Rattle.connectivity.specs.Classes.{IsForest, root_of, HasSameRoots}
 use Rattle.connectivity.proofs.classes.settle.Given as goal
 

@@ -1,5 +1,4 @@
-use Rattle.std.proofs.Common.{sym, ◌∙◌}
-use Rattle.std.proofs.lemmas.Bool.{eqb-true, both_ways, eq-eqb}
+use Rattle.connectivity.proofs.Common.{sym, ◌∙◌, eqb-true, both_ways, eq-eqb}
 use Rattle.connectivity.proofs.RingLemmas.{AreMadeJoined, joined_alike, joined_opposite}
 use Rattle.connectivity.proofs.corners.join_across.Goals as goal
 

@@ -1,8 +1,5 @@
-use Rattle.std.proofs.Common.{Vec, ◌≡◌, ◌+◌, ◌<◌, ℕ, List, length, refl, ap, sym, ◌∙◌, subst, arith}
-use Rattle.std.specs.Vec.{with_items}
+use Rattle.connectivity.proofs.Common.{Vec, ◌≡◌, ◌+◌, ◌<◌, ℕ, List, length, refl, ap, sym, ◌∙◌, subst, arith, length-set, with_items_is, with_items, Side}
 use Rattle.std.specs.declared.alloc.Global.{Global}
-use Rattle.surf_model.specs.declared.edges.Side.{Side}
-use Rattle.std.proofs.lemmas.List.{length-set, with_items_is}
 use Rattle.connectivity.specs.Links.{link_at, with_ring, AreLinksUpTo}
 use Rattle.connectivity.specs.declared.corners.Link.{Link}
 use Rattle.connectivity.proofs.CornerLemmas.{corner_below}

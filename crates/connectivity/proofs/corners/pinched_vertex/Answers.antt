@@ -1,5 +1,4 @@
-use Rattle.std.proofs.Common.{◌≡◌, ◌<◌, ℕ, List, length, ap, subst, arith}
-use Rattle.std.specs.Prelude.{IfSome, IfNone}
+use Rattle.connectivity.proofs.Common.{◌≡◌, ◌<◌, ℕ, List, length, ap, subst, arith, IfSome, IfNone}
 use Rattle.connectivity.specs.Links.{AreLinks, IsFirstPinched, link_at}
 use Rattle.connectivity.specs.declared.corners.Link.{Link}
 use Rattle.connectivity.specs.declared.corners.Link.TheVariants.{Pinched}

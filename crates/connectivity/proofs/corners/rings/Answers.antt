@@ -1,7 +1,4 @@
-use Rattle.std.proofs.Common.{◌≡◌, ◌⊎◌, inl, inr, ◌+◌, ℕ, List, refl, ap, sym, ◌∙◌, subst, arith}
-use Rattle.std.specs.List.{range_with_len}
-use Rattle.surf_model.specs.Darts.{first_side, IsSide}
-use Rattle.surf_model.specs.declared.edges.Side.{Side}
+use Rattle.connectivity.proofs.Common.{◌≡◌, ◌⊎◌, inl, inr, ◌+◌, ℕ, List, refl, ap, sym, ◌∙◌, subst, arith, range_with_len, first_side, IsSide, Side}
 use Rattle.surf_model.proofs.SideNumberLemmas.{first_side-more, first_side-all}
 use Rattle.connectivity.specs.Partitions.{AreRings}
 use Rattle.connectivity.proofs.RingLemmas.{HasPartner, IsAlone, AreMadeJoined, partner_or_alone, partners_by_number, JoinsSidesUpTo, sides_none, sides_fewer, side_alone, side_passed, side_joined, sides_all}

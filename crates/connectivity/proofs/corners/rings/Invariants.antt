@@ -1,5 +1,4 @@
-use Rattle.std.proofs.Common.{◌+◌}
-use Rattle.surf_model.specs.Darts.{first_side}
+use Rattle.connectivity.proofs.Common.{◌+◌, first_side}
 use Rattle.connectivity.proofs.RingLemmas.{JoinsSidesUpTo}
 use Rattle.connectivity.proofs.corners.rings.Given as goal
 

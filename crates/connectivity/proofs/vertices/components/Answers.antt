@@ -1,5 +1,4 @@
-use Rattle.std.proofs.Common.{◌+◌, ℕ, List, ap, sym, ◌∙◌, subst, arith}
-use Rattle.std.specs.List.{range_with_len}
+use Rattle.connectivity.proofs.Common.{◌+◌, ℕ, List, ap, sym, ◌∙◌, subst, arith, range_with_len}
 use Rattle.connectivity.specs.Partitions.{AreComponents}
 use Rattle.connectivity.proofs.EdgeLemmas.{ends_below}
 use Rattle.connectivity.proofs.ComponentLemmas.{JoinsEdgesUpTo, edges_none, edges_more, edges_all}

@@ -1,5 +1,4 @@
-use Rattle.std.proofs.Common.{◌≡◌, ◌<◌, ℕ, true, get_or}
-use Rattle.surf_model.specs.FaceLists.{is_used}
+use Rattle.connectivity.proofs.Common.{◌≡◌, ◌<◌, ℕ, true, get_or, is_used}
 use Rattle.connectivity.proofs.vertices.least_elsewhere.Given as goal
 
 abbrev pub invariant-loop-other : goal.invariant-loop-other

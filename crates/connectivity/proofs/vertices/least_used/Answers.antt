@@ -1,4 +1,4 @@
-use Rattle.std.proofs.Common.{arith}
+use Rattle.connectivity.proofs.Common.{arith}
 use Rattle.connectivity.proofs.EdgeLemmas.{used_below}
 use Rattle.connectivity.proofs.vertices.least_used.Goals as goal
 

@@ -1,5 +1,4 @@
-use Rattle.std.proofs.Common.{◌≡◌, ◌<◌, ℕ, true}
-use Rattle.surf_model.specs.FaceLists.{is_used}
+use Rattle.connectivity.proofs.Common.{◌≡◌, ◌<◌, ℕ, true, is_used}
 use Rattle.connectivity.proofs.vertices.least_used.Given as goal
 
 abbrev pub invariant-loop-vertex : goal.invariant-loop-vertex

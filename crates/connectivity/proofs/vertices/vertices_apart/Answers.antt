@@ -1,5 +1,4 @@
-use Rattle.std.proofs.Common.{◌≡◌, ◌<◌, ℕ, List, get_or, subst, true}
-use Rattle.surf_model.specs.FaceLists.{is_used}
+use Rattle.connectivity.proofs.Common.{◌≡◌, ◌<◌, ℕ, List, get_or, subst, true, is_used}
 use Rattle.connectivity.specs.Partitions.{IsLeastElsewhere}
 use Rattle.connectivity.proofs.EdgeLemmas.{used_below}
 use Rattle.connectivity.proofs.WalkLemmas.{least_apart, all_joined}

@@ -1,5 +1,4 @@
-use Rattle.std.proofs.Common.{◌+◌, ℕ, List, refl, ◌∙◌, sym}
-use Rattle.text_scan.specs.Unread.{words_here}
+use Rattle.file_pieces.proofs.Common.{◌+◌, ℕ, List, refl, ◌∙◌, sym, words_here}
 use Rattle.file_pieces.proofs.FileLineLemmas.{line_found, line_blank, finds, ends_blank}
 use Rattle.file_pieces.proofs.file_lines.end_line.Goals as goal
 

@@ -1,5 +1,4 @@
-use Rattle.std.proofs.Common.{◌≡◌, ◌+◌, ℕ, List, [], cond, refl, ◌∙◌, sym, rules}
-use Rattle.text_scan.specs.Unread.{words_here}
+use Rattle.file_pieces.proofs.Common.{◌≡◌, ◌+◌, ℕ, List, [], cond, refl, ◌∙◌, sym, rules, words_here}
 use Rattle.file_pieces.proofs.FileLineLemmas.{text_found, text_blank, ends_text}
 use Rattle.file_pieces.proofs.file_lines.end_text.Goals as goal
 

@@ -1,6 +1,4 @@
-use Rattle.std.proofs.Common.{◌≡◌, ℕ, List, Bool, Option, true, false, Some, [], ◌∷◌, drop, ap, ◌∙◌, subst, sym, arith, rules}
-use Rattle.surf_io.specs.Files.{Files, file_of}
-use Rattle.text_scan.specs.Lines.{unmarked}
+use Rattle.file_pieces.proofs.Common.{◌≡◌, ℕ, List, Bool, Option, true, false, Some, [], ◌∷◌, drop, ap, ◌∙◌, subst, sym, arith, rules, Files, file_of, unmarked}
 use Rattle.file_pieces.specs.Reading.{Reads, left_of}
 use Rattle.file_pieces.specs.ShortLines.{Stands}
 use Rattle.file_pieces.specs.FileLines.{IsOn, Passes}

@@ -1,6 +1,4 @@
-use Rattle.std.proofs.Common.{◌≡◌, ◌+◌, ℕ, List, Option, Some, IfSome, ap, ◌∙◌, subst, arith}
-use Rattle.surf_io.specs.Files.{Files, file_of}
-use Rattle.text_scan.specs.Unread.{words_here}
+use Rattle.file_pieces.proofs.Common.{◌≡◌, ◌+◌, ℕ, List, Option, Some, IfSome, ap, ◌∙◌, subst, arith, Files, file_of, words_here}
 use Rattle.file_pieces.specs.Reading.{Reads, left_of}
 use Rattle.file_pieces.specs.FileLines.{IsOn, ReadsLine, StandsBehind, IsNumbered, TakesPlace}
 use Rattle.file_pieces.specs.declared.file_lines.Taken.TheVariants.{Open, Found, End}

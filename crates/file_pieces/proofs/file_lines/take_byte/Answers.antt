@@ -1,5 +1,4 @@
-use Rattle.std.proofs.Common.{◌≡◌, ℕ, List, Option, Some, IfSome, ◌∷◌, ap, ◌∙◌, subst}
-use Rattle.surf_io.specs.Files.{file_of}
+use Rattle.file_pieces.proofs.Common.{◌≡◌, ℕ, List, Option, Some, IfSome, ◌∷◌, ap, ◌∙◌, subst, file_of}
 use Rattle.file_pieces.specs.Reading.{Reading, Reads, left_of}
 use Rattle.file_pieces.specs.FileLines.{IsOn, StandsBehind}
 use Rattle.file_pieces.proofs.ReadingLemmas.{Taken, told, at_told}

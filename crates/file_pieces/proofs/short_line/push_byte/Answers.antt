@@ -1,7 +1,4 @@
-use Rattle.std.proofs.Common.{◌≡◌, ◌&&◌, ℕ, List, false, [], ◌∷◌, ◌++◌, length, sym, ap, ◌∙◌, arith}
-use Rattle.std.specs.Str.{bytes_eq}
-use Rattle.std.proofs.lemmas.Bool.{and_parts}
-use Rattle.text_scan.specs.Numbers.{is_digit}
+use Rattle.file_pieces.proofs.Common.{◌≡◌, ◌&&◌, ℕ, List, false, [], ◌∷◌, ◌++◌, length, sym, ap, ◌∙◌, arith, and_parts, bytes_eq, is_digit}
 use Rattle.file_pieces.proofs.ShortLemmas.{zero_replaced, byte_put, byte_left_out}
 use Rattle.file_pieces.proofs.short_line.push_byte.Goals as goal
 

@@ -1,8 +1,7 @@
-use Rattle.std.proofs.Common.{inl, inr, Err, ap, arith}
+use Rattle.free_forms.proofs.Common.{few_from_table, inl, inr, Err, ap, arith}
 use Rattle.free_forms.specs.OpenSurfaces.{IsOpenSurface}
 use Rattle.free_forms.specs.OpenFaults.{IsFirstFault}
 use Rattle.free_forms.specs.declared.fault.OpenFault.TheVariants.{EdgeSides, NoBoundary, Pinched, Apart}
-use Rattle.connectivity.proofs.EdgeCounts.{few_from_table}
 use Rattle.free_forms.proofs.EdgeCountLemmas.{boundary_from_table, no_boundary_from_table, crowded_as_read}
 use Rattle.free_forms.proofs.FaultLemmas.{one_fault, no_fault}
 use Rattle.free_forms.proofs.check.check_open.Goals as goal

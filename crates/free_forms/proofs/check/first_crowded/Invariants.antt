@@ -1,5 +1,4 @@
-use Rattle.std.proofs.Common.{◌<◌, ◌≤◌, ℕ, length}
-use Rattle.surf_model.specs.Edges.{edge_in}
+use Rattle.free_forms.proofs.Common.{◌<◌, ◌≤◌, ℕ, length, edge_in}
 use Rattle.free_forms.proofs.check.first_crowded.Given as goal
 
 abbrev pub invariant-loop-edge : goal.invariant-loop-edge

@@ -1,4 +1,4 @@
-use Rattle.std.proofs.Common.{◌≡◌, ◌<◌, ℕ, get_or}
+use Rattle.free_forms.proofs.Common.{◌≡◌, ◌<◌, ℕ, get_or}
 use Rattle.free_forms.proofs.deciding.are_equal.Given as goal
 
 abbrev pub invariant-loop-place : goal.invariant-loop-place

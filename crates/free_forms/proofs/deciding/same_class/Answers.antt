@@ -1,6 +1,4 @@
-use Rattle.std.proofs.Common.{◌≡◌}
-use Rattle.std.specs.Prelude.{◌↔◌}
-use Rattle.surf_model.specs.Moves.{Homotopic}
+use Rattle.free_forms.proofs.Common.{◌≡◌, ◌↔◌, Homotopic}
 use Rattle.free_forms.proofs.NormalLemmas.{by_normal_walks}
 use Rattle.free_forms.proofs.deciding.same_class.Goals as goal
 

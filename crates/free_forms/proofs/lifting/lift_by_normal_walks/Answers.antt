@@ -1,10 +1,4 @@
-use Rattle.std.proofs.Common.{◌≡◌, ℕ, ◌+◌, ◌*◌, ◌++◌, ap, sym, ◌∙◌, subst, arith}
-use Rattle.std.specs.Prelude.{All, ◌↔◌}
-use Rattle.std.proofs.lemmas.Bool.{both_ways}
-use Rattle.surf_model.specs.FaceLists.{FaceList}
-use Rattle.surf_model.specs.Moves.{PeakedMoves, Homotopic}
-use Rattle.surf_model.specs.Rewriting.{way_back}
-use Rattle.surf_model.specs.Walks.{darts}
+use Rattle.free_forms.proofs.Common.{◌≡◌, ℕ, ◌+◌, ◌*◌, ◌++◌, ap, sym, ◌∙◌, subst, arith, both_ways, All, ◌↔◌, FaceList, PeakedMoves, Homotopic, way_back, darts}
 use Rattle.free_forms.specs.Normal.{IsNormal}
 use Rattle.free_forms.specs.PeakedLists.{LeadsAtPeak, IsWithin, IsMoveOf}
 use Rattle.free_forms.specs.declared.limits.TheConstants.{MOST_OPEN_SIDES}

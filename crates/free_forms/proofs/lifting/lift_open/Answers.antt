@@ -1,11 +1,4 @@
-use Rattle.std.proofs.Common.{ℕ, ◌+◌, ◌*◌, refl, subst, arith}
-use Rattle.std.specs.Prelude.{MatchOption, IfSome}
-use Rattle.surf_model.specs.FaceLists.{FaceList}
-use Rattle.surf_model.specs.Moves.{Homotopic}
-use Rattle.surf_model.specs.Walks.{darts, AreWalkPair}
-use Rattle.common_ends.specs.Trimmed.{put_around}
-use Rattle.common_ends.proofs.PeakLemmas.{places_within}
-use Rattle.common_ends.proofs.TrimLemmas.{AreLeft, fewer_darts, left_together, left_apart, left_leads}
+use Rattle.free_forms.proofs.Common.{places_within, AreLeft, fewer_darts, left_together, left_apart, left_leads, put_around, ℕ, ◌+◌, ◌*◌, refl, subst, arith, MatchOption, IfSome, FaceList, Homotopic, darts, AreWalkPair}
 use Rattle.free_forms.specs.PeakedLists.{LeadsAtPeak, IsWithin}
 use Rattle.free_forms.specs.declared.limits.TheConstants.{MOST_OPEN_SIDES, MOST_OPEN_STEPS}
 use Rattle.free_forms.proofs.AroundLemmas.{around_within}

@@ -1,9 +1,4 @@
-use Rattle.std.proofs.Common.{◌≡◌, inl, inr, ℕ, ◌+◌, ◌-◌, ◌<◌, max, List, [], ◌∷◌, ◌++◌, length, drop, ap, sym, ◌∙◌, arith, append_assoc}
-use Rattle.std.proofs.lemmas.Bool.{cases_eq}
-use Rattle.surf_model.specs.FaceLists.{FaceList}
-use Rattle.surf_model.specs.Moves.{PeakedMoves}
-use Rattle.surf_model.specs.Rewriting.{inverse_of, sides_of_move, way_back}
-use Rattle.surf_model.specs.declared.moves.Move.{Move}
+use Rattle.free_forms.proofs.Common.{◌≡◌, inl, inr, ℕ, ◌+◌, ◌-◌, ◌<◌, max, List, [], ◌∷◌, ◌++◌, length, drop, ap, sym, ◌∙◌, arith, append_assoc, cases_eq, FaceList, PeakedMoves, inverse_of, sides_of_move, way_back, Move}
 use Rattle.free_forms.proofs.BackLemmas.{back_more}
 use Rattle.free_forms.proofs.lifting.push_back.Goals as goal
 

@@ -1,5 +1,4 @@
-use Rattle.std.proofs.Common.{◌≡◌, ◌-◌, ◌<◌, ◌++◌, max, length, drop}
-use Rattle.surf_model.specs.Rewriting.{way_back}
+use Rattle.free_forms.proofs.Common.{◌≡◌, ◌-◌, ◌<◌, ◌++◌, max, length, drop, way_back}
 use Rattle.free_forms.proofs.lifting.push_back.Given as goal
 
 abbrev pub invariant-loop-back : goal.invariant-loop-back

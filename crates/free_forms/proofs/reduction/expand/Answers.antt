@@ -1,8 +1,5 @@
-use Rattle.std.proofs.Common.{ℕ, ◌+◌, ◌≤◌, length, eqb, ap, ◌∙◌, subst, arith}
+use Rattle.free_forms.proofs.Common.{ℕ, ◌+◌, ◌≤◌, length, eqb, ap, ◌∙◌, subst, arith, face_at, Side, MOST_PEAK}
 use Rattle.std.proofs.lemmas.Result.{on_ok_weaker}
-use Rattle.surf_model.specs.FaceLists.{face_at}
-use Rattle.surf_model.specs.declared.edges.Side.{Side}
-use Rattle.surf_model.specs.declared.limits.TheConstants.{MOST_PEAK}
 use Rattle.free_forms.specs.Parents.{Joins}
 use Rattle.free_forms.proofs.ExpandLemmas.{IsRead, pushed_length, expands_made, length_numbers, length_coming}
 use Rattle.free_forms.proofs.reduction.expand.Goals as goal

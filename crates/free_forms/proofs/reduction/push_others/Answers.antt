@@ -1,11 +1,4 @@
-use Rattle.std.proofs.Common.{◌≡◌, ℕ, suc, ◌+◌, ◌-◌, List, [], ◌∷◌, ◌++◌, length, get_or, ap, sym, ◌∙◌, arith, append_assoc}
-use Rattle.std.proofs.lemmas.List.{map-append}
-use Rattle.surf_model.specs.FaceLists.{face_at, next_corner}
-use Rattle.surf_model.specs.Vertices.{numbers}
-use Rattle.surf_model.specs.declared.names.VertexName.{VertexName}
-use Rattle.surf_model.proofs.RoundLemmas.{corner_after}
-use Rattle.walk_actions.specs.Actions.{beyond}
-use Rattle.walk_actions.proofs.Corners.{beyond_more, after_more}
+use Rattle.free_forms.proofs.Common.{◌≡◌, ℕ, suc, ◌+◌, ◌-◌, List, [], ◌∷◌, ◌++◌, length, get_or, ap, sym, ◌∙◌, arith, append_assoc, map-append, corner_after, face_at, next_corner, numbers, VertexName, beyond_more, after_more, beyond}
 use Rattle.free_forms.proofs.reduction.push_others.Goals as goal
 
 pub loop-step-preserved : goal.loop-step-preserved

@@ -1,8 +1,4 @@
-use Rattle.std.proofs.Common.{◌≡◌, ◌-◌, ◌<◌, ◌++◌, length}
-use Rattle.surf_model.specs.FaceLists.{face_at}
-use Rattle.surf_model.specs.Vertices.{numbers}
-use Rattle.surf_model.proofs.RoundLemmas.{corner_after}
-use Rattle.walk_actions.specs.Actions.{beyond}
+use Rattle.free_forms.proofs.Common.{◌≡◌, ◌-◌, ◌<◌, ◌++◌, length, corner_after, face_at, numbers, beyond}
 use Rattle.free_forms.proofs.reduction.push_others.Given as goal
 
 abbrev pub invariant-loop-step : goal.invariant-loop-step

@@ -1,5 +1,4 @@
-use Rattle.std.proofs.Common.{◌*◌}
-use Rattle.surf_model.specs.Walks.{darts}
+use Rattle.free_forms.proofs.Common.{◌*◌, darts}
 use Rattle.free_forms.specs.declared.limits.TheConstants.{MOST_OPEN_SIDES}
 use Rattle.free_forms.specs.Normal.{IsNormal}
 use Rattle.free_forms.specs.PeakedLists.{LeadsAtPeak}

@@ -1,7 +1,4 @@
-use Rattle.std.proofs.Common.{◌≡◌, ◌+◌, ◌-◌, drop}
-use Rattle.std.specs.Prelude.{reverse}
-use Rattle.surf_model.specs.Vertices.{numbers}
-use Rattle.surf_model.specs.Walks.{darts}
+use Rattle.free_forms.proofs.Common.{◌≡◌, ◌+◌, ◌-◌, drop, reverse, numbers, darts}
 use Rattle.free_forms.proofs.reduction.start.Given as goal
 
 abbrev pub invariant-loop-back : goal.invariant-loop-back

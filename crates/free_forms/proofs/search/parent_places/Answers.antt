@@ -1,7 +1,7 @@
 use Rattle.free_forms.specs.Searches.{found_by}
 use Rattle.free_forms.proofs.SearchLemmas.{started_stay}
 use Rattle.free_forms.proofs.ReachLemmas.{parents_found}
-use Rattle.std.proofs.Common.{length}
+use Rattle.free_forms.proofs.Common.{length}
 use Rattle.free_forms.proofs.search.parent_places.Goals as goal
 
 pub returns : goal.returns

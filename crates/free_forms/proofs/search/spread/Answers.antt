@@ -1,6 +1,4 @@
-use Rattle.std.proofs.Common.{ℕ, ◌≤◌, length, ◌∙◌, subst, arith}
-use Rattle.std.proofs.lemmas.List.{get_or_default}
-use Rattle.surf_model.specs.FaceLists.{face_at}
+use Rattle.free_forms.proofs.Common.{ℕ, ◌≤◌, length, ◌∙◌, subst, arith, get_or_default, face_at}
 use Rattle.free_forms.specs.Searches.{found_by, NeighboursReached}
 use Rattle.free_forms.proofs.SearchLemmas.{few_reached, grows_trans, closed_more}
 use Rattle.free_forms.proofs.search.spread.Goals as goal

@@ -1,4 +1,4 @@
-use Rattle.std.proofs.Common.{◌-◌, length}
+use Rattle.free_forms.proofs.Common.{◌-◌, length}
 use Rattle.free_forms.specs.Searches.{found_by, IsSearch, Grows, IsClosedUpTo}
 use Rattle.free_forms.proofs.search.spread.Given as goal
 

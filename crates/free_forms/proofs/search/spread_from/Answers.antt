@@ -1,6 +1,4 @@
-use Rattle.std.proofs.Common.{◌≡◌, ◌⊎◌, inl, inr, ◌+◌, ◌<◌, length, arith}
-use Rattle.surf_model.specs.declared.edges.Side.{Side}
-use Rattle.connectivity.proofs.RingLemmas.{HasPartner, IsAlone, partner_or_alone, partner_below}
+use Rattle.free_forms.proofs.Common.{HasPartner, IsAlone, partner_or_alone, partner_below, ◌≡◌, ◌⊎◌, inl, inr, ◌+◌, ◌<◌, length, arith, Side}
 use Rattle.free_forms.specs.Searches.{found_by}
 use Rattle.free_forms.proofs.SearchLemmas.{HasSpread, reached_below, spread_more}
 use Rattle.free_forms.proofs.search.spread_from.Goals as goal

@@ -1,5 +1,4 @@
-use Rattle.std.proofs.Common.{refl}
-use Rattle.walk_translate.specs.SurfaceLabels.{HasSphereSplit}
+use Rattle.free_loops.proofs.Common.{refl, HasSphereSplit}
 use Rattle.free_loops.proofs.DecidingLemmas.{sphere_frees, found_freely}
 use Rattle.free_loops.proofs.deciding.decide_free.Goals as goal
 

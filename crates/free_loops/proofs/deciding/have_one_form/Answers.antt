@@ -1,8 +1,5 @@
-use Rattle.std.proofs.Common.{subst}
-use Rattle.std.specs.Prelude.{IsTrue, ◌↔◌}
-use Rattle.surf_model.specs.FaceLists.{FaceList}
-use Rattle.spoke_rings.specs.Rotations.{IsRotation}
-use Rattle.walk_translate.proofs.LabelLemmas.{cut_is_good}
+use Rattle.free_loops.proofs.Common.{IsRotation, subst, IsTrue, FaceList, cut_is_good}
+use Rattle.std.specs.Prelude.{◌↔◌}
 use Rattle.free_loops.specs.CyclicForms.{IsCyclicFormOf}
 use Rattle.free_loops.proofs.DecidingLemmas.{labelled_wheel, forms_decide}
 use Rattle.free_loops.proofs.deciding.have_one_form.Goals as goal

@@ -1,7 +1,4 @@
-use Rattle.std.proofs.Common.{subst}
-use Rattle.surf_model.specs.FaceLists.{FaceList}
-use Rattle.labellings.specs.WalkWords.{IsWordOf}
-use Rattle.walk_translate.proofs.LabelLemmas.{cut_is_good}
+use Rattle.free_loops.proofs.Common.{IsWordOf, subst, FaceList, cut_is_good}
 use Rattle.free_loops.proofs.DecidingLemmas.{sums_decide}
 use Rattle.free_loops.proofs.deciding.have_one_sum.Goals as goal
 

@@ -1,5 +1,4 @@
-use Rattle.turn_words.specs.declared.word.Word.TheVariants.{Turns}
-use Rattle.labellings.specs.WalkWords.{IsWordOf}
+use Rattle.free_loops.proofs.Common.{IsWordOf, Turns}
 use Rattle.free_loops.proofs.FormLemmas.{spelled_loop, cyclic_form_is}
 use Rattle.free_loops.proofs.form.cyclic_form_of.Goals as goal
 

@@ -1,5 +1,4 @@
-use Rattle.std.proofs.Common.{arith}
-use Rattle.turn_words.specs.Lemmas.Sums.{add-cases}
+use Rattle.free_loops.proofs.Common.{arith, add-cases}
 use Rattle.free_loops.proofs.spelling.round_sum.Goals as goal
 
 pub returns-then-from-room : goal.returns-then-from-room

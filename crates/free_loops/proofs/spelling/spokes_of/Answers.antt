@@ -1,6 +1,4 @@
-use Rattle.std.proofs.Common.{◌≡◌, ◌+◌, ◌<◌, ℕ, length, get_or, ap, ap₂, sym, ◌∙◌, subst, arith}
-use Rattle.turn_words.specs.Modulo.{add}
-use Rattle.turn_words.specs.Lemmas.Sums.{add-lt}
+use Rattle.free_loops.proofs.Common.{◌≡◌, ◌+◌, ◌<◌, ℕ, length, get_or, ap, ap₂, sym, ◌∙◌, subst, arith, add-lt, add}
 use Rattle.free_loops.proofs.WordStepLemmas.{value_in}
 use Rattle.free_loops.proofs.SpellingLemmas.{Spelled, spelled_none, spelled_more, spelled_all, as_many}
 use Rattle.free_loops.proofs.spelling.spokes_of.Goals as goal

@@ -1,5 +1,4 @@
-use Rattle.std.proofs.Common.{◌≡◌, ℕ, ◌<◌, false}
-use Rattle.surf_model.specs.Surfaces.{is_flipped}
+use Rattle.halfedge_map.proofs.Common.{◌≡◌, ℕ, ◌<◌, false, is_flipped}
 use Rattle.halfedge_map.proofs.darts.any_flipped.Given as goal
 
 abbrev pub invariant-loop-face : goal.invariant-loop-face

@@ -1,4 +1,4 @@
-use Rattle.surf_model.specs.Darts.{first_side}
+use Rattle.halfedge_map.proofs.Common.{first_side}
 use Rattle.halfedge_map.specs.StoredDarts.{ListNexts, signed}
 use Rattle.halfedge_map.proofs.darts.next_darts.Given as goal
 

@@ -1,9 +1,4 @@
-use Rattle.std.proofs.Common.{◌≡◌, ℕ, ◌+◌, ◌<◌, not, ◌++◌, ◌∷◌, [], length, refl, subst, arith}
-use Rattle.surf_model.specs.FaceLists.{face_at, next_corner}
-use Rattle.surf_model.specs.Surfaces.{is_flipped}
-use Rattle.surf_model.specs.Darts.{first_side}
-use Rattle.surf_model.specs.declared.names.DartName.{DartName}
-use Rattle.surf_model.specs.declared.limits.TheConstants.{MOST_SIDES}
+use Rattle.halfedge_map.proofs.Common.{◌≡◌, ℕ, ◌+◌, ◌<◌, not, ◌++◌, ◌∷◌, [], length, refl, subst, arith, first_side, face_at, next_corner, is_flipped, MOST_SIDES, DartName}
 use Rattle.halfedge_map.specs.StoredDarts.{ListNexts, signed}
 use Rattle.halfedge_map.proofs.StoringLemmas.{first_side-more, nexts_more, dart_small}
 use Rattle.halfedge_map.proofs.darts.push_nexts.Goals as goal

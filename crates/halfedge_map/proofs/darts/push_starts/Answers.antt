@@ -1,8 +1,4 @@
-use Rattle.std.proofs.Common.{◌≡◌, ℕ, ◌+◌, cond, ◌++◌, ◌∷◌, [], true, length, ap, sym, ◌∙◌, subst, arith}
-use Rattle.std.proofs.lemmas.Bool.{cond-true, cond-false}
-use Rattle.surf_model.specs.FaceLists.{face_at, next_corner}
-use Rattle.surf_model.specs.Surfaces.{is_flipped}
-use Rattle.surf_model.specs.Darts.{first_side}
+use Rattle.halfedge_map.proofs.Common.{◌≡◌, ℕ, ◌+◌, cond, ◌++◌, ◌∷◌, [], true, length, ap, sym, ◌∙◌, subst, arith, cond-true, cond-false, first_side, face_at, next_corner, is_flipped}
 use Rattle.halfedge_map.specs.StoredDarts.{ListOrigins, signed}
 use Rattle.halfedge_map.proofs.StoringLemmas.{first_side-more, origins_more}
 use Rattle.halfedge_map.proofs.darts.push_starts.Goals.{then-flipped, else-flipped}

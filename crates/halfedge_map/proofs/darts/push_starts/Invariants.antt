@@ -1,5 +1,4 @@
-use Rattle.std.proofs.Common.{◌+◌}
-use Rattle.surf_model.specs.Darts.{first_side}
+use Rattle.halfedge_map.proofs.Common.{◌+◌, first_side}
 use Rattle.halfedge_map.specs.StoredDarts.{ListOrigins, signed}
 use Rattle.halfedge_map.proofs.darts.push_starts.Given as goal
 

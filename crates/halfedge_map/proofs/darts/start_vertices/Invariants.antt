@@ -1,4 +1,4 @@
-use Rattle.surf_model.specs.Darts.{first_side}
+use Rattle.halfedge_map.proofs.Common.{first_side}
 use Rattle.halfedge_map.specs.StoredDarts.{ListOrigins, signed}
 use Rattle.halfedge_map.proofs.darts.start_vertices.Given as goal
 

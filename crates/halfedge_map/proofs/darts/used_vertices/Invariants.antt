@@ -1,6 +1,4 @@
-use Rattle.std.proofs.Common.{◌≡◌, ◌≤◌}
-use Rattle.surf_model.specs.FaceLists.{is_used}
-use Rattle.surf_model.specs.Numbers.{count_below}
+use Rattle.halfedge_map.proofs.Common.{◌≡◌, ◌≤◌, is_used, count_below}
 use Rattle.halfedge_map.proofs.darts.used_vertices.Given as goal
 
 abbrev pub invariant-loop-v : goal.invariant-loop-v

@@ -1,5 +1,4 @@
-use Rattle.std.proofs.Common.{◌≡◌, ℕ, List, ap, sym, ◌∙◌, subst, ℤ}
-use Rattle.surf_model.specs.Edges.{edge_in}
+use Rattle.homology.proofs.Common.{◌≡◌, ℕ, List, ap, sym, ◌∙◌, subst, ℤ, edge_in}
 use Rattle.homology.specs.Certificates.{face_number}
 use Rattle.homology.specs.Tallies.{number_at, IsLeft}
 use Rattle.homology.specs.Verdicts.{IsLeastUnbalanced}

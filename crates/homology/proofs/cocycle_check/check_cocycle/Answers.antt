@@ -1,4 +1,4 @@
-use Rattle.std.proofs.Common.{List, sym, subst, ℤ}
+use Rattle.homology.proofs.Common.{List, sym, subst, ℤ}
 use Rattle.homology.specs.Certificates.{edge_number}
 use Rattle.homology.specs.Tallies.{AreNumbersOf}
 use Rattle.homology.proofs.cocycle_check.check_cocycle.Goals as goal

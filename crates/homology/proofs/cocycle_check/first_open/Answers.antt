@@ -1,6 +1,4 @@
-use Rattle.std.proofs.Common.{◌≡◌, inl, inr, ap, sym, ◌∙◌, arith, to_z, of_z, w64}
-use Rattle.std.proofs.lemmas.Bool.{cases_lt}
-use Rattle.std.proofs.lemmas.Int.{ints}
+use Rattle.homology.proofs.Common.{◌≡◌, inl, inr, ap, sym, ◌∙◌, arith, to_z, of_z, w64, cases_lt, ints}
 use Rattle.homology.specs.Cocycles.{face_sum}
 use Rattle.homology.proofs.cocycle_check.first_open.Goals as goal
 

@@ -1,4 +1,4 @@
-use Rattle.std.proofs.Common.{◌≡◌, ℕ, ◌<◌, ℤ, pos}
+use Rattle.homology.proofs.Common.{◌≡◌, ℕ, ◌<◌, ℤ, pos}
 use Rattle.homology.specs.Cocycles.{face_sum}
 use Rattle.homology.specs.Tallies.{AreNumbersOf}
 use Rattle.homology.proofs.cocycle_check.first_open.Given as goal

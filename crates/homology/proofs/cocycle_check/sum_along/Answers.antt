@@ -1,6 +1,4 @@
-use Rattle.std.proofs.Common.{◌≡◌, suc, ◌+◌, ◌*◌, ◌≤◌, ap, sym, ◌∙◌, subst, arith, ℤ, to_z, of_z, w64, ◌+ℤ◌}
-use Rattle.std.specs.Prelude.{unsigned_abs}
-use Rattle.std.proofs.lemmas.List.{take_all}
+use Rattle.homology.proofs.Common.{◌≡◌, suc, ◌+◌, ◌*◌, ◌≤◌, ap, sym, ◌∙◌, subst, arith, ℤ, to_z, of_z, w64, ◌+ℤ◌, take_all, unsigned_abs}
 use Rattle.homology.specs.Sums.{along}
 use Rattle.homology.specs.Cocycles.{dart_number}
 use Rattle.homology.specs.declared.certificate.TheConstants.{MOST_NUMBER}

@@ -1,5 +1,4 @@
-use Rattle.std.proofs.Common.{◌≡◌, ℕ, suc, ◌*◌, ◌≤◌, take, ℤ}
-use Rattle.std.specs.Prelude.{unsigned_abs}
+use Rattle.homology.proofs.Common.{◌≡◌, ℕ, suc, ◌*◌, ◌≤◌, take, ℤ, unsigned_abs}
 use Rattle.homology.specs.Sums.{along}
 use Rattle.homology.specs.Cocycles.{dart_number}
 use Rattle.homology.specs.Tallies.{AreNumbersOf}

@@ -1,7 +1,4 @@
-use Rattle.std.proofs.Common.{◌≡◌, ℕ, ◌+◌, ◌*◌, ◌≤◌, List, length, refl, ap, sym, ◌∙◌, subst, arith, ℤ, to_z, of_z, w64, ◌+ℤ◌}
-use Rattle.std.specs.Prelude.{unsigned_abs}
-use Rattle.surf_model.specs.FaceLists.{face_at}
-use Rattle.surf_model.proofs.OneTableLemmas.{sides_in_table}
+use Rattle.homology.proofs.Common.{◌≡◌, ℕ, ◌+◌, ◌*◌, ◌≤◌, List, length, refl, ap, sym, ◌∙◌, subst, arith, ℤ, to_z, of_z, w64, ◌+ℤ◌, unsigned_abs, sides_in_table, face_at}
 use Rattle.homology.specs.Cocycles.{dart_number}
 use Rattle.homology.specs.declared.certificate.TheConstants.{MOST_NUMBER}
 use Rattle.homology.proofs.AlongLemmas.{first_sides, round-sides}

@@ -1,6 +1,4 @@
-use Rattle.std.proofs.Common.{◌≡◌, ℕ, ◌*◌, ◌≤◌, ℤ}
-use Rattle.std.specs.Prelude.{unsigned_abs}
-use Rattle.surf_model.specs.FaceLists.{face_at}
+use Rattle.homology.proofs.Common.{◌≡◌, ℕ, ◌*◌, ◌≤◌, ℤ, unsigned_abs, face_at}
 use Rattle.homology.specs.Cocycles.{dart_number}
 use Rattle.homology.specs.Tallies.{AreNumbersOf}
 use Rattle.homology.specs.declared.certificate.TheConstants.{MOST_NUMBER}

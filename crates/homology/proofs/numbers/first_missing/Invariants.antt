@@ -1,4 +1,4 @@
-use Rattle.std.proofs.Common.{ℕ, ◌<◌, get_or}
+use Rattle.homology.proofs.Common.{ℕ, ◌<◌, get_or}
 use Rattle.homology.specs.Verdicts.{HasFace}
 use Rattle.homology.specs.declared.certificate.FaceNumber.{FaceNumber}
 use Rattle.homology.proofs.numbers.first_missing.Given as goal

@@ -1,5 +1,4 @@
-use Rattle.std.proofs.Common.{◌≡◌, true, false, sym, ◌∙◌, arith}
-use Rattle.std.proofs.lemmas.Option.{get_or_from_slice_get}
+use Rattle.homology.proofs.Common.{◌≡◌, true, false, sym, ◌∙◌, arith, get_or_from_slice_get}
 use Rattle.homology.specs.Verdicts.{HasEdge}
 use Rattle.homology.proofs.NumbersLemmas.{all_more}
 use Rattle.homology.proofs.numbers.first_stray.Goals as goal

@@ -1,10 +1,4 @@
-use Rattle.std.proofs.Common.{◌≡◌, true, ℕ, ◌<◌, ◌≤◌, List, length, set, ap, ◌∙◌, subst, arith, ℤ, pos, get_or}
-use Rattle.std.specs.Prelude.{replicate, unsigned_abs}
-use Rattle.std.proofs.lemmas.List.{length-replicate, length-set, take_all, get_or_default}
-use Rattle.std.proofs.lemmas.Option.{get_or_from_slice_get}
-use Rattle.surf_model.specs.FaceLists.{is_edge}
-use Rattle.surf_model.specs.Edges.{edge_in}
-use Rattle.surf_model.proofs.TableEdgeLemmas.{IsEdgeBetween, edge_between}
+use Rattle.homology.proofs.Common.{◌≡◌, true, ℕ, ◌<◌, ◌≤◌, List, length, set, ap, ◌∙◌, subst, arith, ℤ, pos, get_or, length-replicate, length-set, take_all, get_or_default, get_or_from_slice_get, replicate, unsigned_abs, IsEdgeBetween, edge_between, edge_in, is_edge}
 use Rattle.homology.specs.Certificates.{edge_number}
 use Rattle.homology.specs.Tallies.{number_at, AreNumbersOf}
 use Rattle.homology.specs.declared.certificate.EdgeNumber.{EdgeNumber}

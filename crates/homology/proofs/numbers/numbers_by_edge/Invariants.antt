@@ -1,4 +1,4 @@
-use Rattle.std.proofs.Common.{take}
+use Rattle.homology.proofs.Common.{take}
 use Rattle.homology.specs.Certificates.{edge_number}
 use Rattle.homology.specs.Tallies.{AreNumbersOf}
 use Rattle.homology.proofs.numbers.numbers_by_edge.Given as goal

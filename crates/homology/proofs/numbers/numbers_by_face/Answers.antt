@@ -1,7 +1,4 @@
-use Rattle.std.proofs.Common.{◌≡◌, ℕ, ◌<◌, ◌≤◌, List, length, set, ap, ◌∙◌, subst, arith, ℤ, pos, get_or}
-use Rattle.std.specs.Prelude.{replicate, unsigned_abs}
-use Rattle.std.proofs.lemmas.List.{length-replicate, length-set, take_all}
-use Rattle.std.proofs.lemmas.Option.{get_or_from_slice_get}
+use Rattle.homology.proofs.Common.{◌≡◌, ℕ, ◌<◌, ◌≤◌, List, length, set, ap, ◌∙◌, subst, arith, ℤ, pos, get_or, length-replicate, length-set, take_all, get_or_from_slice_get, replicate, unsigned_abs}
 use Rattle.homology.specs.Certificates.{face_number}
 use Rattle.homology.specs.Tallies.{number_at}
 use Rattle.homology.specs.declared.certificate.FaceNumber.{FaceNumber}

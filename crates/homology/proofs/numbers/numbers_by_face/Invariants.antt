@@ -1,4 +1,4 @@
-use Rattle.std.proofs.Common.{◌≡◌, ℕ, length, take}
+use Rattle.homology.proofs.Common.{◌≡◌, ℕ, length, take}
 use Rattle.homology.specs.Certificates.{face_number}
 use Rattle.homology.specs.Tallies.{number_at}
 use Rattle.homology.proofs.numbers.numbers_by_face.Given as goal

@@ -1,10 +1,4 @@
-use Rattle.std.proofs.Common.{◌≡◌, ◌≤◌, List, length, refl, subst, sym, ◌∙◌, arith, ℤ, to_z, of_z, w64}
-use Rattle.std.specs.Prelude.{unsigned_abs}
-use Rattle.std.proofs.lemmas.Int.{to_z-of_z}
-use Rattle.std.proofs.lemmas.List.{take_all}
-use Rattle.surf_model.specs.FaceLists.{FaceSide, face_at, sides_of_face}
-use Rattle.surf_model.proofs.NumberLemmas.{length-sides_of_face}
-use Rattle.surf_model.proofs.OneTableLemmas.{sides_in_table}
+use Rattle.homology.proofs.Common.{◌≡◌, ◌≤◌, List, length, refl, subst, sym, ◌∙◌, arith, ℤ, to_z, of_z, w64, to_z-of_z, take_all, unsigned_abs, length-sides_of_face, sides_in_table, FaceSide, face_at, sides_of_face}
 use Rattle.homology.specs.Tallies.{GrewBy}
 use Rattle.homology.specs.declared.certificate.TheConstants.{MOST_NUMBER}
 use Rattle.homology.proofs.TallyLemmas.{shares_of, face_few, face_room, face_start, face_step}

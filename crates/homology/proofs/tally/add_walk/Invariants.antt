@@ -1,4 +1,4 @@
-use Rattle.std.proofs.Common.{suc, take}
+use Rattle.homology.proofs.Common.{suc, take}
 use Rattle.homology.specs.Sums.{along, share}
 use Rattle.homology.specs.Tallies.{GrewBy}
 use Rattle.homology.proofs.tally.add_walk.Given as goal

@@ -1,7 +1,4 @@
-use Rattle.std.proofs.Common.{◌≡◌, ◌^◌, ◌++◌, List, length, take, drop, ap, sym, ◌∙◌, subst, arith, ℤ, pos}
-use Rattle.std.specs.Prelude.{replicate}
-use Rattle.std.proofs.Math.Seq.{take-append_seam}
-use Rattle.std.proofs.lemmas.List.{length-replicate}
+use Rattle.homology.proofs.Common.{◌≡◌, ◌^◌, ◌++◌, List, length, take, drop, ap, sym, ◌∙◌, subst, arith, ℤ, pos, take-append_seam, length-replicate, replicate}
 use Rattle.homology.specs.Chains.{count_difference}
 use Rattle.homology.specs.Tallies.{number_at, AreWithin, AreNumbersOf}
 use Rattle.homology.proofs.ChainVerdictLemmas.{number_at-zeros}

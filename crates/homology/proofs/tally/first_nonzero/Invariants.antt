@@ -1,4 +1,4 @@
-use Rattle.std.proofs.Common.{◌≡◌, ℕ, ◌<◌, pos}
+use Rattle.homology.proofs.Common.{◌≡◌, ℕ, ◌<◌, pos}
 use Rattle.homology.specs.Tallies.{number_at}
 use Rattle.homology.proofs.tally.first_nonzero.Given as goal
 

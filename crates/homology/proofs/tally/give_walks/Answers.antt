@@ -1,4 +1,4 @@
-use Rattle.std.proofs.Common.{arith}
+use Rattle.homology.proofs.Common.{arith}
 use Rattle.homology.proofs.ChainVerdictLemmas.{given_walks, zeros_within, within_more}
 use Rattle.homology.proofs.tally.give_walks.Goals as goal
 

@@ -1,5 +1,4 @@
-use Rattle.std.proofs.Common.{◌≤◌, sym, subst, arith, ℤ, get_or, pos}
-use Rattle.std.specs.Prelude.{unsigned_abs}
+use Rattle.homology.proofs.Common.{◌≤◌, sym, subst, arith, ℤ, get_or, pos, unsigned_abs}
 use Rattle.homology.specs.declared.certificate.TheConstants.{MOST_NUMBER}
 use Rattle.homology.proofs.SizeLemmas.{sent_back, size-opposite}
 use Rattle.homology.proofs.TallyLemmas.{faces_room, faces_start, faces_step, faces_all}

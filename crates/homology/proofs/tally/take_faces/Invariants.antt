@@ -1,6 +1,4 @@
-use Rattle.std.specs.Prelude.{map, neg_ℤ}
-use Rattle.surf_model.specs.FaceLists.{FaceSide}
-use Rattle.surf_model.proofs.NumberLemmas.{sides_up_to}
+use Rattle.homology.proofs.Common.{map, neg_ℤ, sides_up_to, FaceSide}
 use Rattle.homology.specs.Sums.{total, share}
 use Rattle.homology.specs.Tallies.{GrewBy, number_at}
 use Rattle.homology.proofs.tally.take_faces.Given as goal

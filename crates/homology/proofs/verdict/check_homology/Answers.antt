@@ -1,4 +1,4 @@
-use Rattle.std.proofs.Common.{subst}
+use Rattle.homology.proofs.Common.{subst}
 use Rattle.homology.specs.Verdicts.{IsVerdict}
 use Rattle.homology.specs.declared.certificate.HomologyCert.{HomologyCert}
 use Rattle.homology.specs.declared.certificate.HomologyCert.TheVariants.{Chain, Cocycle}

@@ -1,11 +1,4 @@
-use Rattle.std.proofs.Common.{length, sym, ap, ◌∙◌, subst, arith}
-use Rattle.surf_model.specs.Edges.{IsTableOf}
-use Rattle.halfedge_map.specs.OrientedMeshes.{OrientedMesh}
-use Rattle.homology.specs.Tallies.{number_at}
-use Rattle.homology.specs.declared.certificate.TheConstants.{MOST_NUMBER}
-use Rattle.homology.proofs.ChainVerdictLemmas.{within_more}
-use Rattle.homology_deciding.specs.Proofs.{IsChainFor, IsCocycleFor, IsProofFor}
-use Rattle.closed_surfaces.specs.SignedSurfaces.{surface_of}
+use Rattle.homology_commands.proofs.Common.{surface_of, OrientedMesh, within_more, number_at, MOST_NUMBER, IsChainFor, IsCocycleFor, IsProofFor, length, sym, ap, ◌∙◌, subst, arith, IsTableOf}
 use Rattle.homology_commands.specs.Listings.{ListsEdges}
 use Rattle.homology_commands.proofs.CertificateLemmas.{shows_chain, shows_cocycle}
 use Rattle.homology_commands.proofs.listing.certificate_of.Goals as goal

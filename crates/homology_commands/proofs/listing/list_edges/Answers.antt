@@ -1,8 +1,4 @@
-use Rattle.std.proofs.Common.{◌≡◌, ℕ, ◌<◌, ◌≤◌, List, length, sym, ap, ◌∙◌, subst, arith, ℤ}
-use Rattle.std.specs.Prelude.{All}
-use Rattle.surf_model.specs.Edges.{Edge, IsPairBefore, edge_in}
-use Rattle.homology.specs.Tallies.{number_at}
-use Rattle.homology.specs.declared.certificate.EdgeNumber.{EdgeNumber}
+use Rattle.homology_commands.proofs.Common.{number_at, EdgeNumber, ◌≡◌, ℕ, ◌<◌, ◌≤◌, List, length, sym, ap, ◌∙◌, subst, arith, ℤ, All, Edge, IsPairBefore, edge_in}
 use Rattle.homology_commands.specs.Listings.{ListsEdges}
 use Rattle.homology_commands.proofs.ListedLemmas.{edge_more, edges_before, no_edges, number_sent}
 use Rattle.homology_commands.proofs.listing.list_edges.Goals as goal

@@ -1,4 +1,4 @@
-use Rattle.homology.specs.Tallies.{number_at}
+use Rattle.homology_commands.proofs.Common.{number_at}
 use Rattle.homology_commands.specs.Listings.{ListsEdges}
 use Rattle.homology_commands.proofs.listing.list_edges.Given as goal
 

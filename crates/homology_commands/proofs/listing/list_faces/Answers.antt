@@ -1,7 +1,4 @@
-use Rattle.std.proofs.Common.{◌≡◌, ℕ, ◌<◌, ◌≤◌, List, sym, ◌∙◌, subst, arith, ℤ}
-use Rattle.std.specs.Prelude.{All}
-use Rattle.homology.specs.Tallies.{number_at}
-use Rattle.homology.specs.declared.certificate.FaceNumber.{FaceNumber}
+use Rattle.homology_commands.proofs.Common.{number_at, FaceNumber, ◌≡◌, ℕ, ◌<◌, ◌≤◌, List, sym, ◌∙◌, subst, arith, ℤ, All}
 use Rattle.homology_commands.specs.Listings.{ListsFaces, name_in}
 use Rattle.homology_commands.proofs.CertificateLemmas.{names_rise}
 use Rattle.homology_commands.proofs.ListedLemmas.{face_more, faces_before, no_faces, number_sent}

@@ -1,4 +1,4 @@
-use Rattle.homology.specs.Tallies.{number_at}
+use Rattle.homology_commands.proofs.Common.{number_at}
 use Rattle.homology_commands.specs.Listings.{ListsFaces, name_in}
 use Rattle.homology_commands.proofs.listing.list_faces.Given as goal
 

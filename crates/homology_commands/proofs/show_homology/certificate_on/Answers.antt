@@ -1,7 +1,4 @@
-use Rattle.std.proofs.Common.{refl, sym, subst}
-use Rattle.surf_model.specs.Walks.{IsWalk}
-use Rattle.halfedge_map.specs.OrientedMeshes.{OrientedMesh}
-use Rattle.homology_deciding.specs.Proofs.{IsProofFor}
+use Rattle.homology_commands.proofs.Common.{OrientedMesh, IsProofFor, refl, sym, subst, IsWalk}
 use Rattle.homology_commands.proofs.show_homology.certificate_on.Goals as goal
 
 pub homologous-requires-clause-first : goal.homologous-requires-clause-first

@@ -1,4 +1,4 @@
-use Rattle.std.proofs.Common.{refl}
+use Rattle.homology_commands.proofs.Common.{refl}
 use Rattle.homology.specs.declared.certificate.HomologyCert.TheVariants.{Chain, Cocycle}
 use Rattle.homology_commands.proofs.show_homology.reply_with.Goals as goal
 

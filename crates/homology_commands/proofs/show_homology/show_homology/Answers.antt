@@ -1,11 +1,5 @@
-use Rattle.std.proofs.Common.{◌≡◌, List, ℕ, ap, arith, refl}
-use Rattle.std.proofs.lemmas.Option.{get_or_from_slice_get}
-use Rattle.std.proofs.lemmas.Result.{err_from_is_err_and}
-use Rattle.surf_model.specs.Walks.{darts, AreWalkPair}
-use Rattle.commands.specs.HomologyCertificates.{ShowsHomology, answer_in}
-use Rattle.commands.specs.Inputs.{pair_in, walk_at}
+use Rattle.homology_commands.proofs.Common.{two_walks, ShowsHomology, answer_in, pair_in, walk_at, ◌≡◌, List, ℕ, ap, arith, refl, get_or_from_slice_get, err_from_is_err_and, darts, AreWalkPair}
 use Rattle.commands.proofs.Deciding.{walks_of_pair, at_places}
-use Rattle.commands.proofs.Rows.{two_walks}
 use Rattle.surface_commands.proofs.RunsOnWalks.{runs_asked, runs_refused_walks, runs_wanting}
 use Rattle.homology_commands.specs.Homology.{homology_answer}
 use Rattle.homology_commands.proofs.CertificateLemmas.{answer_decides}

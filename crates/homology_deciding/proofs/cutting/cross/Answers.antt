@@ -1,7 +1,4 @@
-use Rattle.std.proofs.Common.{◌≡◌, ℕ, ℤ, List, ap, ◌∙◌, set, arith, to_z, of_z, w64, ◌+ℤ◌}
-use Rattle.surf_model.specs.Edges.{Edge, edge_in}
-use Rattle.homology.specs.Tallies.{number_at, turned}
-use Rattle.homology.proofs.SizeLemmas.{sent}
+use Rattle.homology_deciding.proofs.Common.{sent, number_at, turned, ◌≡◌, ℕ, ℤ, List, ap, ◌∙◌, set, arith, to_z, of_z, w64, ◌+ℤ◌, Edge, edge_in}
 use Rattle.homology_deciding.proofs.LoopLemmas.{cross_step}
 use Rattle.homology_deciding.proofs.cutting.cross.Goals as goal
 

@@ -1,7 +1,6 @@
-use Rattle.std.proofs.Common.{◌+◌, arith}
+use Rattle.homology_deciding.proofs.Common.{within_more, ◌+◌, arith}
 use Rattle.homology_deciding.proofs.LoopLemmas.{dart_within, cut_at}
 use Rattle.homology_deciding.proofs.cutting.cross_all.Goals as goal
-use Rattle.homology.proofs.ChainVerdictLemmas.{within_more}
 
 pub cross_up-requires-2-clause-room : goal.cross_up-requires-2-clause-room
 cross_up-requires-2-clause-room c =

@@ -1,10 +1,4 @@
-use Rattle.std.proofs.Common.{◌+◌, ◌<◌, ℕ, [], ◌∷◌, ◌++◌, length, sym, ◌∙◌, subst, arith, to_z, of_z, w64}
-use Rattle.std.proofs.lemmas.List.{length_push}
-use Rattle.surf_model.specs.declared.names.DartName.{DartName}
-use Rattle.halfedge_map.specs.OrientedMeshes.{OrientedMesh}
-use Rattle.homology.specs.Tallies.{GrewBy, AreWithin}
-use Rattle.homology.proofs.SizeLemmas.{sent}
-use Rattle.homology.proofs.ChainVerdictLemmas.{within_more}
+use Rattle.homology_deciding.proofs.Common.{OrientedMesh, within_more, sent, GrewBy, AreWithin, ◌+◌, ◌<◌, ℕ, [], ◌∷◌, ◌++◌, length, sym, ◌∙◌, subst, arith, to_z, of_z, w64, length_push, DartName}
 use Rattle.homology_deciding.specs.FaceTrees.{IsWayUp, way_share}
 use Rattle.homology_deciding.proofs.LoopLemmas.{within_grown, way_grown, is_root, way_short}
 use Rattle.homology_deciding.proofs.WayLemmas.{way_push, way_small}

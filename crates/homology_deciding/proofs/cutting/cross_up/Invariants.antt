@@ -1,6 +1,4 @@
-use Rattle.std.proofs.Common.{◌≡◌, ◌<◌, List, length}
-use Rattle.surf_model.specs.declared.names.DartName.{DartName}
-use Rattle.homology.specs.Tallies.{GrewBy}
+use Rattle.homology_deciding.proofs.Common.{GrewBy, ◌≡◌, ◌<◌, List, length, DartName}
 use Rattle.homology_deciding.specs.FaceTrees.{IsWayUp, way_share}
 use Rattle.homology_deciding.proofs.cutting.cross_up.Given as goal
 

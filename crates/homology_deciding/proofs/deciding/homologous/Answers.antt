@@ -1,9 +1,4 @@
-use Rattle.std.proofs.Common.{ℤ, List, sym, subst}
-use Rattle.surf_model.specs.Edges.{Edge}
-use Rattle.halfedge_map.specs.OrientedMeshes.{OrientedMesh}
-use Rattle.homology.specs.Chains.{count_difference}
-use Rattle.homology.specs.Tallies.{AreNumbersOf}
-use Rattle.std.specs.Prelude.{IfOk}
+use Rattle.homology_deciding.proofs.Common.{OrientedMesh, count_difference, AreNumbersOf, ℤ, List, sym, subst, IfOk, Edge}
 use Rattle.homology_deciding.specs.Proofs.{CountsOf, IsProofFor}
 use Rattle.homology_deciding.proofs.LoopLemmas.{if_ok}
 use Rattle.homology_deciding.proofs.ProofLemmas.{exact_proof}

@@ -1,6 +1,4 @@
-use Rattle.std.proofs.Common.{◌<◌, ℕ, List, length, sym, subst, arith}
-use Rattle.surf_model.specs.Edges.{Edge}
-use Rattle.halfedge_map.specs.OrientedMeshes.{OrientedMesh}
+use Rattle.homology_deciding.proofs.Common.{OrientedMesh, ◌<◌, ℕ, List, length, sym, subst, arith, Edge}
 use Rattle.homology_deciding.specs.Proofs.{IsChainFor, IsCocycleFor}
 use Rattle.homology_deciding.proofs.LoopLemmas.{few_faces}
 use Rattle.homology_deciding.proofs.ProofLemmas.{chain_proof, cocycle_proof}

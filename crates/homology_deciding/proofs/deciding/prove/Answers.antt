@@ -1,13 +1,4 @@
-use Rattle.std.proofs.Common.{◌+◌, ℤ, List, sym, subst, arith}
-use Rattle.std.specs.Prelude.{neg_ℤ}
-use Rattle.surf_model.specs.Edges.{Edge}
-use Rattle.surf_model.specs.FaceLists.{FaceList}
-use Rattle.surf_model.specs.Walks.{darts}
-use Rattle.halfedge_map.specs.OrientedMeshes.{OrientedMesh}
-use Rattle.homology.specs.Chains.{boundary}
-use Rattle.homology.specs.Tallies.{number_at, GrewBy, AreWithin}
-use Rattle.homology.specs.declared.certificate.TheConstants.{MOST_NUMBER}
-use Rattle.homology.proofs.ChainVerdictLemmas.{left_over, within_more}
+use Rattle.homology_deciding.proofs.Common.{OrientedMesh, left_over, within_more, boundary, number_at, GrewBy, AreWithin, MOST_NUMBER, ◌+◌, ℤ, List, sym, subst, arith, neg_ℤ, Edge, FaceList, darts}
 use Rattle.homology_deciding.proofs.ProofLemmas.{counts_small, forced_small}
 use Rattle.homology_deciding.proofs.deciding.prove.Goals as goal
 

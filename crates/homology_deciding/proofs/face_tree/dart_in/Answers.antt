@@ -1,7 +1,4 @@
-use Rattle.std.proofs.Common.{ap, ◌∙◌}
-use Rattle.std.proofs.lemmas.Bool.{eq-eqb, both_ways}
-use Rattle.halfedge_map.specs.DartMaps.{edge_of, face_of}
-use Rattle.halfedge_map.proofs.EdgeLemmas.{edge-twin}
+use Rattle.homology_deciding.proofs.Common.{edge-twin, edge_of, face_of, ap, ◌∙◌, eq-eqb, both_ways}
 use Rattle.homology_deciding.proofs.TreeLemmas.{other_dart}
 use Rattle.homology_deciding.proofs.face_tree.dart_in.Goals as goal
 

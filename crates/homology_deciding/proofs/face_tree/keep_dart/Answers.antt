@@ -1,7 +1,4 @@
-use Rattle.std.proofs.Common.{◌<◌, length, sym, subst}
-use Rattle.halfedge_map.specs.OrientedMeshes.{OrientedMesh}
-use Rattle.halfedge_map.specs.DartMaps.{face_of}
-use Rattle.halfedge_map.proofs.SystemLemmas.{names_all}
+use Rattle.homology_deciding.proofs.Common.{names_all, face_of, OrientedMesh, ◌<◌, length, sym, subst}
 use Rattle.homology_deciding.proofs.LoopLemmas.{ups_pass, ups_more}
 use Rattle.homology_deciding.proofs.face_tree.keep_dart.Goals as goal
 

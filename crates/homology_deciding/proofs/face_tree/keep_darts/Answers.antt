@@ -1,5 +1,4 @@
-use Rattle.std.proofs.Common.{◌≡◌, List, length, ap, subst, arith}
-use Rattle.surf_model.specs.Edges.{Edge}
+use Rattle.homology_deciding.proofs.Common.{◌≡◌, List, length, ap, subst, arith, Edge}
 use Rattle.homology_deciding.specs.FaceTrees.{AreUps}
 use Rattle.homology_deciding.proofs.TreeLemmas.{tree_of}
 use Rattle.homology_deciding.proofs.LoopLemmas.{ups_start}

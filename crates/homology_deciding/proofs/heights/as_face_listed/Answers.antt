@@ -1,4 +1,4 @@
-use Rattle.std.proofs.Common.{arith}
+use Rattle.homology_deciding.proofs.Common.{arith}
 use Rattle.homology_deciding.proofs.heights.as_face_listed.Goals as goal
 
 pub flipped-requires : goal.flipped-requires

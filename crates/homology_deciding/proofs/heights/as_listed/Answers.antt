@@ -1,9 +1,4 @@
-use Rattle.std.proofs.Common.{◌≡◌, ◌^◌, ◌<◌, ℕ, ℤ, List, length, ap, sym, ◌∙◌, subst, arith, pos, to_z, of_z, w64}
-use Rattle.std.specs.Prelude.{unwrap_or, unsigned_abs}
-use Rattle.std.proofs.lemmas.List.{length_push}
-use Rattle.surf_model.specs.FaceLists.{FaceList}
-use Rattle.halfedge_map.specs.OrientedMeshes.{OrientedMesh}
-use Rattle.homology.proofs.SizeLemmas.{sent}
+use Rattle.homology_deciding.proofs.Common.{OrientedMesh, sent, ◌≡◌, ◌^◌, ◌<◌, ℕ, ℤ, List, length, ap, sym, ◌∙◌, subst, arith, pos, to_z, of_z, w64, length_push, unwrap_or, unsigned_abs, FaceList}
 use Rattle.homology_deciding.specs.Heights.{height_of, listed}
 use Rattle.homology_deciding.proofs.LoopLemmas.{unwrapped_small, listed_more}
 use Rattle.homology_deciding.proofs.ProofLemmas.{listed_size}

@@ -1,6 +1,4 @@
-use Rattle.std.proofs.Common.{◌≡◌, ◌<◌, ℕ, ℤ, length}
-use Rattle.std.specs.Prelude.{Some}
-use Rattle.homology.specs.Tallies.{number_at}
+use Rattle.homology_deciding.proofs.Common.{number_at, ◌≡◌, ◌<◌, ℕ, ℤ, length, Some}
 use Rattle.homology_deciding.specs.Heights.{height_of, listed}
 use Rattle.homology_deciding.proofs.heights.as_listed.Given as goal
 

@@ -1,8 +1,4 @@
-use Rattle.std.proofs.Common.{List, length, ap, sym, ◌∙◌, subst, arith}
-use Rattle.std.specs.Prelude.{is_some}
-use Rattle.std.proofs.lemmas.List.{length_push}
-use Rattle.surf_model.specs.declared.names.DartName.{DartName}
-use Rattle.halfedge_map.specs.OrientedMeshes.{OrientedMesh}
+use Rattle.homology_deciding.proofs.Common.{OrientedMesh, List, length, ap, sym, ◌∙◌, subst, arith, length_push, is_some, DartName}
 use Rattle.homology_deciding.specs.FaceTrees.{IsWayUp, face_across}
 use Rattle.homology_deciding.specs.Heights.{height_of}
 use Rattle.homology_deciding.proofs.LoopLemmas.{is_root, way_short}

@@ -1,4 +1,4 @@
-use Rattle.std.proofs.Common.{◌≡◌, ◌<◌, length}
+use Rattle.homology_deciding.proofs.Common.{◌≡◌, ◌<◌, length}
 use Rattle.homology_deciding.specs.FaceTrees.{IsWayUp}
 use Rattle.homology_deciding.proofs.heights.climb.Given as goal
 

@@ -1,8 +1,4 @@
-use Rattle.std.proofs.Common.{◌≡◌, ◌<◌, ℕ, ℤ, List, [], length, ap, refl, sym, ◌∙◌, subst, arith, rules, to_z, of_z, w64, ◌+ℤ◌}
-use Rattle.std.specs.Prelude.{is_some}
-use Rattle.surf_model.specs.declared.names.DartName.{DartName}
-use Rattle.halfedge_map.specs.OrientedMeshes.{OrientedMesh}
-use Rattle.halfedge_map.specs.DartMaps.{darts_of, face_of}
+use Rattle.homology_deciding.proofs.Common.{darts_of, face_of, OrientedMesh, ◌≡◌, ◌<◌, ℕ, ℤ, List, [], length, ap, refl, sym, ◌∙◌, subst, arith, rules, to_z, of_z, w64, ◌+ℤ◌, is_some, DartName}
 use Rattle.homology_deciding.specs.FaceTrees.{up_of, IsWayUp}
 use Rattle.homology_deciding.specs.Heights.{height_of, dart_count, EndsAtHeight}
 use Rattle.homology_deciding.proofs.LoopLemmas.{IsTopKnown, top_known, known, height_small, height_more, height_kept, height_there, added_fits, added_is}

@@ -1,5 +1,4 @@
-use Rattle.std.proofs.Common.{◌≡◌, ℕ, true, length}
-use Rattle.std.specs.Prelude.{is_some}
+use Rattle.homology_deciding.proofs.Common.{◌≡◌, ℕ, true, length, is_some}
 use Rattle.homology_deciding.specs.Heights.{height_of, AreHeights, EndsAtHeight}
 use Rattle.homology_deciding.proofs.heights.settle.Given as goal
 

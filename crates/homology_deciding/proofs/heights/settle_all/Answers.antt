@@ -1,6 +1,4 @@
-use Rattle.std.proofs.Common.{◌≡◌, inl, inr, ap, ◌∙◌, arith}
-use Rattle.std.specs.Prelude.{is_some}
-use Rattle.std.proofs.lemmas.Bool.{cases_lt}
+use Rattle.homology_deciding.proofs.Common.{◌≡◌, inl, inr, ap, ◌∙◌, arith, cases_lt, is_some}
 use Rattle.homology_deciding.specs.Heights.{height_of}
 use Rattle.homology_deciding.proofs.heights.settle_all.Goals as goal
 

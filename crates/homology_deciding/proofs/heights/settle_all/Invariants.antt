@@ -1,5 +1,4 @@
-use Rattle.std.proofs.Common.{◌≡◌, ◌<◌, ℕ, true, []}
-use Rattle.std.specs.Prelude.{is_some}
+use Rattle.homology_deciding.proofs.Common.{◌≡◌, ◌<◌, ℕ, true, [], is_some}
 use Rattle.homology_deciding.specs.Heights.{height_of, AreHeights}
 use Rattle.homology_deciding.proofs.heights.settle_all.Given as goal
 

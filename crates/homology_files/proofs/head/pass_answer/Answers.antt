@@ -1,4 +1,4 @@
-use Rattle.std.proofs.Common.{true, false}
+use Rattle.homology_files.proofs.Common.{true, false}
 use Rattle.homology_files.proofs.AnswerLemmas.{yes-line, other-line}
 use Rattle.homology_files.proofs.head.pass_answer.Goals as goal
 

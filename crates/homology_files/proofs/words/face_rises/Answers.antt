@@ -1,5 +1,4 @@
-use Rattle.std.proofs.Common.{◌-◌, ap, sym, ◌∙◌}
-use Rattle.std.specs.Prelude.{slice_get}
+use Rattle.homology_files.proofs.Common.{◌-◌, ap, sym, ◌∙◌, slice_get}
 use Rattle.homology_files.proofs.RisingLemmas.{face_above}
 use Rattle.homology_files.proofs.words.face_rises.Goals as goal
 

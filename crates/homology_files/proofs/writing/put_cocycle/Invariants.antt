@@ -1,6 +1,4 @@
-use Rattle.std.proofs.Common.{take}
-use Rattle.std.specs.Prelude.{All}
-use Rattle.surf_io.proofs.Gathering.{EachPut}
+use Rattle.homology_files.proofs.Common.{take, All, EachPut}
 use Rattle.homology_files.specs.WrittenTexts.{EdgeFits}
 use Rattle.homology_files.proofs.WritingLemmas.{edge_line}
 use Rattle.homology_files.proofs.writing.put_cocycle.Given as goal

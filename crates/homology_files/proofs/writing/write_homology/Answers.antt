@@ -1,4 +1,4 @@
-use Rattle.surf_io.proofs.Gathering.{on_ok, all-written, part-written}
+use Rattle.homology_files.proofs.Common.{on_ok, all-written, part-written}
 use Rattle.surf_io.proofs.Appending.{on_err}
 use Rattle.homology_files.proofs.RoundTrip.{reads_back}
 use Rattle.homology_files.proofs.writing.write_homology.Goals as goal

@@ -1,4 +1,4 @@
-use Rattle.std.proofs.Common.{ℕ, ◌<◌, length, inr, rules}
+use Rattle.labellings.proofs.Common.{ℕ, ◌<◌, length, inr, rules}
 use Rattle.labellings.specs.GoodLabellings.{HasShape, HasDegree}
 use Rattle.labellings.specs.TableRules.{EntryMeetsRule}
 use Rattle.labellings.proofs.EdgeRuleLemmas.{each-edge, least-against}

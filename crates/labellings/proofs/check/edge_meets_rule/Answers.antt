@@ -1,9 +1,4 @@
-use Rattle.std.proofs.Common.{◌≡◌, length, subst, arith}
-use Rattle.std.proofs.lemmas.Option.{get_or_from_slice_get}
-use Rattle.surf_model.specs.Darts.{IsSide}
-use Rattle.surf_model.specs.Edges.{edge_in}
-use Rattle.surf_model.specs.declared.edges.Side.{Side}
-use Rattle.surf_model.proofs.PartnerLemmas.{side_of_edge}
+use Rattle.labellings.proofs.Common.{◌≡◌, length, subst, arith, get_or_from_slice_get, side_of_edge, IsSide, edge_in, Side}
 use Rattle.labellings.proofs.EdgeRuleLemmas.{rule-from-sides, sides-from-rule}
 use Rattle.labellings.proofs.check.edge_meets_rule.Goals as goal
 

@@ -1,4 +1,4 @@
-use Rattle.std.proofs.Common.{rules, below_more}
+use Rattle.labellings.proofs.Common.{rules, below_more}
 use Rattle.labellings.specs.TableRules.{EntryMeetsRule}
 use Rattle.labellings.proofs.check.first_against.Goals as goal
 

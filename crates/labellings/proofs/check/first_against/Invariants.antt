@@ -1,4 +1,4 @@
-use Rattle.std.proofs.Common.{ℕ, ◌<◌}
+use Rattle.labellings.proofs.Common.{ℕ, ◌<◌}
 use Rattle.labellings.specs.TableRules.{EntryMeetsRule}
 use Rattle.labellings.proofs.check.first_against.Given as goal
 

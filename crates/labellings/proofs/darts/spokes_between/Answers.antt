@@ -1,5 +1,4 @@
-use Rattle.std.proofs.Common.{rules, ◌≡◌, ◌≢◌, ℕ, List, [], ◌∷◌, subst, sym, ◌∙◌, arith}
-use Rattle.std.specs.Prelude.{MatchOption}
+use Rattle.labellings.proofs.Common.{rules, ◌≡◌, ◌≢◌, ℕ, List, [], ◌∷◌, subst, sym, ◌∙◌, arith, MatchOption}
 use Rattle.labellings.proofs.SpokeLemmas.{two-sides, is-side, spokes-along, spokes-against}
 use Rattle.labellings.proofs.darts.spokes_between.Goals as goal
 

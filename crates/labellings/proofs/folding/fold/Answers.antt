@@ -1,7 +1,4 @@
-use Rattle.std.proofs.Common.{◌≡◌, ℕ, suc, ◌+◌, ◌<◌, ◌≤◌, List, ◌++◌, length, get_or, take, ap, sym, ◌∙◌, subst, arith}
-use Rattle.std.proofs.lemmas.List.{take_all}
-use Rattle.turn_words.specs.FormLaws.{led, NotesAlong}
-use Rattle.turn_words.specs.Recorded.{TellsMore}
+use Rattle.labellings.proofs.Common.{◌≡◌, ℕ, suc, ◌+◌, ◌<◌, ◌≤◌, List, ◌++◌, length, get_or, take, ap, sym, ◌∙◌, subst, arith, take_all, led, NotesAlong, TellsMore}
 use Rattle.labellings.specs.QuadPaths.{spokes, quad_path}
 use Rattle.labellings.proofs.KeepingLemmas.{moves_keep}
 use Rattle.labellings.specs.Spokes.{spoke_list}

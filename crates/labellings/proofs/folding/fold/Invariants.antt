@@ -1,6 +1,4 @@
-use Rattle.std.proofs.Common.{◌≡◌, suc, ◌+◌, ◌*◌, ◌≤◌, take}
-use Rattle.turn_words.specs.FormLaws.{led, NotesAlong}
-use Rattle.turn_words.specs.Recorded.{TellsMore}
+use Rattle.labellings.proofs.Common.{◌≡◌, suc, ◌+◌, ◌*◌, ◌≤◌, take, led, NotesAlong, TellsMore}
 use Rattle.labellings.specs.QuadPaths.{quad_path}
 use Rattle.labellings.proofs.folding.fold.Given as goal
 

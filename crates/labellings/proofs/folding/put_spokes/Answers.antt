@@ -1,6 +1,5 @@
-use Rattle.std.proofs.Common.{◌≡◌, ℕ, subst}
+use Rattle.labellings.proofs.Common.{◌≡◌, ℕ, subst, TellsMore}
 use Rattle.std.proofs.lemmas.Result.{on_ok_weaker}
-use Rattle.turn_words.specs.Recorded.{TellsMore}
 use Rattle.labellings.proofs.NotedLemmas.{tells-two}
 use Rattle.labellings.proofs.folding.put_spokes.Goals as goal
 

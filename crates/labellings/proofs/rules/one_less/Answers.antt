@@ -1,6 +1,4 @@
-use Rattle.std.proofs.Common.{◌≡◌, ℕ, ◌-◌, ◌<◌, arith}
-use Rattle.std.proofs.lemmas.Bool.Decides.{nat_tests}
-use Rattle.turn_words.specs.Modulo.{add, minus}
+use Rattle.labellings.proofs.Common.{◌≡◌, ℕ, ◌-◌, ◌<◌, arith, nat_tests, add, minus}
 use Rattle.labellings.proofs.rules.one_less.Goals as goal
 
 wraps : (d n : ℕ) → n < d → n ≡ 0 → d - 1 ≡ add d n (minus d 1)

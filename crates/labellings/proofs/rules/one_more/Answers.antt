@@ -1,4 +1,4 @@
-use Rattle.std.proofs.Common.{arith}
+use Rattle.labellings.proofs.Common.{arith}
 use Rattle.turn_words.specs.Lemmas.Sums.{add-cases}
 use Rattle.labellings.proofs.rules.one_more.Goals as goal
 

@@ -1,4 +1,4 @@
-use Rattle.std.proofs.Common.{ℕ, ◌<◌}
+use Rattle.labellings.proofs.Common.{ℕ, ◌<◌}
 use Rattle.labellings.specs.LabelFaults.{FitsFace}
 use Rattle.labellings.proofs.shape.each_face_fits.Given as goal
 

@@ -1,5 +1,4 @@
-use Rattle.std.proofs.Common.{◌≡◌, ℕ, ◌<◌, slice_index}
-use Rattle.turn_words.specs.Modulo.{add}
+use Rattle.labellings.proofs.Common.{◌≡◌, ℕ, ◌<◌, slice_index, add}
 use Rattle.labellings.proofs.shape.places_rise.Given as goal
 
 abbrev pub invariant-loop-spoke : goal.invariant-loop-spoke

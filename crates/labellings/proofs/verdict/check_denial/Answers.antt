@@ -1,6 +1,5 @@
-use Rattle.std.proofs.Common.{◌≡◌, ◌⊎◌, inl, inr, ◌∙◌, List, ℕ}
-use Rattle.std.specs.Prelude.{◌≢◌, Result, Ok, Err, IfOk}
-use Rattle.surf_model.specs.FaceLists.{FaceList}
+use Rattle.labellings.proofs.Common.{◌≡◌, ◌⊎◌, inl, inr, ◌∙◌, List, ℕ, Result, Ok, Err, IfOk, FaceList}
+use Rattle.std.specs.Prelude.{◌≢◌}
 use Rattle.labellings.specs.LabelFaults.{IsFirstFault}
 use Rattle.labellings.specs.declared.denial.Denial.{Denial}
 use Rattle.labellings.specs.declared.fault.LabelFault.{LabelFault}

@@ -1,4 +1,4 @@
-use Rattle.std.proofs.Common.{◌≡◌, ℕ, ◌<◌, get_or}
+use Rattle.labellings.proofs.Common.{◌≡◌, ℕ, ◌<◌, get_or}
 use Rattle.labellings.proofs.word.are_same_turns.Given as goal
 
 abbrev pub invariant-loop-k : goal.invariant-loop-k

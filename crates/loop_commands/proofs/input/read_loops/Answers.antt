@@ -1,8 +1,5 @@
-use Rattle.std.proofs.Common.{sym}
-use Rattle.std.proofs.lemmas.Result.{err_from_is_err_and}
-use Rattle.walk_files.specs.ClosedPairs.{loops_fault}
+use Rattle.loop_commands.proofs.Common.{fault_stops, text_passes, text_stops, sym, err_from_is_err_and, loops_fault}
 use Rattle.commands.proofs.Running.{only_self, reads_faulty, reads_made, reads_then, tells_no_fault}
-use Rattle.commands.proofs.WalkInputs.{fault_stops, text_passes, text_stops}
 use Rattle.loop_commands.specs.Loops.{loops_line}
 use Rattle.loop_commands.proofs.input.read_loops.Goals as goal
 

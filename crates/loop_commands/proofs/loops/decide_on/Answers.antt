@@ -1,4 +1,4 @@
-use Rattle.std.proofs.lemmas.Result.{err_from_is_err_and}
+use Rattle.loop_commands.proofs.Common.{err_from_is_err_and}
 use Rattle.loop_commands.proofs.loops.decide_on.Goals as goal
 
 pub of_walk-requires-clause-signed : goal.of_walk-requires-clause-signed

@@ -1,11 +1,7 @@
-use Rattle.std.proofs.Common.{◌≡◌, ℕ, Bool, true, false, get_or, sym, subst}
-use Rattle.std.specs.Prelude.{IsTrue}
-use Rattle.surf_model.specs.FaceLists.{is_used}
-use Rattle.surf_model.proofs.EdgeLemmas.{used_below}
-use Rattle.halfedge_map.specs.OrientedMeshes.{OrientedMesh}
-use Rattle.closed_walks.specs.FreeHomotopy.{IsClosedWalk, FreelyHomotopic}
-use Rattle.closed_surfaces.specs.SignedSurfaces.{IsComponentOf}
+use Rattle.loop_commands.proofs.Common.{IsComponentOf, IsClosedWalk, FreelyHomotopic, ◌≡◌, ℕ, Bool, true, false, get_or, sym, subst, IsTrue, is_used}
 use Rattle.closed_surfaces.proofs.Components.{if_ok}
+use Rattle.halfedge_map.specs.OrientedMeshes.{OrientedMesh}
+use Rattle.surf_model.proofs.EdgeLemmas.{used_below}
 use Rattle.loop_commands.proofs.ComponentLoops.{closed_there, free_there, free_within}
 use Rattle.loop_commands.proofs.LoopAnswers.{differs}
 use Rattle.loop_commands.proofs.loops.decide_within.Goals as goal

@@ -1,8 +1,4 @@
-use Rattle.std.proofs.Common.{◌≡◌, ℕ, List, arith, refl}
-use Rattle.std.specs.Prelude.{◌↔◌}
-use Rattle.std.proofs.lemmas.Result.{err_from_is_err_and}
-use Rattle.closed_walks.specs.FreeHomotopy.{FreelyHomotopic}
-use Rattle.free_loops.specs.declared.deciding.FreeAnswer.TheVariants.{Freely}
+use Rattle.loop_commands.proofs.Common.{FreelyHomotopic, Freely, ◌≡◌, ℕ, List, arith, refl, err_from_is_err_and, ◌↔◌}
 use Rattle.commands.proofs.Deciding.{at_places}
 use Rattle.surface_commands.proofs.RunsOnWalks.{runs_asked, runs_refused_walks, runs_wanting}
 use Rattle.loop_commands.specs.Loops.{free_answer, loops_in}

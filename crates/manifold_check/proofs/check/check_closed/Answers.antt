@@ -1,6 +1,4 @@
-use Rattle.std.proofs.Common.{inl, inr, Err, ap, arith}
-use Rattle.surf_model.specs.Surfaces.{IsClosedManifold}
-use Rattle.connectivity.proofs.EdgeCounts.{few_of_two}
+use Rattle.manifold_check.proofs.Common.{few_of_two, inl, inr, Err, ap, arith, IsClosedManifold}
 use Rattle.manifold_check.specs.Faults.{IsFirstFault}
 use Rattle.manifold_check.specs.declared.fault.SurfaceFault.TheVariants.{EdgeSides, Pinched}
 use Rattle.manifold_check.proofs.EdgeLemmas.{two_sides_from_table, uneven_as_read}

@@ -1,5 +1,4 @@
-use Rattle.std.proofs.Common.{◌≡◌, ◌<◌, ℕ, length}
-use Rattle.surf_model.specs.Edges.{edge_in}
+use Rattle.manifold_check.proofs.Common.{◌≡◌, ◌<◌, ℕ, length, edge_in}
 use Rattle.manifold_check.proofs.check.first_uneven.Given as goal
 
 abbrev pub invariant-loop-edge : goal.invariant-loop-edge

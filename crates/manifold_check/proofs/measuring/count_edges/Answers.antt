@@ -1,9 +1,4 @@
-use Rattle.std.proofs.Common.{◌≡◌, ◌+◌, ◌<◌, ℕ, List, get_or, set, length, ap, sym, ◌∙◌, subst, arith}
-use Rattle.std.proofs.lemmas.List.{get_or_read, length-set}
-use Rattle.surf_model.specs.Building.{IsCounted}
-use Rattle.surf_model.specs.Edges.{Edge}
-use Rattle.surf_model.proofs.TallyLemmas.{counted_more, group_of_within}
-use Rattle.connectivity.proofs.EdgeLemmas.{ends_below}
+use Rattle.manifold_check.proofs.Common.{ends_below, ◌≡◌, ◌+◌, ◌<◌, ℕ, List, get_or, set, length, ap, sym, ◌∙◌, subst, arith, get_or_read, length-set, counted_more, group_of_within, IsCounted, Edge}
 use Rattle.manifold_check.proofs.MeasureLemmas.{place_of_edge, low_placed, edges_counted}
 use Rattle.manifold_check.proofs.measuring.count_edges.Goals as goal
 

@@ -1,8 +1,4 @@
-use Rattle.std.proofs.Common.{◌≡◌, ◌+◌, ◌<◌, ℕ, true, List, get_or, set, length, sym, ◌∙◌, subst, arith}
-use Rattle.std.proofs.lemmas.List.{get_or_read, length-set}
-use Rattle.surf_model.specs.Building.{IsCounted}
-use Rattle.surf_model.specs.FaceLists.{is_used}
-use Rattle.surf_model.proofs.TallyLemmas.{group_of_within}
+use Rattle.manifold_check.proofs.Common.{◌≡◌, ◌+◌, ◌<◌, ℕ, true, List, get_or, set, length, sym, ◌∙◌, subst, arith, get_or_read, length-set, group_of_within, IsCounted, is_used}
 use Rattle.manifold_check.proofs.MeasureLemmas.{place_of_used, used_counted, unused_counted, vertices_counted}
 use Rattle.manifold_check.proofs.measuring.count_vertices.Goals as goal
 use Rattle.manifold_check.proofs.measuring.count_vertices.Goals.{then-used, else-used}

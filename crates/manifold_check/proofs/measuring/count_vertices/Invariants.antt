@@ -1,5 +1,4 @@
-use Rattle.std.proofs.Common.{◌≡◌, length}
-use Rattle.surf_model.specs.Building.{IsCounted}
+use Rattle.manifold_check.proofs.Common.{◌≡◌, length, IsCounted}
 use Rattle.manifold_check.proofs.MeasureLemmas.{place_of_used}
 use Rattle.manifold_check.proofs.measuring.count_vertices.Given as goal
 

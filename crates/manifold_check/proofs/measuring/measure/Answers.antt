@@ -1,9 +1,4 @@
-use Rattle.std.proofs.Common.{◌≡◌, inl, inr, ◌+◌, ◌<◌, ℕ, List, [], ◌∷◌, ◌++◌, get_or, length, refl, ap, sym, ◌∙◌, subst, arith}
-use Rattle.std.proofs.lemmas.Bool.{cases_lt}
-use Rattle.std.proofs.lemmas.List.{get_or_append_left, get_or_push, get_or_read, length_push}
-use Rattle.surf_model.specs.ComponentParts.{component_at, component_mesh}
-use Rattle.surf_model.specs.Genera.{AreNumbersOf}
-use Rattle.surf_model.specs.declared.numbers.SurfaceNumbers.{SurfaceNumbers}
+use Rattle.manifold_check.proofs.Common.{◌≡◌, inl, inr, ◌+◌, ◌<◌, ℕ, List, [], ◌∷◌, ◌++◌, get_or, length, refl, ap, sym, ◌∙◌, subst, arith, cases_lt, get_or_append_left, get_or_push, get_or_read, length_push, component_at, component_mesh, AreNumbersOf, SurfaceNumbers}
 use Rattle.manifold_check.proofs.MeasureLemmas.{component_table}
 use Rattle.manifold_check.proofs.PieceLemmas.{length-submesh}
 use Rattle.manifold_check.proofs.measuring.measure.Goals as goal

@@ -1,7 +1,4 @@
-use Rattle.std.proofs.Common.{◌≡◌, ◌<◌, ℕ, get_or, length}
-use Rattle.surf_model.specs.ComponentParts.{component_mesh}
-use Rattle.surf_model.specs.Genera.{AreNumbersOf}
-use Rattle.surf_model.specs.declared.numbers.SurfaceNumbers.{SurfaceNumbers}
+use Rattle.manifold_check.proofs.Common.{◌≡◌, ◌<◌, ℕ, get_or, length, component_mesh, AreNumbersOf, SurfaceNumbers}
 use Rattle.manifold_check.proofs.measuring.measure.Given as goal
 
 abbrev pub invariant-loop-part : goal.invariant-loop-part

@@ -1,5 +1,4 @@
-use Rattle.std.proofs.Common.{◌≡◌, ◌<◌, ℕ, List, get_or, length, sym, arith, subst}
-use Rattle.std.proofs.lemmas.List.{get_or_read}
+use Rattle.manifold_check.proofs.Common.{◌≡◌, ◌<◌, ℕ, List, get_or, length, sym, arith, subst, get_or_read}
 use Rattle.manifold_check.proofs.NumberLemmas.{AreLeasts, AreNumbered, rank_within, leads, numbered_none, numbered_first, numbered_later, numbered_unused, places_of_components}
 use Rattle.manifold_check.proofs.numbering.number.Goals as goal
 use Rattle.manifold_check.proofs.numbering.number.Goals.{then-not-used+in_ok-push, else-not-used+then-first-vertex+in_ok-push-2, else-not-used+else-first-vertex+in_ok-push-3}

@@ -1,4 +1,4 @@
-use Rattle.surf_model.specs.ComponentParts.{component_at}
+use Rattle.manifold_check.proofs.Common.{component_at}
 use Rattle.manifold_check.proofs.PartPieces.{IsOfComponent, piece_of_parts, closed_alone, names_within}
 use Rattle.manifold_check.proofs.PieceSides.{valid_alone}
 use Rattle.manifold_check.proofs.PieceSurfaces.{coherent_alone}

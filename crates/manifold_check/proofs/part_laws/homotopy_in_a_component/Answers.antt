@@ -1,4 +1,4 @@
-use Rattle.surf_model.specs.ComponentParts.{component_at}
+use Rattle.manifold_check.proofs.Common.{component_at}
 use Rattle.manifold_check.proofs.PartPieces.{IsOfComponent, piece_of_parts}
 use Rattle.manifold_check.proofs.PieceMoves.{homotopic_alike}
 use Rattle.manifold_check.proofs.part_laws.homotopy_in_a_component.Goals as goal

@@ -1,4 +1,4 @@
-use Rattle.surf_model.specs.ComponentParts.{component_at}
+use Rattle.manifold_check.proofs.Common.{component_at}
 use Rattle.manifold_check.proofs.PartPieces.{IsOfComponent, piece_of_parts}
 use Rattle.manifold_check.proofs.PieceMoves.{moves_up, greatest_alike}
 use Rattle.manifold_check.proofs.part_laws.renamed_moves_lead.Goals as goal

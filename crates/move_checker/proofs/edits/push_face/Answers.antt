@@ -1,9 +1,4 @@
-use Rattle.std.proofs.Common.{◌≡◌, ◌+◌, ◌++◌, ℕ, Bool, List, length, take, drop, get_or, Some, ap, sym, ◌∙◌, arith, length-append}
-use Rattle.std.proofs.lemmas.List.{length-take-le, length-drop, take_all, get_or-drop}
-use Rattle.chain_pool.specs.Chains.{list_of}
-use Rattle.chain_pool.proofs.Lists.{list_under-is}
-use Rattle.surf_model.specs.FaceLists.{face_at, next_corner, corners_from}
-use Rattle.surf_model.proofs.ReplacementLemmas.{length-corners_from}
+use Rattle.move_checker.proofs.Common.{list_under-is, list_of, ◌≡◌, ◌+◌, ◌++◌, ℕ, Bool, List, length, take, drop, get_or, Some, ap, sym, ◌∙◌, arith, length-append, length-take-le, length-drop, take_all, get_or-drop, length-corners_from, face_at, next_corner, corners_from}
 use Rattle.move_checker.proofs.Replacements.{pushed_more}
 use Rattle.move_checker.proofs.Ways.{corner_after, corner_after-more, get_or-corners_from}
 use Rattle.move_checker.proofs.edits.push_face.Goals as goal

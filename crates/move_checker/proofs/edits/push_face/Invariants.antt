@@ -1,6 +1,4 @@
-use Rattle.std.proofs.Common.{◌≡◌, ◌+◌, ◌<◌, ◌++◌, length, take, drop, Some}
-use Rattle.chain_pool.specs.Chains.{under, list_of}
-use Rattle.surf_model.specs.FaceLists.{face_at, corners_from}
+use Rattle.move_checker.proofs.Common.{under, list_of, ◌≡◌, ◌+◌, ◌<◌, ◌++◌, length, take, drop, Some, face_at, corners_from}
 use Rattle.move_checker.proofs.Ways.{corner_after}
 use Rattle.move_checker.proofs.edits.push_face.Given as goal
 

@@ -1,7 +1,4 @@
-use Rattle.std.proofs.Common.{◌≡◌, ◌+◌, ◌-◌, ◌<◌, ◌≢◌, ℕ, List, length, take, drop, get_or, refl, ap, sym, ◌∙◌, arith}
-use Rattle.std.proofs.lemmas.List.{length-take-le, length-drop, get_or-take, get_or-drop}
-use Rattle.chain_pool.specs.Chains.{Chains, list_of}
-use Rattle.surf_model.specs.FaceLists.{face_at, next_corner, corners_from}
+use Rattle.move_checker.proofs.Common.{Chains, list_of, ◌≡◌, ◌+◌, ◌-◌, ◌<◌, ◌≢◌, ℕ, List, length, take, drop, get_or, refl, ap, sym, ◌∙◌, arith, length-take-le, length-drop, get_or-take, get_or-drop, face_at, next_corner, corners_from}
 use Rattle.move_checker.proofs.Ways.{IsOnWay, on_way_more, on_way_all, off_way}
 use Rattle.move_checker.proofs.SameWalks.{same_vertex, other_vertex, same_walk_true, same_walk_false}
 use Rattle.move_checker.proofs.edits.reads_face.Goals as goal

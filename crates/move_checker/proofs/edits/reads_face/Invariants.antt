@@ -1,6 +1,4 @@
-use Rattle.std.proofs.Common.{◌≡◌, ◌+◌, take, drop}
-use Rattle.chain_pool.specs.Chains.{list_of}
-use Rattle.surf_model.specs.FaceLists.{face_at}
+use Rattle.move_checker.proofs.Common.{list_of, ◌≡◌, ◌+◌, take, drop, face_at}
 use Rattle.move_checker.proofs.Ways.{IsOnWay}
 use Rattle.move_checker.proofs.edits.reads_face.Given as goal
 

@@ -1,8 +1,4 @@
-use Rattle.std.proofs.Common.{◌≡◌, ◌+◌, ◌-◌, ◌++◌, ℕ, List, length, take, drop, not, Some, ap, ◌∙◌, arith}
-use Rattle.std.specs.Prelude.{min}
-use Rattle.chain_pool.specs.Chains.{list_of, cut}
-use Rattle.chain_pool.proofs.Lists.{list_under-is}
-use Rattle.surf_model.specs.FaceLists.{face_at, corners_from}
+use Rattle.move_checker.proofs.Common.{list_under-is, list_of, cut, ◌≡◌, ◌+◌, ◌-◌, ◌++◌, ℕ, List, length, take, drop, not, Some, ap, ◌∙◌, arith, min, face_at, corners_from}
 use Rattle.move_checker.specs.declared.edits.Way.{Way}
 use Rattle.move_checker.proofs.Ends.{ends_stay}
 use Rattle.move_checker.proofs.Replacements.{cut_replaced}

@@ -1,4 +1,4 @@
-use Rattle.std.proofs.Common.{◌≡◌, ◌+◌, drop}
+use Rattle.move_checker.proofs.Common.{◌≡◌, ◌+◌, drop}
 use Rattle.move_checker.specs.Verdicts.{verdict_of, verdict_from}
 use Rattle.move_checker.proofs.judge.check_moves.Given as goal
 

@@ -1,5 +1,4 @@
-use Rattle.std.proofs.Common.{◌-◌, refl, sym, ◌∙◌, arith}
-use Rattle.chain_pool.proofs.Reading.{rest_left, first_left}
+use Rattle.move_checker.proofs.Common.{rest_left, first_left, ◌-◌, refl, sym, ◌∙◌, arith}
 use Rattle.move_checker.proofs.SameWalks.{same_vertex, other_vertex}
 use Rattle.move_checker.proofs.SideLemmas.{AreRead-more, AreRead-next, before_same, before_other}
 use Rattle.move_checker.proofs.sides.are_before.Goals as goal

@@ -1,4 +1,4 @@
-use Rattle.std.proofs.Common.{◌-◌}
+use Rattle.move_checker.proofs.Common.{◌-◌}
 use Rattle.move_checker.proofs.SideLemmas.{AreRead}
 use Rattle.move_checker.proofs.sides.are_before.Given as goal
 

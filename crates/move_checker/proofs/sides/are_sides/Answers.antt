@@ -1,4 +1,4 @@
-use Rattle.std.proofs.Common.{◌≡◌, ◌+◌, ◌-◌, ℕ, List, length, reverse, take, drop, ap, sym, ◌∙◌, arith}
+use Rattle.move_checker.proofs.Common.{◌≡◌, ◌+◌, ◌-◌, ℕ, List, length, reverse, take, drop, ap, sym, ◌∙◌, arith}
 use Rattle.move_checker.proofs.SideLemmas.{same_before, same_behind, sides_same}
 use Rattle.move_checker.proofs.sides.are_sides.Goals as goal
 

@@ -1,7 +1,5 @@
-use Rattle.std.proofs.Common.{◌≡◌, ℕ, ◌≤◌, List, [], length, get_or, refl, ap, sym, ◌∙◌, subst, arith, Some}
-use Rattle.spoke_paths.specs.PathSteps.{after_path_step, PathLeads}
-use Rattle.spoke_paths.specs.declared.step.PathStep.{PathStep}
-use Rattle.spoke_paths.specs.declared.step.PathStep.TheVariants.{Spur}
+use Rattle.move_lifting.proofs.Common.{after_path_step, PathLeads, PathStep, Spur, ◌≡◌, ℕ, ◌≤◌, List, [], length, get_or, refl, ap, sym, ◌∙◌, subst, arith}
+use Rattle.std.proofs.Common.{Some}
 use Rattle.move_lifting.specs.LoopsPutIn.{IsFreelyPath}
 use Rattle.move_lifting.proofs.ContractLemmas.{led_walk, next_allowed, contracted_on, all_contracted, one_left}
 use Rattle.move_lifting.proofs.ShortStepLemmas.{step_no_longer}

@@ -1,5 +1,4 @@
-use Rattle.std.proofs.Common.{ℕ, ◌+◌, ◌*◌, ◌≤◌, length, drop}
-use Rattle.halfedge_map.specs.DartMaps.{darts_of}
+use Rattle.move_lifting.proofs.Common.{darts_of, ℕ, ◌+◌, ◌*◌, ◌≤◌, length, drop}
 use Rattle.move_lifting.specs.SpokeWalks.{IsLooper}
 use Rattle.move_lifting.specs.TurnPeaks.{KeepsBound}
 use Rattle.move_lifting.proofs.ContractLemmas.{IsContracted}

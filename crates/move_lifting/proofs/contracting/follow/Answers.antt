@@ -1,11 +1,5 @@
-use Rattle.std.proofs.Common.{◌≡◌, ◌⊎◌, inl, inr, ℕ, ◌+◌, ◌-◌, ◌*◌, ◌<◌, ◌≤◌, List, length, ap, sym, ◌∙◌, subst, arith, Some}
-use Rattle.std.specs.Prelude.{All, slice_index}
-use Rattle.std.proofs.lemmas.Result.{IfOk-weaker}
-use Rattle.turn_words.specs.FormLaws.{IsQuad}
-use Rattle.polygon_cut.specs.ShortWalks.{AreShortAround}
-use Rattle.spoke_paths.specs.PathSteps.{after_path_step}
-use Rattle.spoke_paths.specs.declared.step.PathStep.{PathStep}
-use Rattle.spoke_paths.proofs.Placing.{some-turn}
+use Rattle.move_lifting.proofs.Common.{AreShortAround, some-turn, after_path_step, PathStep, ◌≡◌, ◌⊎◌, inl, inr, ℕ, ◌+◌, ◌-◌, ◌*◌, ◌<◌, ◌≤◌, List, length, ap, sym, ◌∙◌, subst, arith, IfOk-weaker, All, slice_index, IsQuad}
+use Rattle.std.proofs.Common.{Some}
 use Rattle.move_lifting.specs.LoopFronts.{spokes_in_front}
 use Rattle.move_lifting.specs.LoopsPutIn.{IsFreelyPath, HasLoopIn}
 use Rattle.move_lifting.specs.Tracks.{TrackView}

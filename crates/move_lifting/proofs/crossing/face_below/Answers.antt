@@ -1,13 +1,5 @@
-use Rattle.std.proofs.Common.{◌≡◌, ℕ, false, Option, sym, ap, ◌∙◌, subst}
-use Rattle.std.specs.Prelude.{IfSome, MatchOption, Some, None}
-use Rattle.std.specs.Option.{option_map}
-use Rattle.surf_model.specs.FaceLists.{FaceList}
-use Rattle.surf_model.specs.Darts.{IsSide, side_number}
-use Rattle.surf_model.specs.declared.names.DartName.{DartName}
-use Rattle.surf_model.specs.declared.names.FaceName.{FaceName}
-use Rattle.halfedge_map.specs.DartMaps.{edge_of}
-use Rattle.halfedge_map.specs.RotationSystems.{rotations_of, IsDartFrom}
-use Rattle.tree_cotree.specs.Splits.{below_edge, in_cotree}
+use Rattle.move_lifting.proofs.Common.{edge_of, rotations_of, IsDartFrom, ◌≡◌, ℕ, false, sym, ap, ◌∙◌, subst, option_map, IfSome, MatchOption, Some, None, IsSide, side_number, FaceList, DartName, FaceName, below_edge, in_cotree}
+use Rattle.std.proofs.Common.{Option}
 use Rattle.move_lifting.specs.Crossings.{GoesAlong, IsFaceBelow}
 use Rattle.move_lifting.specs.declared.crossing.FaceStep.{FaceStep}
 use Rattle.move_lifting.proofs.CrossingLemmas.{below_step, not_below}

@@ -1,8 +1,4 @@
-use Rattle.std.proofs.Common.{◌≡◌, ℕ, ◌+◌, ◌<◌, List, length, ap, ◌∙◌, arith}
-use Rattle.surf_model.specs.FaceLists.{face_at, next_corner}
-use Rattle.surf_model.specs.Vertices.{numbers}
-use Rattle.surf_model.proofs.RoundLemmas.{corner_after}
-use Rattle.walk_actions.proofs.Corners.{after_within}
+use Rattle.move_lifting.proofs.Common.{◌≡◌, ℕ, ◌+◌, ◌<◌, List, length, ap, ◌∙◌, arith, corner_after, face_at, next_corner, numbers, after_within}
 use Rattle.move_lifting.proofs.CrossingLemmas.{rest_more, corner_more}
 use Rattle.move_lifting.proofs.crossing.push_rest.Goals as goal
 

@@ -1,7 +1,4 @@
-use Rattle.std.proofs.Common.{◌≡◌, ◌++◌, length}
-use Rattle.surf_model.specs.FaceLists.{face_at, next_corner}
-use Rattle.surf_model.specs.Vertices.{numbers}
-use Rattle.surf_model.proofs.RoundLemmas.{corner_after, corners_before}
+use Rattle.move_lifting.proofs.Common.{◌≡◌, ◌++◌, length, corner_after, corners_before, face_at, next_corner, numbers}
 use Rattle.move_lifting.proofs.crossing.push_rest.Given as goal
 
 abbrev pub invariant-loop-count : goal.invariant-loop-count

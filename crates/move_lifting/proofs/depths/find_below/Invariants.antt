@@ -1,7 +1,4 @@
-use Rattle.std.proofs.Common.{◌≡◌, ◌<◌, length}
-use Rattle.std.specs.Prelude.{All}
-use Rattle.surf_model.specs.declared.names.DartName.{DartName}
-use Rattle.halfedge_map.specs.DartMaps.{darts_of}
+use Rattle.move_lifting.proofs.Common.{darts_of, ◌≡◌, ◌<◌, length, All, DartName}
 use Rattle.move_lifting.proofs.depths.find_below.Given as goal
 
 abbrev pub invariant-loop-side : goal.invariant-loop-side

@@ -1,5 +1,4 @@
-use Rattle.std.proofs.Common.{◌≡◌, ◌+◌, ◌-◌, length, arith}
-use Rattle.surf_model.specs.FaceLists.{face_at}
+use Rattle.move_lifting.proofs.Common.{◌≡◌, ◌+◌, ◌-◌, length, arith, face_at}
 use Rattle.move_lifting.proofs.CrossingLemmas.{come_long}
 use Rattle.move_lifting.proofs.expanding.cross.Goals as goal
 use Rattle.move_lifting.proofs.expanding.cross.Goals.{In_ok-push_rest}

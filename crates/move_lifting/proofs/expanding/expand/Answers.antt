@@ -1,12 +1,4 @@
-use Rattle.std.proofs.Common.{◌≡◌, List, [], ℕ, ◌*◌, ◌≤◌, length, sym, ap, ◌∙◌, subst, arith}
-use Rattle.std.proofs.Math.Nat.{mul-le-mul_left}
-use Rattle.std.proofs.lemmas.Result.{IfOk-weaker}
-use Rattle.surf_model.specs.Moves.{PeakedMoves}
-use Rattle.surf_model.specs.Vertices.{numbers}
-use Rattle.surf_model.specs.Walks.{HaveCommonEnds, darts}
-use Rattle.surf_model.proofs.WayBackLemmas.{list_keeps_ends}
-use Rattle.halfedge_map.specs.DartMaps.{darts_of}
-use Rattle.polygon_cut.specs.SpokeLoops.{IsOffCotree}
+use Rattle.move_lifting.proofs.Common.{darts_of, IsOffCotree, ◌≡◌, List, [], ℕ, ◌*◌, ◌≤◌, length, sym, ap, ◌∙◌, subst, arith, mul-le-mul_left, IfOk-weaker, list_keeps_ends, PeakedMoves, numbers, HaveCommonEnds, darts}
 use Rattle.move_lifting.specs.Lifts.{LeadsAtPeak}
 use Rattle.move_lifting.specs.Loads.{StaysWithin}
 use Rattle.move_lifting.specs.declared.lifted.Lifted.{Lifted}

@@ -1,6 +1,4 @@
-use Rattle.std.proofs.Common.{◌≡◌, ◌+◌, ◌*◌, ◌≤◌, [], length}
-use Rattle.surf_model.specs.Vertices.{numbers}
-use Rattle.polygon_cut.specs.SpokeLoops.{IsOffCotree}
+use Rattle.move_lifting.proofs.Common.{IsOffCotree, ◌≡◌, ◌+◌, ◌*◌, ◌≤◌, [], length, numbers}
 use Rattle.move_lifting.specs.declared.expanding.TheConstants.{MOST_LIFTED_SIDES}
 use Rattle.move_lifting.proofs.ExpandLemmas.{IsLedSoFar}
 use Rattle.move_lifting.proofs.expanding.lead_all.Given as goal

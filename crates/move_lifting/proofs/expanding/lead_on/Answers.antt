@@ -1,11 +1,4 @@
-use Rattle.std.proofs.Common.{◌≡◌, ℕ, ◌+◌, ◌≤◌, false, List, [], ◌∷◌, ◌++◌, length, sym, ap, ◌∙◌, subst, arith}
-use Rattle.std.proofs.lemmas.List.{nil_from_length}
-use Rattle.surf_model.specs.FaceLists.{FaceList, face_at, is_edge}
-use Rattle.surf_model.specs.Vertices.{numbers}
-use Rattle.surf_model.specs.declared.names.VertexName.{VertexName}
-use Rattle.halfedge_map.specs.DartMaps.{darts_of, edge_of}
-use Rattle.halfedge_map.specs.RotationSystems.{rotations_of, IsDartFrom}
-use Rattle.tree_cotree.specs.Splits.{in_cotree}
+use Rattle.move_lifting.proofs.Common.{darts_of, edge_of, rotations_of, IsDartFrom, ◌≡◌, ℕ, ◌+◌, ◌≤◌, false, List, [], ◌∷◌, ◌++◌, length, sym, ap, ◌∙◌, subst, arith, nil_from_length, FaceList, face_at, is_edge, numbers, VertexName, in_cotree}
 use Rattle.move_lifting.specs.Tracks.{TrackView, last_of}
 use Rattle.move_lifting.specs.Crossings.{IsFaceBelow, IsCrossed}
 use Rattle.move_lifting.proofs.ExpandLemmas.{under_way, led_on, led_within, all_come, one_pending, length-numbers, next_edge, room_along, room_across, put_on_way, cross_on_way}

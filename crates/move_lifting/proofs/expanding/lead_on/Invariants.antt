@@ -1,6 +1,4 @@
-use Rattle.std.proofs.Common.{◌+◌, ◌≤◌, length}
-use Rattle.surf_model.specs.Vertices.{numbers}
-use Rattle.halfedge_map.specs.DartMaps.{darts_of}
+use Rattle.move_lifting.proofs.Common.{darts_of, ◌+◌, ◌≤◌, length, numbers}
 use Rattle.move_lifting.proofs.ExpandLemmas.{IsUnderWay}
 use Rattle.move_lifting.proofs.expanding.lead_on.Given as goal
 

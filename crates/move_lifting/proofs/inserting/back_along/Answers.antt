@@ -1,8 +1,4 @@
-use Rattle.std.proofs.Common.{◌-◌, List, length, drop, get_or, sym, ◌∙◌, arith}
-use Rattle.std.proofs.lemmas.List.{get_or-map, take_all, length-drop}
-use Rattle.surf_model.specs.Vertices.{numbers}
-use Rattle.surf_model.specs.declared.names.VertexName.{VertexName}
-use Rattle.polygon_cut.specs.SpokeLoops.{backward}
+use Rattle.move_lifting.proofs.Common.{backward, ◌-◌, List, length, drop, get_or, sym, ◌∙◌, arith, get_or-map, take_all, length-drop, numbers, VertexName}
 use Rattle.move_lifting.proofs.BackLemmas.{back_so_far, one_longer, length-backward}
 use Rattle.move_lifting.proofs.ExpandLemmas.{length-numbers}
 use Rattle.move_lifting.proofs.inserting.back_along.Goals as goal

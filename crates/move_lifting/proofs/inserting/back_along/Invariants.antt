@@ -1,6 +1,4 @@
-use Rattle.std.proofs.Common.{◌≡◌, ◌+◌, take, drop, length, get_or}
-use Rattle.surf_model.specs.Vertices.{numbers}
-use Rattle.polygon_cut.specs.SpokeLoops.{backward}
+use Rattle.move_lifting.proofs.Common.{backward, ◌≡◌, ◌+◌, take, drop, length, get_or, numbers}
 use Rattle.move_lifting.proofs.inserting.back_along.Given as goal
 
 abbrev pub invariant-loop-done : goal.invariant-loop-done

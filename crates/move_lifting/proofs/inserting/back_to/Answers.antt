@@ -1,6 +1,4 @@
-use Rattle.std.proofs.Common.{◌-◌, length, take, drop, ◌∙◌}
-use Rattle.std.proofs.lemmas.List.{take_rest}
-use Rattle.std.proofs.lemmas.Result.{IfOk-weaker}
+use Rattle.move_lifting.proofs.Common.{◌-◌, length, take, drop, ◌∙◌, take_rest, IfOk-weaker}
 use Rattle.move_lifting.proofs.BackLemmas.{back_from}
 use Rattle.move_lifting.proofs.inserting.back_to.Goals as goal
 

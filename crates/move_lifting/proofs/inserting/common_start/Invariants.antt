@@ -1,5 +1,4 @@
-use Rattle.std.proofs.Common.{◌≡◌, ◌≤◌, take}
-use Rattle.surf_model.specs.Vertices.{numbers}
+use Rattle.move_lifting.proofs.Common.{◌≡◌, ◌≤◌, take, numbers}
 use Rattle.move_lifting.proofs.inserting.common_start.Given as goal
 
 abbrev pub invariant-loop-place : goal.invariant-loop-place

@@ -1,9 +1,4 @@
-use Rattle.std.proofs.Common.{◌≡◌, ℕ, ◌-◌, ◌+◌, ◌++◌, List, length, take, drop, ap, sym, subst, arith}
-use Rattle.std.proofs.lemmas.List.{get_or-map, take_all}
-use Rattle.surf_model.specs.Moves.{PeakedMoves}
-use Rattle.surf_model.specs.Vertices.{numbers}
-use Rattle.surf_model.specs.declared.names.VertexName.{VertexName}
-use Rattle.polygon_cut.specs.SpokeLoops.{backward}
+use Rattle.move_lifting.proofs.Common.{backward, ◌≡◌, ℕ, ◌-◌, ◌+◌, ◌++◌, List, length, take, drop, ap, sym, subst, arith, get_or-map, take_all, PeakedMoves, numbers, VertexName}
 use Rattle.move_lifting.specs.Tracks.{last_of}
 use Rattle.move_lifting.specs.Lifts.{LeadsAtPeak}
 use Rattle.move_lifting.proofs.ExpandLemmas.{length-numbers}

@@ -1,9 +1,4 @@
-use Rattle.std.proofs.Common.{refl, ◌<◌, ◌≡◌, ◌≢◌, ℕ, ◌+◌, ◌-◌, ◌++◌, List, length, drop, take, get_or, ap, sym, ◌∙◌, subst, arith}
-use Rattle.std.proofs.lemmas.Result.{IfOk-weaker}
-use Rattle.chain_pool.specs.Chains.{spliced}
-use Rattle.surf_model.specs.Moves.{PeakedMoves}
-use Rattle.surf_model.specs.Rewriting.{all_raised}
-use Rattle.surf_model.specs.Vertices.{numbers}
+use Rattle.move_lifting.proofs.Common.{spliced, refl, ◌<◌, ◌≡◌, ◌≢◌, ℕ, ◌+◌, ◌-◌, ◌++◌, List, length, drop, take, get_or, ap, sym, ◌∙◌, subst, arith, IfOk-weaker, PeakedMoves, all_raised, numbers}
 use Rattle.move_lifting.specs.Lifts.{LeadsAtPeak}
 use Rattle.move_lifting.specs.PooledWalks.{Pooled}
 use Rattle.move_lifting.specs.Tracks.{last_of}

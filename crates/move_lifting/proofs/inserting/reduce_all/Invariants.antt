@@ -1,5 +1,4 @@
-use Rattle.std.proofs.Common.{◌≡◌, ◌+◌, ◌≤◌, length}
-use Rattle.surf_model.specs.Vertices.{numbers}
+use Rattle.move_lifting.proofs.Common.{◌≡◌, ◌+◌, ◌≤◌, length, numbers}
 use Rattle.move_lifting.proofs.SpurLemmas.{IsReducedSoFar}
 use Rattle.move_lifting.proofs.inserting.reduce_all.Given as goal
 

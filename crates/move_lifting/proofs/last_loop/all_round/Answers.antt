@@ -1,6 +1,4 @@
-use Rattle.std.proofs.Common.{ℕ, ◌-◌, ◌++◌, ◌∷◌, [], List, length, ap, ◌∙◌}
-use Rattle.surf_model.specs.FaceLists.{face_at, next_corner}
-use Rattle.surf_model.proofs.RoundLemmas.{corners_before}
+use Rattle.move_lifting.proofs.Common.{ℕ, ◌-◌, ◌++◌, ◌∷◌, [], List, length, ap, ◌∙◌, corners_before, face_at, next_corner}
 use Rattle.move_lifting.proofs.ExpandLemmas.{one_pending}
 use Rattle.move_lifting.proofs.LastLoopLemmas.{all_round}
 use Rattle.move_lifting.proofs.last_loop.all_round.Goals as goal

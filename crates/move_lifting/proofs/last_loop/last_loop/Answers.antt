@@ -1,16 +1,4 @@
-use Rattle.std.proofs.Common.{◌≡◌, ℕ, ◌-◌, ◌<◌, ◌∷◌, ◌++◌, [], List, length, not, get_or, refl, sym, ap, ◌∙◌, subst, arith}
-use Rattle.std.proofs.lemmas.List.{append-nil}
-use Rattle.std.proofs.lemmas.Result.{IfOk-weaker}
-use Rattle.surf_model.specs.FaceLists.{FaceList, face_at}
-use Rattle.surf_model.specs.Moves.{PeakedMoves, apply}
-use Rattle.surf_model.specs.Vertices.{numbers}
-use Rattle.surf_model.specs.Walks.{IsWalk, darts}
-use Rattle.surf_model.specs.declared.moves.Move.{Move}
-use Rattle.surf_model.specs.declared.moves.Move.TheVariants.{Across}
-use Rattle.surf_model.specs.declared.names.VertexName.{VertexName}
-use Rattle.halfedge_map.specs.DartMaps.{darts_of, origin_of}
-use Rattle.polygon_cut.specs.Polygons.{side_at}
-use Rattle.polygon_cut.specs.SpokeLoops.{last_side}
+use Rattle.move_lifting.proofs.Common.{darts_of, origin_of, side_at, last_side, ◌≡◌, ℕ, ◌-◌, ◌<◌, ◌∷◌, ◌++◌, [], List, length, not, get_or, refl, sym, ap, ◌∙◌, subst, arith, append-nil, IfOk-weaker, FaceList, face_at, PeakedMoves, apply, numbers, IsWalk, darts, Move, Across, VertexName}
 use Rattle.move_lifting.specs.Crossings.{IsStepOf}
 use Rattle.move_lifting.specs.Lifts.{LeadsAtPeak}
 use Rattle.move_lifting.specs.Loads.{StaysWithin}

@@ -1,7 +1,4 @@
-use Rattle.std.proofs.Common.{◌≡◌, inl, inr, true, length, refl, ap, ◌∙◌, subst}
-use Rattle.surf_model.specs.Darts.{IsSide, side_number}
-use Rattle.surf_model.specs.FaceLists.{FaceList, face_at, next_corner}
-use Rattle.surf_model.specs.Surfaces.{is_flipped}
+use Rattle.move_lifting.proofs.Common.{◌≡◌, inl, inr, true, length, refl, ap, ◌∙◌, subst, IsSide, side_number, FaceList, face_at, next_corner, is_flipped}
 use Rattle.move_lifting.proofs.LastLoopLemmas.{step_is_from}
 use Rattle.move_lifting.proofs.last_loop.step_from.Goals.{then-flipped, else-flipped}
 use Rattle.move_lifting.proofs.last_loop.step_from.Goals as goal

@@ -1,5 +1,5 @@
 use Rattle.move_lifting.proofs.BoundLemmas.{low_most}
-use Rattle.std.proofs.Common.{arith}
+use Rattle.move_lifting.proofs.Common.{arith}
 use Rattle.move_lifting.proofs.laws.low_peaks_are_read.Goals as goal
 
 pub returns-clause-most : goal.returns-clause-most

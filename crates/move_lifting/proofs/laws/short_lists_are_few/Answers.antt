@@ -1,4 +1,4 @@
-use Rattle.std.proofs.Common.{length}
+use Rattle.move_lifting.proofs.Common.{length}
 use Rattle.move_lifting.proofs.BoundLemmas.{few_most}
 use Rattle.move_lifting.proofs.laws.short_lists_are_few.Goals as goal
 

@@ -1,8 +1,4 @@
-use Rattle.std.proofs.Common.{◌++◌, subst, List, arith}
-use Rattle.std.proofs.lemmas.List.{take_all}
-use Rattle.surf_model.specs.FreeWalks.{AreFreelyEqual}
-use Rattle.surf_model.specs.Vertices.{numbers}
-use Rattle.surf_model.specs.declared.names.VertexName.{VertexName}
+use Rattle.move_lifting.proofs.Common.{◌++◌, subst, List, arith, take_all, AreFreelyEqual, numbers, VertexName}
 use Rattle.move_lifting.proofs.LayLemmas.{laid_more, laid_none}
 use Rattle.move_lifting.proofs.laying.put_all.Goals as goal
 

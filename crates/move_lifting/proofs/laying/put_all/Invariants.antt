@@ -1,7 +1,4 @@
-use Rattle.std.proofs.Common.{◌<◌, ◌++◌, length, take}
-use Rattle.surf_model.specs.FaceLists.{FaceList}
-use Rattle.surf_model.specs.FreeWalks.{AreFreelyEqual, HasNoSpur}
-use Rattle.surf_model.specs.Vertices.{numbers}
+use Rattle.move_lifting.proofs.Common.{◌<◌, ◌++◌, length, take, FaceList, AreFreelyEqual, HasNoSpur, numbers}
 use Rattle.move_lifting.proofs.laying.put_all.Given as goal
 
 abbrev pub invariant-loop-vertex : goal.invariant-loop-vertex

@@ -1,7 +1,4 @@
-use Rattle.std.proofs.Common.{◌≡◌, ◌-◌, ◌<◌, length, get_or, subst, List, arith}
-use Rattle.std.specs.Prelude.{vec_len}
-use Rattle.surf_model.specs.Vertices.{numbers}
-use Rattle.surf_model.specs.declared.names.VertexName.{VertexName}
+use Rattle.move_lifting.proofs.Common.{◌≡◌, ◌-◌, ◌<◌, length, get_or, subst, List, arith, vec_len, numbers, VertexName}
 use Rattle.move_lifting.proofs.LayLemmas.{popped_off, goes_out, goes_out_clean}
 use Rattle.move_lifting.proofs.laying.put_vertex.Goals as goal
 

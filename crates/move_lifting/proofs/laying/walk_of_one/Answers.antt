@@ -1,6 +1,4 @@
-use Rattle.std.proofs.Common.{◌++◌, ◌∷◌, [], List, ap, ◌∙◌}
-use Rattle.surf_model.specs.Vertices.{numbers}
-use Rattle.surf_model.specs.declared.names.VertexName.{VertexName}
+use Rattle.move_lifting.proofs.Common.{◌++◌, ◌∷◌, [], List, ap, ◌∙◌, numbers, VertexName}
 use Rattle.move_lifting.proofs.ExpandLemmas.{one_pending}
 use Rattle.move_lifting.proofs.laying.walk_of_one.Goals as goal
 

@@ -1,11 +1,4 @@
-use Rattle.std.proofs.Common.{◌≡◌, ◌+◌, ◌-◌, ◌<◌, ◌≤◌, List, [], ◌∷◌, ◌++◌, length, drop, ℕ, sym, ap, ◌∙◌, subst, arith}
-use Rattle.std.specs.Prelude.{All}
-use Rattle.std.proofs.lemmas.List.{length-drop}
-use Rattle.std.proofs.lemmas.Result.{IfOk-weaker}
-use Rattle.surf_model.specs.FaceLists.{FaceList}
-use Rattle.surf_model.specs.Moves.{PeakedMoves}
-use Rattle.surf_model.specs.FreeWalks.{HasNoSpur}
-use Rattle.surf_model.specs.Walks.{darts, HaveCommonEnds}
+use Rattle.move_lifting.proofs.Common.{◌≡◌, ◌+◌, ◌-◌, ◌<◌, ◌≤◌, List, [], ◌∷◌, ◌++◌, length, drop, ℕ, sym, ap, ◌∙◌, subst, arith, length-drop, IfOk-weaker, All, FaceList, HasNoSpur, PeakedMoves, darts, HaveCommonEnds}
 use Rattle.move_lifting.specs.Lifts.{LeadsAtPeak, IsRemoval}
 use Rattle.move_lifting.specs.Tracks.{TrackView}
 use Rattle.move_lifting.specs.declared.lifted.Lifted.{Lifted}

@@ -1,7 +1,4 @@
-use Rattle.std.proofs.Common.{◌≡◌, ◌+◌, ◌≤◌, ◌++◌, length, drop}
-use Rattle.std.specs.Prelude.{All}
-use Rattle.surf_model.specs.FaceLists.{FaceList}
-use Rattle.surf_model.specs.FreeWalks.{HasNoSpur}
+use Rattle.move_lifting.proofs.Common.{◌≡◌, ◌+◌, ◌≤◌, ◌++◌, length, drop, All, FaceList, HasNoSpur}
 use Rattle.move_lifting.specs.Lifts.{LeadsAtPeak, IsRemoval}
 use Rattle.move_lifting.proofs.lifted.reduce_free.Given as goal
 

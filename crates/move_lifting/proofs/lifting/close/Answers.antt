@@ -1,9 +1,4 @@
-use Rattle.std.proofs.Common.{◌++◌, ℕ, List, length, ap, drop, sym, ◌∙◌, subst, arith}
-use Rattle.std.proofs.lemmas.List.{length-drop}
-use Rattle.std.proofs.lemmas.Result.{IfOk-weaker}
-use Rattle.surf_model.specs.Moves.{PeakedMoves}
-use Rattle.surf_model.specs.Vertices.{numbers}
-use Rattle.surf_model.specs.declared.names.VertexName.{VertexName}
+use Rattle.move_lifting.proofs.Common.{◌++◌, ℕ, List, length, ap, drop, sym, ◌∙◌, subst, arith, length-drop, IfOk-weaker, PeakedMoves, numbers, VertexName}
 use Rattle.move_lifting.specs.Lifts.{LeadsAtPeak}
 use Rattle.move_lifting.proofs.ContractLemmas.{both_ok}
 use Rattle.move_lifting.proofs.ExpandLemmas.{length-numbers}

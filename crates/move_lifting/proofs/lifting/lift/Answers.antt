@@ -1,14 +1,4 @@
-use Rattle.std.proofs.Common.{◌≡◌, ℕ, ◌+◌, ◌*◌, ◌≤◌, length, sym, ap, subst, arith}
-use Rattle.std.specs.Prelude.{IfSome, MatchOption}
-use Rattle.std.proofs.Math.Nat.{mul-le-mul_right}
-use Rattle.std.proofs.lemmas.List.{length-map}
-use Rattle.surf_model.specs.FaceLists.{FaceList}
-use Rattle.surf_model.specs.Moves.{Homotopic, PeakedMoves}
-use Rattle.surf_model.specs.Rewriting.{raised}
-use Rattle.surf_model.specs.Walks.{darts, AreWalkPair}
-use Rattle.halfedge_map.specs.DartMaps.{darts_of}
-use Rattle.common_ends.proofs.PeakLemmas.{places_within}
-use Rattle.common_ends.proofs.TrimLemmas.{HaveFewerDarts, fewer_darts, left_together, left_apart, left_leads}
+use Rattle.move_lifting.proofs.Common.{places_within, HaveFewerDarts, fewer_darts, left_together, left_apart, left_leads, darts_of, ◌≡◌, ℕ, ◌+◌, ◌*◌, ◌≤◌, length, sym, ap, subst, arith, mul-le-mul_right, length-map, IfSome, MatchOption, FaceList, Homotopic, PeakedMoves, raised, darts, AreWalkPair}
 use Rattle.move_lifting.specs.Lifts.{HasLowPeak, IsShortList, LeadsAtPeak}
 use Rattle.move_lifting.specs.declared.expanding.TheConstants.{MOST_LIFTED_DARTS}
 use Rattle.move_lifting.proofs.BoundLemmas.{three_darts, low_around, low_most}

@@ -1,13 +1,4 @@
-use Rattle.std.proofs.Common.{◌≡◌, ℕ, ◌+◌, ◌*◌, ◌<◌, ◌≤◌, true, List, [], length, drop, refl, sym, ap, ◌∙◌, subst, arith}
-use Rattle.std.proofs.lemmas.Bool.{both_ways}
-use Rattle.std.proofs.lemmas.List.{length-drop}
-use Rattle.surf_model.specs.Moves.{PeakedMoves}
-use Rattle.surf_model.specs.Vertices.{numbers}
-use Rattle.surf_model.specs.Walks.{IsWalk, darts}
-use Rattle.surf_model.specs.declared.names.VertexName.{VertexName}
-use Rattle.halfedge_map.specs.DartMaps.{darts_of}
-use Rattle.polygon_cut.specs.SpokeLoops.{spokes_along}
-use Rattle.spoke_paths.specs.PathSteps.{PathLeads}
+use Rattle.move_lifting.proofs.Common.{darts_of, spokes_along, PathLeads, ◌≡◌, ℕ, ◌+◌, ◌*◌, ◌<◌, ◌≤◌, true, List, [], length, drop, refl, sym, ap, ◌∙◌, subst, arith, both_ways, length-drop, PeakedMoves, numbers, IsWalk, darts, VertexName}
 use Rattle.move_lifting.specs.Contractions.{IsLedFrom}
 use Rattle.move_lifting.specs.Lifts.{LeadsAtPeak, HasLowPeak}
 use Rattle.move_lifting.specs.Loads.{StaysWithin}

@@ -1,7 +1,4 @@
-use Rattle.std.proofs.Common.{◌≡◌, ◌++◌, ◌-◌, Bool, List, ℕ, length, take, drop, refl, ap, sym, ◌∙◌, subst}
-use Rattle.std.proofs.lemmas.Result.{on_ok_weaker}
-use Rattle.surf_model.specs.FreeWalks.{AreFreelyEqual}
-use Rattle.surf_model.specs.Vertices.{numbers}
+use Rattle.move_lifting.proofs.Common.{◌≡◌, ◌++◌, ◌-◌, Bool, List, ℕ, length, take, drop, refl, ap, sym, ◌∙◌, subst, on_ok_weaker, AreFreelyEqual, numbers}
 use Rattle.move_lifting.specs.SpokeWalks.{along_or_back}
 use Rattle.move_lifting.proofs.LayLemmas.{behind_first}
 use Rattle.move_lifting.proofs.looping.put_spoke.Goals as goal

@@ -1,7 +1,4 @@
-use Rattle.std.proofs.Common.{ℕ, ◌++◌, true, List, length, get_or, ap, subst, arith}
-use Rattle.std.proofs.lemmas.List.{take_all}
-use Rattle.surf_model.specs.FreeWalks.{AreFreelyEqual}
-use Rattle.surf_model.specs.Vertices.{numbers}
+use Rattle.move_lifting.proofs.Common.{ℕ, ◌++◌, true, List, length, get_or, ap, subst, arith, take_all, AreFreelyEqual, numbers}
 use Rattle.move_lifting.specs.SpokeWalks.{walks_loop}
 use Rattle.move_lifting.proofs.ApproachLemmas.{walk_within}
 use Rattle.move_lifting.proofs.ExpandLemmas.{length-numbers}

@@ -1,7 +1,4 @@
-use Rattle.std.proofs.Common.{◌≡◌, ◌<◌, ◌++◌, true, length, take}
-use Rattle.surf_model.specs.FaceLists.{FaceList}
-use Rattle.surf_model.specs.FreeWalks.{AreFreelyEqual, HasNoSpur}
-use Rattle.surf_model.specs.Vertices.{numbers}
+use Rattle.move_lifting.proofs.Common.{◌≡◌, ◌<◌, ◌++◌, true, length, take, FaceList, AreFreelyEqual, HasNoSpur, numbers}
 use Rattle.move_lifting.specs.SpokeWalks.{walks_loop}
 use Rattle.move_lifting.proofs.FrontLemmas.{turned_by}
 use Rattle.move_lifting.proofs.looping.put_spokes.Given as goal

@@ -1,8 +1,4 @@
-use Rattle.std.proofs.Common.{◌++◌, List, ap, sym, ◌∙◌, subst}
-use Rattle.std.proofs.lemmas.Result.{IfOk-weaker}
-use Rattle.surf_model.specs.Vertices.{numbers}
-use Rattle.surf_model.specs.Walks.{IsWalk}
-use Rattle.surf_model.specs.declared.names.VertexName.{VertexName}
+use Rattle.move_lifting.proofs.Common.{◌++◌, List, ap, sym, ◌∙◌, subst, IfOk-weaker, numbers, IsWalk, VertexName}
 use Rattle.move_lifting.specs.Lifts.{LeadsAtPeak}
 use Rattle.move_lifting.specs.Loads.{StaysWithin}
 use Rattle.move_lifting.specs.Tracks.{last_of}

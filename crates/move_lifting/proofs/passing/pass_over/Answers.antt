@@ -1,9 +1,4 @@
-use Rattle.std.proofs.Common.{◌≡◌, ℕ, List, length, ap, sym, ◌∙◌, subst, arith}
-use Rattle.surf_model.specs.Vertices.{numbers}
-use Rattle.surf_model.specs.Walks.{IsWalk}
-use Rattle.surf_model.specs.declared.names.VertexName.{VertexName}
-use Rattle.halfedge_map.specs.OrientedMeshes.{OrientedMesh}
-use Rattle.tree_cotree.specs.Splits.{SplitView}
+use Rattle.move_lifting.proofs.Common.{OrientedMesh, ◌≡◌, ℕ, List, length, ap, sym, ◌∙◌, subst, arith, numbers, IsWalk, VertexName, SplitView}
 use Rattle.move_lifting.specs.Loads.{StaysWithin}
 use Rattle.move_lifting.specs.Passes.{IsPassedFrom}
 use Rattle.move_lifting.specs.Tracks.{TrackView, GoesOn, last_of}

@@ -1,5 +1,4 @@
-use Rattle.std.proofs.Common.{◌*◌, ◌≤◌, length}
-use Rattle.surf_model.specs.Vertices.{numbers}
+use Rattle.move_lifting.proofs.Common.{◌*◌, ◌≤◌, length, numbers}
 use Rattle.move_lifting.specs.Passes.{IsPassedFrom}
 use Rattle.move_lifting.specs.declared.expanding.TheConstants.{MOST_PASSED_ENTRIES}
 use Rattle.move_lifting.proofs.passing.pass_over.Given as goal

@@ -1,5 +1,4 @@
-use Rattle.std.proofs.Common.{◌≡◌, ◌+◌, length}
-use Rattle.surf_model.specs.Vertices.{numbers}
+use Rattle.move_lifting.proofs.Common.{◌≡◌, ◌+◌, length, numbers}
 use Rattle.move_lifting.proofs.PassLemmas.{ArePutSoFar}
 use Rattle.move_lifting.proofs.passing.put_pending.Given as goal
 

@@ -1,5 +1,4 @@
-use Rattle.std.proofs.Common.{take}
-use Rattle.surf_model.specs.Vertices.{numbers}
+use Rattle.move_lifting.proofs.Common.{take, numbers}
 use Rattle.move_lifting.specs.PooledWalks.{IsPushed}
 use Rattle.move_lifting.proofs.pooled_walk.push_all.Given as goal
 

@@ -1,4 +1,4 @@
-use Rattle.std.proofs.Common.{take, drop}
+use Rattle.move_lifting.proofs.Common.{take, drop}
 use Rattle.move_lifting.specs.PooledWalks.{IsPushed}
 use Rattle.move_lifting.proofs.pooled_walk.push_turn.Given as goal
 

@@ -1,12 +1,4 @@
-use Rattle.std.proofs.Common.{◌≡◌, ◌≢◌, ℕ, ◌-◌, Bool, true, false, not, eqb, List, ◌++◌, refl, ap, sym, ◌∙◌, subst}
-use Rattle.std.specs.Prelude.{IfSome, Option}
-use Rattle.std.proofs.lemmas.List.{append-nil}
-use Rattle.std.proofs.lemmas.Bool.{eq-eqb, eqb-true, both_ways}
-use Rattle.surf_model.specs.declared.names.DartName.{DartName}
-use Rattle.halfedge_map.specs.DartMaps.{next_of}
-use Rattle.halfedge_map.specs.RotationSystems.{rotations_of, IsDartFrom}
-use Rattle.polygon_cut.specs.Polygons.{label_of, side_at}
-use Rattle.polygon_cut.specs.SpokeLoops.{last_side}
+use Rattle.move_lifting.proofs.Common.{next_of, rotations_of, IsDartFrom, label_of, side_at, last_side, ◌≡◌, ◌≢◌, ℕ, ◌-◌, Bool, true, false, not, eqb, List, ◌++◌, refl, ap, sym, ◌∙◌, subst, eq-eqb, eqb-true, both_ways, append-nil, IfSome, Option, DartName}
 use Rattle.move_lifting.proofs.ReductionLemmas.{none_of_dart}
 use Rattle.move_lifting.proofs.reducing.push_spokes.Goals as goal
 

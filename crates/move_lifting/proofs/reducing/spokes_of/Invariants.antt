@@ -1,4 +1,4 @@
-use Rattle.surf_model.specs.Vertices.{numbers}
+use Rattle.move_lifting.proofs.Common.{numbers}
 use Rattle.move_lifting.proofs.ReductionLemmas.{AreSpokesSoFar}
 use Rattle.move_lifting.proofs.reducing.spokes_of.Given as goal
 

@@ -1,7 +1,4 @@
-use Rattle.std.proofs.Common.{◌≡◌, ℕ, suc, ◌+◌, List, [], ◌∷◌, length, take, ap, ◌∙◌, arith}
-use Rattle.std.proofs.lemmas.List.{length-take-le}
-use Rattle.spoke_paths.specs.declared.step.PathStep.{PathStep}
-use Rattle.spoke_paths.specs.declared.step.PathStep.TheVariants.{Spur}
+use Rattle.move_lifting.proofs.Common.{PathStep, Spur, ◌≡◌, ℕ, suc, ◌+◌, List, [], ◌∷◌, length, take, ap, ◌∙◌, arith, length-take-le}
 use Rattle.move_lifting.specs.Reductions.{spurs_of}
 use Rattle.move_lifting.proofs.ReductionLemmas.{few_spurs, spurs_next}
 use Rattle.move_lifting.proofs.reducing.spurs_in.Goals as goal

@@ -1,4 +1,4 @@
-use Rattle.std.proofs.Common.{◌≡◌, take}
+use Rattle.move_lifting.proofs.Common.{◌≡◌, take}
 use Rattle.move_lifting.specs.Reductions.{spurs_of}
 use Rattle.move_lifting.proofs.reducing.spurs_in.Given as goal
 

@@ -1,4 +1,4 @@
-use Rattle.std.proofs.Common.{◌≡◌, take}
+use Rattle.move_lifting.proofs.Common.{◌≡◌, take}
 use Rattle.move_lifting.proofs.reducing.wheel_of.Given as goal
 
 abbrev pub invariant-loop-spoke : goal.invariant-loop-spoke

@@ -1,9 +1,4 @@
-use Rattle.std.proofs.Common.{ℕ, ◌++◌, ◌∷◌, List, ap, subst, ◌∙◌, arith}
-use Rattle.std.proofs.lemmas.Result.{on_ok_weaker}
-use Rattle.surf_model.specs.Vertices.{numbers}
-use Rattle.halfedge_map.specs.DartMaps.{origin_of, twin_of}
-use Rattle.polygon_cut.specs.SpokeLoops.{backward}
-use Rattle.surf_model.specs.FreeWalks.{AreFreelyEqual}
+use Rattle.move_lifting.proofs.Common.{origin_of, twin_of, backward, ℕ, ◌++◌, ◌∷◌, List, ap, subst, ◌∙◌, arith, on_ok_weaker, AreFreelyEqual, numbers}
 use Rattle.move_lifting.proofs.ExpandLemmas.{length-numbers}
 use Rattle.move_lifting.proofs.LayLemmas.{laid_round}
 use Rattle.move_lifting.proofs.TreeUpLemmas.{origin_used}

@@ -1,9 +1,4 @@
-use Rattle.std.proofs.Common.{◌≡◌, ℕ, ◌<◌, ◌-◌, ◌++◌, List, length, take, drop, get_or, refl, ap, sym, ◌∙◌, subst, arith}
-use Rattle.std.proofs.lemmas.Result.{on_ok_weaker}
-use Rattle.surf_model.specs.FreeWalks.{AreFreelyEqual}
-use Rattle.surf_model.specs.Vertices.{numbers}
-use Rattle.surf_model.specs.declared.names.VertexName.{VertexName}
-use Rattle.polygon_cut.specs.SpokeLoops.{backward}
+use Rattle.move_lifting.proofs.Common.{backward, ◌≡◌, ℕ, ◌<◌, ◌-◌, ◌++◌, List, length, take, drop, get_or, refl, ap, sym, ◌∙◌, subst, arith, on_ok_weaker, AreFreelyEqual, numbers, VertexName}
 use Rattle.move_lifting.proofs.ExpandLemmas.{length-numbers}
 use Rattle.move_lifting.proofs.LayLemmas.{laid_two, behind_first}
 use Rattle.move_lifting.proofs.TreeUpLemmas.{way_some}

@@ -1,8 +1,4 @@
-use Rattle.std.proofs.Common.{◌≡◌, ℕ, ◌++◌, ◌∷◌, List, length, ap, sym, ◌∙◌, subst, arith, true}
-use Rattle.surf_model.specs.FaceLists.{FaceList, is_used}
-use Rattle.surf_model.specs.Vertices.{numbers}
-use Rattle.surf_model.specs.declared.names.VertexName.{VertexName}
-use Rattle.halfedge_map.specs.DartMaps.{origin_of, twin_of}
+use Rattle.move_lifting.proofs.Common.{origin_of, twin_of, ◌≡◌, ℕ, ◌++◌, ◌∷◌, List, length, ap, sym, ◌∙◌, subst, arith, true, FaceList, is_used, numbers, VertexName}
 use Rattle.move_lifting.proofs.BackLemmas.{one_longer}
 use Rattle.move_lifting.proofs.ExpandLemmas.{one_pending, length-numbers}
 use Rattle.move_lifting.proofs.TreeUpLemmas.{used_below, used_parent, ends_up, one_up_more, way_ends}

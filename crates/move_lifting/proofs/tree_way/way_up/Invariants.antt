@@ -1,7 +1,4 @@
-use Rattle.std.proofs.Common.{◌≡◌, ℕ, List, true, ◌++◌, ◌∷◌, length}
-use Rattle.surf_model.specs.FaceLists.{is_used}
-use Rattle.surf_model.specs.Vertices.{numbers}
-use Rattle.polygon_cut.specs.SpokeLoops.{AreWaysUp}
+use Rattle.move_lifting.proofs.Common.{AreWaysUp, ◌≡◌, ℕ, List, true, ◌++◌, ◌∷◌, length, is_used, numbers}
 use Rattle.move_lifting.proofs.tree_way.way_up.Given as goal
 
 abbrev pub invariant-loop-step : goal.invariant-loop-step

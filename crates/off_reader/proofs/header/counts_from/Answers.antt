@@ -1,4 +1,4 @@
-use Rattle.std.proofs.Common.{inl, inr}
+use Rattle.off_reader.proofs.Common.{inl, inr}
 use Rattle.off_reader.proofs.HeaderLemmas.{no_cap, bad_first, bad_second, good_counts, many_counts}
 use Rattle.off_reader.proofs.header.counts_from.Goals as goal
 

@@ -1,4 +1,4 @@
-use Rattle.std.proofs.Common.{arith, sym}
+use Rattle.off_reader.proofs.Common.{arith, sym}
 use Rattle.off_reader.proofs.KeywordLemmas.{single_piece, pair_none, pair_some}
 use Rattle.off_reader.proofs.keyword.after_piece.Goals as goal
 

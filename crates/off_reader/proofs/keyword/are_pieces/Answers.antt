@@ -1,4 +1,4 @@
-use Rattle.std.proofs.Common.{sym}
+use Rattle.off_reader.proofs.Common.{sym}
 use Rattle.off_reader.proofs.KeywordLemmas.{no_pieces_left}
 use Rattle.off_reader.proofs.keyword.are_pieces.Goals as goal
 

@@ -1,4 +1,4 @@
-use Rattle.std.proofs.Common.{◌≡◌, length}
+use Rattle.off_reader.proofs.Common.{◌≡◌, length}
 use Rattle.off_reader.specs.OffTexts.{are_pieces}
 use Rattle.off_reader.proofs.keyword.are_pieces.Given as goal
 

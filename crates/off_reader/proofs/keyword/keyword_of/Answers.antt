@@ -1,4 +1,4 @@
-use Rattle.std.proofs.Common.{sym}
+use Rattle.off_reader.proofs.Common.{sym}
 use Rattle.off_reader.proofs.KeywordLemmas.{without_o, no_title, no_pieces, a_keyword}
 use Rattle.off_reader.proofs.keyword.keyword_of.Goals as goal
 

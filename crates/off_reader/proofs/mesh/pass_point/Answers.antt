@@ -1,6 +1,4 @@
-use Rattle.std.proofs.Common.{sym, ap, ◌∙◌}
-use Rattle.text_scan.specs.Numbers.{is_number_text}
-use Rattle.text_scan.specs.Unread.{Unread}
+use Rattle.off_reader.proofs.Common.{sym, ap, ◌∙◌, is_number_text, Unread}
 use Rattle.off_reader.proofs.RingLemmas.{one_read, next_text, bad_point}
 use Rattle.off_reader.proofs.mesh.pass_point.Goals as goal
 

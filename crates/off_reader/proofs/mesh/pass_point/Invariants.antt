@@ -1,4 +1,4 @@
-use Rattle.text_scan.specs.Numbers.{is_number_text}
+use Rattle.off_reader.proofs.Common.{is_number_text}
 use Rattle.off_reader.proofs.RingLemmas.{IsReadTo}
 use Rattle.off_reader.proofs.mesh.pass_point.Given as goal
 

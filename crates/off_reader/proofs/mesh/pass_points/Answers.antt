@@ -1,5 +1,4 @@
-use Rattle.std.proofs.Common.{arith}
-use Rattle.std.proofs.lemmas.Result.{err_from_is_err_and}
+use Rattle.off_reader.proofs.Common.{arith, err_from_is_err_and}
 use Rattle.off_reader.proofs.MeshLemmas.{one_point, bad_point_line, no_point_line, all_points}
 use Rattle.off_reader.proofs.mesh.pass_points.Goals as goal
 

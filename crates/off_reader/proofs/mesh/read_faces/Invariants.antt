@@ -1,4 +1,4 @@
-use Rattle.std.proofs.Common.{◌≡◌, []}
+use Rattle.off_reader.proofs.Common.{◌≡◌, []}
 use Rattle.off_reader.proofs.MeshLemmas.{IsFacesTo}
 use Rattle.off_reader.proofs.mesh.read_faces.Given as goal
 

@@ -1,5 +1,4 @@
-use Rattle.std.proofs.Common.{sym, inl, ◌∙◌}
-use Rattle.std.proofs.lemmas.Result.{err_from_is_err_and}
+use Rattle.off_reader.proofs.Common.{sym, inl, ◌∙◌, err_from_is_err_and}
 use Rattle.off_reader.proofs.MeshLemmas.{header_fault, points_fault, by_faces}
 use Rattle.off_reader.proofs.mesh.read_off.Goals as goal
 

@@ -1,5 +1,4 @@
-use Rattle.std.proofs.Common.{refl}
-use Rattle.text_scan.specs.Numbers.{is_natural}
+use Rattle.off_reader.proofs.Common.{refl, is_natural}
 use Rattle.off_reader.proofs.RingLemmas.{one_read, not_read, next_is_none, next_is_natural}
 use Rattle.off_reader.proofs.ring.fault_of_many.Goals as goal
 

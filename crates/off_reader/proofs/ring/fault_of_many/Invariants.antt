@@ -1,4 +1,4 @@
-use Rattle.text_scan.specs.Numbers.{is_natural}
+use Rattle.off_reader.proofs.Common.{is_natural}
 use Rattle.off_reader.proofs.RingLemmas.{IsReadTo}
 use Rattle.off_reader.proofs.ring.fault_of_many.Given as goal
 

@@ -1,5 +1,4 @@
-use Rattle.std.proofs.Common.{arith, refl, ◌∙◌, ◌-◌}
-use Rattle.std.proofs.lemmas.Bool.{le-ltb}
+use Rattle.off_reader.proofs.Common.{arith, refl, ◌∙◌, ◌-◌, le-ltb}
 use Rattle.off_reader.proofs.RingLemmas.{equal_before, differ_before, by_last, at_end}
 use Rattle.off_reader.proofs.ring.has_equal_neighbours.Goals as goal
 

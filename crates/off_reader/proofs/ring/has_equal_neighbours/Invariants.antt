@@ -1,5 +1,4 @@
-use Rattle.std.proofs.Common.{◌-◌}
-use Rattle.surf_model.specs.Vertices.{numbers}
+use Rattle.off_reader.proofs.Common.{◌-◌, numbers}
 use Rattle.off_reader.proofs.RingLemmas.{DifferTo}
 use Rattle.off_reader.proofs.ring.has_equal_neighbours.Given as goal
 

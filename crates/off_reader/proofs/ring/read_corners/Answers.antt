@@ -1,5 +1,4 @@
-use Rattle.std.proofs.Common.{sym, ap, subst, ◌∙◌, ◌+◌, arith}
-use Rattle.surf_model.specs.FaceLists.{PendingFace}
+use Rattle.off_reader.proofs.Common.{sym, ap, subst, ◌∙◌, ◌+◌, arith, PendingFace}
 use Rattle.off_reader.proofs.RingLemmas.{IsCornersTo, corner_in, corner_out, missing_corner}
 use Rattle.off_reader.proofs.ring.read_corners.Goals as goal
 

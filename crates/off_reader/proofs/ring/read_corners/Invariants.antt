@@ -1,4 +1,4 @@
-use Rattle.std.proofs.Common.{◌≡◌}
+use Rattle.off_reader.proofs.Common.{◌≡◌}
 use Rattle.off_reader.proofs.RingLemmas.{IsCornersTo}
 use Rattle.off_reader.proofs.ring.read_corners.Given as goal
 

@@ -1,6 +1,5 @@
-use Rattle.std.proofs.Common.{sym, ap, ◌∙◌, inr, arith, subst, Ok}
-use Rattle.surf_model.specs.FaceLists.{total_sides}
-use Rattle.std.proofs.lemmas.Result.{err_from_is_err_and}
+use Rattle.off_reader.proofs.Common.{sym, ap, ◌∙◌, inr, arith, subst, err_from_is_err_and, total_sides}
+use Rattle.std.proofs.Common.{Ok}
 use Rattle.off_reader.specs.OffTexts.{has_equal_neighbours}
 use Rattle.off_reader.specs.OffSteps.{ReadsCorners}
 use Rattle.off_reader.proofs.RingLemmas.{no_sides, few_sides, faulty, many_sides, missing_ring, out_of_range, equal_neighbours, good_ring}

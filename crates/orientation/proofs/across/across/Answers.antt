@@ -1,5 +1,4 @@
-use Rattle.std.proofs.Common.{sym, ◌∙◌}
-use Rattle.std.proofs.lemmas.Bool.{eqb-true, both_ways, eq-eqb}
+use Rattle.orientation.proofs.Common.{sym, ◌∙◌, eqb-true, both_ways, eq-eqb}
 use Rattle.orientation.proofs.AcrossLemmas.{alone, has_other, other_below, other_across}
 use Rattle.orientation.proofs.across.across.Goals as goal
 

@@ -1,5 +1,4 @@
-use Rattle.std.proofs.Common.{sym, subst}
-use Rattle.surf_model.specs.Edges.{edge_in}
+use Rattle.orientation.proofs.Common.{sym, subst, edge_in}
 use Rattle.orientation.specs.Trees.{IsAlong}
 use Rattle.orientation.proofs.AcrossLemmas.{along_edge, has_numbered}
 use Rattle.orientation.proofs.across.link.Goals as goal

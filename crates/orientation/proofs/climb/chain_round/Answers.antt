@@ -1,6 +1,4 @@
-use Rattle.std.proofs.Common.{◌<◌, ◌≤◌, ◌∷◌, [], sym, ◌∙◌, ap, subst, arith}
-use Rattle.surf_model.specs.declared.names.FaceName.{FaceName}
-use Rattle.surf_model.specs.OddChains.{IsOddChain}
+use Rattle.orientation.proofs.Common.{◌<◌, ◌≤◌, ◌∷◌, [], sym, ◌∙◌, ap, subst, arith, IsOddChain, FaceName}
 use Rattle.orientation.specs.Trees.{IsFoundFrom}
 use Rattle.orientation.proofs.SearchLemmas.{seen_below}
 use Rattle.orientation.proofs.TreeLemmas.{few_faces}

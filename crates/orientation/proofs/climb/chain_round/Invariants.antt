@@ -1,4 +1,4 @@
-use Rattle.std.proofs.Common.{◌+◌}
+use Rattle.orientation.proofs.Common.{◌+◌}
 use Rattle.orientation.specs.Trees.{place_of}
 use Rattle.orientation.proofs.ClimbLemmas.{IsClimb}
 use Rattle.orientation.proofs.climb.chain_round.Given as goal

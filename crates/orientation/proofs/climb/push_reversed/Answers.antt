@@ -1,6 +1,4 @@
-use Rattle.std.proofs.Common.{length, List, ap, arith}
-use Rattle.std.proofs.lemmas.List.{length_push}
-use Rattle.surf_model.specs.declared.chains.ChainLink.{ChainLink}
+use Rattle.orientation.proofs.Common.{length, List, ap, arith, length_push, ChainLink}
 use Rattle.orientation.proofs.ClimbLemmas.{length-reversed}
 use Rattle.orientation.proofs.climb.push_reversed.Goals as goal
 

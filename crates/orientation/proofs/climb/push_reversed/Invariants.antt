@@ -1,4 +1,4 @@
-use Rattle.std.proofs.Common.{◌≡◌, ◌++◌, length, reverse}
+use Rattle.orientation.proofs.Common.{◌≡◌, ◌++◌, length, reverse}
 use Rattle.orientation.proofs.climb.push_reversed.Given as goal
 
 abbrev pub invariant-loop-last : goal.invariant-loop-last

@@ -1,9 +1,4 @@
-use Rattle.std.proofs.Common.{◌≡◌, ◌≢◌, inl, inr, ◌+◌, ℕ, refl, ap, sym, ◌∙◌, arith}
-use Rattle.std.proofs.lemmas.Bool.{both_ways, cases_eq}
-use Rattle.surf_model.specs.Darts.{first_side, IsSide}
-use Rattle.surf_model.specs.Surfaces.{ArePartners}
-use Rattle.surf_model.specs.declared.edges.Side.{Side}
-use Rattle.surf_model.proofs.SideNumberLemmas.{first_side-more, first_side-all}
+use Rattle.orientation.proofs.Common.{◌≡◌, ◌≢◌, inl, inr, ◌+◌, ℕ, refl, ap, sym, ◌∙◌, arith, both_ways, cases_eq, first_side-more, first_side-all, first_side, IsSide, ArePartners, Side}
 use Rattle.orientation.specs.Trees.{runs_alike}
 use Rattle.orientation.proofs.AcrossLemmas.{IsOther, has_other, alone}
 use Rattle.orientation.proofs.ListedLemmas.{fit_fewer, fit_passed, other_partner, only_partner, partner_number, fit_all}

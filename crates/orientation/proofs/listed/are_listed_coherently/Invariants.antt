@@ -1,5 +1,4 @@
-use Rattle.std.proofs.Common.{◌+◌}
-use Rattle.surf_model.specs.Darts.{first_side}
+use Rattle.orientation.proofs.Common.{◌+◌, first_side}
 use Rattle.orientation.proofs.ListedLemmas.{FitUpTo}
 use Rattle.orientation.proofs.listed.are_listed_coherently.Given as goal
 

@@ -1,5 +1,4 @@
-use Rattle.std.proofs.Common.{false, ap, ◌∙◌, arith}
-use Rattle.std.specs.Prelude.{replicate}
+use Rattle.orientation.proofs.Common.{false, ap, ◌∙◌, arith, replicate}
 use Rattle.orientation.proofs.ChainLemmas.{odd_excludes}
 use Rattle.orientation.proofs.ListedLemmas.{kept_coherent}
 use Rattle.orientation.proofs.TreeLemmas.{few_faces}

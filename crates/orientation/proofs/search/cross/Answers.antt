@@ -1,6 +1,4 @@
-use Rattle.std.proofs.Common.{Bool, refl, ◌≡◌, ◌+◌, ◌∙◌, not, ap, arith, sym}
-use mathlib.Core.Bool.{beq}
-use Rattle.surf_model.specs.Surfaces.{is_flipped}
+use Rattle.orientation.proofs.Common.{Bool, refl, ◌≡◌, ◌+◌, ◌∙◌, not, ap, arith, sym, is_flipped, beq}
 use Rattle.orientation.specs.Trees.{runs_alike}
 use Rattle.orientation.specs.declared.trees.Place.{Place}
 use Rattle.orientation.proofs.TreeLemmas.{few_faces}

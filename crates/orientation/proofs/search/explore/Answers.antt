@@ -1,6 +1,4 @@
-use Rattle.std.proofs.Common.{◌+◌, List, arith, sym, subst}
-use Rattle.surf_model.specs.declared.edges.Side.{Side}
-use Rattle.surf_model.specs.declared.names.FaceName.{FaceName}
+use Rattle.orientation.proofs.Common.{◌+◌, List, arith, sym, subst, Side, FaceName}
 use Rattle.orientation.specs.Trees.{Growth}
 use Rattle.orientation.proofs.SearchLemmas.{IsExploring, exploring_past, exploring_across, exploring_last, seen_below}
 use Rattle.orientation.proofs.search.explore.Goals as goal

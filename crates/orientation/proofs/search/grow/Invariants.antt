@@ -1,4 +1,4 @@
-use Rattle.std.proofs.Common.{◌+◌, length}
+use Rattle.orientation.proofs.Common.{◌+◌, length}
 use Rattle.orientation.specs.Trees.{count_unseen}
 use Rattle.orientation.proofs.SearchLemmas.{IsGrowing}
 use Rattle.orientation.proofs.search.grow.Given as goal

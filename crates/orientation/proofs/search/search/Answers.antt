@@ -1,5 +1,4 @@
-use Rattle.std.proofs.Common.{◌+◌, List, arith, sym, ◌∙◌, subst}
-use Rattle.surf_model.specs.declared.names.FaceName.{FaceName}
+use Rattle.orientation.proofs.Common.{◌+◌, List, arith, sym, ◌∙◌, subst, FaceName}
 use Rattle.orientation.specs.Trees.{Growth}
 use Rattle.orientation.proofs.SearchLemmas.{IsThrough, through_none, through_grown, through_seen, through_all}
 use Rattle.orientation.proofs.search.search.Goals as goal

@@ -1,6 +1,4 @@
-use Rattle.std.proofs.Common.{sym, subst}
-use Rattle.tree_cotree.specs.Colourings.{IsColouring}
-use Rattle.tree_cotree.proofs.ColourLemmas.{split_tells}
+use Rattle.polygon_cut.proofs.Common.{sym, subst, split_tells, IsColouring}
 use Rattle.polygon_cut.proofs.cutting.cut.Goals as goal
 
 pub cut_by_colours-requires : goal.cut_by_colours-requires

@@ -1,9 +1,4 @@
-use Rattle.std.proofs.Common.{◌≡◌, ◌<◌, ◌^◌, ◌∙◌, List, [], length, sym, ap, arith}
-use Rattle.std.proofs.lemmas.List.{length-map}
-use Rattle.surf_model.specs.declared.names.DartName.{DartName}
-use Rattle.tree_cotree.specs.RingViews.{dart_numbers}
-use Rattle.tree_cotree.specs.ColouredTrees.{without_ways}
-use Rattle.tree_cotree.proofs.ColourLemmas.{colourings_have_trees}
+use Rattle.polygon_cut.proofs.Common.{◌≡◌, ◌<◌, ◌^◌, ◌∙◌, List, [], length, sym, ap, arith, length-map, DartName, colourings_have_trees, without_ways, dart_numbers}
 use Rattle.polygon_cut.proofs.CutLemmas.{IsRingWalk, ring_walk, turns_round, few_sides, placed_too, cut_by_colours_is, nothing_to_cut}
 use Rattle.polygon_cut.proofs.cutting.cut_by_colours.Goals as goal
 use Rattle.polygon_cut.proofs.cutting.cut_by_colours.Goals.{In_ok-sides}

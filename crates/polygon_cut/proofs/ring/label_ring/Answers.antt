@@ -1,12 +1,4 @@
-use Rattle.std.proofs.Common.{◌≡◌, ◌<◌, ◌∙◌, length, sym, ap, arith}
-use Rattle.std.proofs.Math.ListN.{set}
-use Rattle.std.proofs.lemmas.List.{length-map}
-use Rattle.surf_model.specs.declared.names.DartName.{DartName}
-use Rattle.halfedge_map.specs.DartMaps.{darts_of}
-use Rattle.halfedge_map.specs.RotationSystems.{rotations_of}
-use Rattle.tree_cotree.specs.Splits.{is_left, is_left_kind, kind_of}
-use Rattle.tree_cotree.specs.ColouredTrees.{without_ways}
-use Rattle.tree_cotree.proofs.ColourLemmas.{trees_of}
+use Rattle.polygon_cut.proofs.Common.{darts_of, rotations_of, ◌≡◌, ◌<◌, ◌∙◌, length, sym, ap, arith, set, length-map, DartName, trees_of, without_ways, is_left, is_left_kind, kind_of}
 use Rattle.polygon_cut.specs.Polygons.{outer_ring}
 use Rattle.polygon_cut.specs.StoredPolygons.{left_at, dart_after_kind}
 use Rattle.polygon_cut.proofs.CountLemmas.{count_at_most}

@@ -1,4 +1,4 @@
-use Rattle.tree_cotree.specs.ColouredTrees.{without_ways}
+use Rattle.polygon_cut.proofs.Common.{without_ways}
 use Rattle.polygon_cut.proofs.RingWalkLemmas.{IsWalking}
 use Rattle.polygon_cut.proofs.ring.label_ring.Given as goal
 

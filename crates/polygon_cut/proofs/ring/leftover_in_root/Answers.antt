@@ -1,12 +1,4 @@
-use Rattle.std.proofs.Common.{◌≡◌, ◌+◌, ◌∙◌, length, sym, ap, arith}
-use Rattle.surf_model.specs.FaceLists.{face_at}
-use Rattle.surf_model.specs.Darts.{first_side}
-use Rattle.halfedge_map.specs.DartMaps.{edge_of}
-use Rattle.halfedge_map.proofs.NumberLemmas.{number_below}
-use Rattle.halfedge_map.proofs.DartLemmas.{face_at_number}
-use Rattle.tree_cotree.specs.Splits.{is_left, is_left_kind, kind_of}
-use Rattle.tree_cotree.specs.ColouredTrees.{without_ways}
-use Rattle.tree_cotree.proofs.ColourLemmas.{colourings_have_trees}
+use Rattle.polygon_cut.proofs.Common.{face_at_number, number_below, edge_of, ◌≡◌, ◌+◌, ◌∙◌, length, sym, ap, arith, first_side, face_at, colourings_have_trees, without_ways, is_left, is_left_kind, kind_of}
 use Rattle.polygon_cut.proofs.RingWalkLemmas.{number_in_face, none_in_face}
 use Rattle.polygon_cut.proofs.ring.leftover_in_root.Goals as goal
 use Rattle.polygon_cut.proofs.ring.leftover_in_root.Goals.{After-sides-at-end}

@@ -1,9 +1,4 @@
-use Rattle.std.proofs.Common.{◌≡◌, ◌<◌, ◌∙◌, ℕ, length, refl, sym, ap, subst, arith, get_or, List}
-use Rattle.std.proofs.Math.ListN.{set}
-use Rattle.surf_model.specs.declared.names.DartName.{DartName}
-use Rattle.halfedge_map.specs.DartMaps.{twin_of, darts_of}
-use Rattle.halfedge_map.specs.RotationSystems.{rotations_of}
-use Rattle.tree_cotree.specs.RingViews.{dart_numbers}
+use Rattle.polygon_cut.proofs.Common.{twin_of, darts_of, rotations_of, ◌≡◌, ◌<◌, ◌∙◌, ℕ, length, refl, sym, ap, subst, arith, get_or, List, set, DartName, dart_numbers}
 use Rattle.tree_cotree.proofs.RingLemmas.{number_at}
 use Rattle.polygon_cut.specs.Polygons.{turned, one_up}
 use Rattle.polygon_cut.specs.StoredPolygons.{without_places}

@@ -1,5 +1,4 @@
-use Rattle.std.proofs.Common.{length}
-use Rattle.halfedge_map.specs.RotationSystems.{rotations_of}
+use Rattle.polygon_cut.proofs.Common.{rotations_of, length}
 use Rattle.polygon_cut.specs.Polygons.{turned}
 use Rattle.polygon_cut.specs.StoredPolygons.{without_places}
 use Rattle.polygon_cut.proofs.TurningLemmas.{IsTurning}

@@ -1,5 +1,5 @@
+use Rattle.program.proofs.Common.{runs_unread}
 use Rattle.trial_commands.specs.Trial.{trial}
-use Rattle.commands.proofs.Running.{runs_unread}
 use Rattle.program.proofs.command.answer.Goals as goal
 
 pub returns-in-Decide : goal.returns-in-Decide

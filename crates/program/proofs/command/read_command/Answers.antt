@@ -1,6 +1,4 @@
-use Rattle.std.proofs.Common.{◌≡◌, ◌∷◌, [], ℕ, List, ap, sym, subst, ◌∙◌}
-use Rattle.std.specs.Prelude.{IfSome, IfNone}
-use Rattle.commands.specs.Words.{texts}
+use Rattle.program.proofs.Common.{texts, ◌≡◌, ◌∷◌, [], ℕ, List, ap, sym, subst, ◌∙◌, IfSome, IfNone}
 use Rattle.program.specs.Commands.{Row, IsRow, row_of}
 use Rattle.program.specs.declared.command.Command.{Command}
 use Rattle.program.proofs.WordTexts.{three_texts, four_texts}

@@ -1,4 +1,4 @@
-use Rattle.certify_commands.proofs.CertifyOutcomes.{certified_so}
+use Rattle.program.proofs.Common.{certified_so}
 use Rattle.program.specs.Commands.{Certify}
 use Rattle.program.proofs.Rows.{row_answered}
 use Rattle.program.proofs.laws.certify_answers.Goals as goal

@@ -1,4 +1,4 @@
-use Rattle.pair_commands.proofs.DecideOutcomes.{decided_so}
+use Rattle.program.proofs.Common.{decided_so}
 use Rattle.program.specs.Commands.{Decide}
 use Rattle.program.proofs.Rows.{row_answered}
 use Rattle.program.proofs.laws.decide_answers.Goals as goal

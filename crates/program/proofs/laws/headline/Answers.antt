@@ -1,5 +1,4 @@
-use Rattle.certify_commands.proofs.CertifyOutcomes.{certified_so}
-use Rattle.pair_commands.proofs.DecideOutcomes.{decided_so}
+use Rattle.program.proofs.Common.{certified_so, decided_so}
 use Rattle.program.specs.Commands.{Decide, Certify}
 use Rattle.program.proofs.HeadlineLemmas.{headline}
 use Rattle.program.proofs.Rows.{row_answered}

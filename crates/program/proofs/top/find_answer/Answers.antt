@@ -1,9 +1,7 @@
 use Rattle.program.specs.Commands.{row_of}
 use Rattle.program.specs.Outcomes.{answer_of}
-use Rattle.commands.specs.Refusals.{wrong_words}
-use Rattle.commands.specs.Words.{texts}
+use Rattle.program.proofs.Common.{runs_refused, wrong_words, texts}
 use Rattle.program.proofs.Outcomes.{row_runs, wrong_stops}
-use Rattle.commands.proofs.Running.{runs_refused}
 use Rattle.program.proofs.top.find_answer.Goals as goal
 
 pub returns-in_default : goal.returns-in_default

@@ -1,12 +1,5 @@
-use Rattle.std.proofs.Common.{◌≡◌, ◌⊎◌, inl, inr, sym, subst}
-use Rattle.commands.specs.Words.{texts}
+use Rattle.program.proofs.Common.{reply_status, reply_text, IsAnswered, Stops, texts, Reply, Status, OutOfMemory, ◌≡◌, ◌⊎◌, inl, inr, sym, subst}
 use Rattle.program.specs.Outcomes.{Answers, answer_of}
-use Rattle.commands.specs.Replies.{reply_status, reply_text}
-use Rattle.commands.specs.Statuses.{IsAnswered}
-use Rattle.commands.specs.Stops.{Stops}
-use Rattle.commands.specs.declared.reply.Reply.{Reply}
-use Rattle.commands.specs.declared.status.Status.{Status}
-use Rattle.commands.specs.declared.status.Status.TheVariants.{OutOfMemory}
 use Rattle.program.proofs.Outcomes.{reply_answers, refusal_answers, answered_status, is_answered}
 use Rattle.program.proofs.top.run.Given as given
 use Rattle.program.proofs.top.run.Goals as goal

@@ -1,9 +1,4 @@
-use Rattle.std.proofs.Common.{◌≡◌, refl, ◌+◌, ◌++◌, ◌<◌, length, take, drop, ap, ◌∙◌, arith, List, ℕ}
-use Rattle.std.specs.List.{between}
-use Rattle.std.proofs.lemmas.List.{with_items_is}
-use Rattle.surf_model.specs.FaceLists.{FaceList, face_at}
-use Rattle.surf_model.specs.Darts.{first_side}
-use Rattle.surf_model.specs.Surfaces.{is_flipped}
+use Rattle.quad_system.proofs.Common.{◌≡◌, refl, ◌+◌, ◌++◌, ◌<◌, length, take, drop, ap, ◌∙◌, arith, List, ℕ, with_items_is, between, first_side, FaceList, face_at, is_flipped}
 use Rattle.quad_system.specs.PolygonLabellings.{at_corners, numbers_alone}
 use Rattle.quad_system.proofs.PolygonMakingLemmas.{made_none, made_more, made_all, made_stored, face_within}
 use Rattle.quad_system.proofs.from_polygon.laid_out.Goals as goal

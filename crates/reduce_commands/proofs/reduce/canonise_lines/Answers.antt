@@ -1,7 +1,5 @@
-use Rattle.std.proofs.Common.{rules, ◌≡◌, ◌∷◌, [], ◌++◌, ◌∙◌, Ok}
+use Rattle.reduce_commands.proofs.Common.{rules, ◌≡◌, ◌∷◌, [], ◌++◌, ◌∙◌, Ok, before_ok-more, NumberLine}
 use Rattle.text_scan.specs.Each.{ok_first}
-use Rattle.text_scan.proofs.EachLemmas.{before_ok-more}
-use Rattle.walk_files.specs.NumberLists.{NumberLine}
 use Rattle.reduce_commands.proofs.reduce.canonise_lines.Goals as goal
 
 pub loop-so_far-preserved : goal.loop-so_far-preserved

@@ -1,7 +1,4 @@
-use Rattle.std.proofs.Common.{◌≡◌, List}
-use Rattle.text_scan.proofs.EachLemmas.{before_ok}
-use Rattle.walk_files.specs.NumberLists.{NumberLine}
-use Rattle.walk_files.specs.NumberTexts.{words_of}
+use Rattle.reduce_commands.proofs.Common.{◌≡◌, List, before_ok, NumberLine, words_of}
 use Rattle.reduce_commands.specs.Canonised.{IsSoFar}
 use Rattle.reduce_commands.proofs.reduce.canonise_lines.Given as goal
 

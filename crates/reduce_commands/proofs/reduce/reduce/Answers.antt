@@ -1,16 +1,9 @@
-use Rattle.std.proofs.Common.{refl, arith}
-use Rattle.std.proofs.lemmas.Result.{err_from_is_err_and}
-use Rattle.commands.specs.Answers.{yes_with}
-use Rattle.reduce_commands.specs.Reduce as of_reduce
-use Rattle.commands.specs.WordTexts.{words_text}
-use Rattle.reduce_commands.specs.Reduce.{degree_line}
-use Rattle.walk_files.specs.NumberTexts.{words_of}
-use Rattle.commands.specs.Checks.{file, meant}
-use Rattle.commands.specs.Refusals.{numbers_line}
+use Rattle.reduce_commands.proofs.Common.{stops_first, runs_faulty, runs_refused, runs_replied, runs_stopped, yes_with, file, meant, numbers_line, words_text, refl, arith, words_of}
 use Rattle.commands.specs.declared.refusal.Input.TheVariants.{TurnWords}
-use Rattle.commands.proofs.Checking.{stops_first}
+use Rattle.std.proofs.lemmas.Result.{err_from_is_err_and}
+use Rattle.reduce_commands.specs.Reduce as of_reduce
+use Rattle.reduce_commands.specs.Reduce.{degree_line}
 use Rattle.reduce_commands.proofs.Reducing.{degree_stops, lines_stop, looks_at_file, words_no_fault, words_pass, words_stop}
-use Rattle.commands.proofs.Running.{runs_faulty, runs_refused, runs_replied, runs_stopped}
 use Rattle.reduce_commands.proofs.reduce.reduce.Goals as goal
 
 pub returns-then-degree-lt-LEAST_DEGREE : goal.returns-then-degree-lt-LEAST_DEGREE

@@ -1,8 +1,4 @@
-use Rattle.std.proofs.Common.{◌≡◌, ◌-◌, ◌<◌, ◌++◌, Some, true, arith, length, take, drop, get_or, suc, sym, ◌∙◌, ap, subst}
-use Rattle.std.specs.Prelude.{if◌then◌else◌}
-use Rattle.std.specs.List.{remove}
-use Rattle.std.proofs.lemmas.List.Edits.{length-remove}
-use Rattle.turn_words.specs.Modulo.{minus}
+use Rattle.spoke_paths.proofs.Common.{◌≡◌, ◌-◌, ◌<◌, ◌++◌, Some, true, arith, length, take, drop, get_or, suc, sym, ◌∙◌, ap, subst, length-remove, remove, if◌then◌else◌, minus}
 use Rattle.spoke_paths.specs.PathSteps.{PathLeads, after_path_step}
 use Rattle.spoke_paths.specs.PathTurns.{IsTurnedOver}
 use Rattle.spoke_paths.specs.declared.step.PathStep.TheVariants.{Spur}

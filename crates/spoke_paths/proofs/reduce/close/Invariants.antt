@@ -1,6 +1,4 @@
-use Rattle.std.proofs.Common.{◌<◌, All, length}
-use Rattle.std.specs.Prelude.{if◌then◌else◌}
-use Rattle.turn_words.specs.Modulo.{minus}
+use Rattle.spoke_paths.proofs.Common.{◌<◌, All, length, if◌then◌else◌, minus}
 use Rattle.spoke_paths.specs.PathTurns.{LeadsOn}
 use Rattle.spoke_paths.proofs.Closing.{Closing}
 use Rattle.spoke_paths.proofs.reduce.close.Given as goal

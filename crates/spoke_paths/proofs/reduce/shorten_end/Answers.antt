@@ -1,6 +1,4 @@
-use Rattle.std.proofs.Common.{◌≡◌, ℕ, ◌-◌, ◌<◌, ◌≤◌, List, ◌++◌, true, false, arith, length, get_or, suc, sym, ◌∙◌, ap, ap₂, subst}
-use Rattle.std.specs.List.{remove}
-use Rattle.turn_words.specs.Modulo.{minus}
+use Rattle.spoke_paths.proofs.Common.{◌≡◌, ℕ, ◌-◌, ◌<◌, ◌≤◌, List, ◌++◌, true, false, arith, length, get_or, suc, sym, ◌∙◌, ap, ap₂, subst, remove, minus}
 use Rattle.spoke_paths.specs.PathTurns.{turn_of, Opens}
 use Rattle.spoke_paths.specs.declared.step.PathStep.TheVariants.{Spur}
 use Rattle.spoke_paths.proofs.Leading.{leads-more, spur-at}

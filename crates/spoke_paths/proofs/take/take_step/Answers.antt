@@ -1,5 +1,4 @@
-use Rattle.std.proofs.Common.{◌≡◌, ℕ, ◌<◌, List, [], ◌∷◌, length, ap, sym, ◌∙◌, subst, arith, Some}
-use Rattle.std.specs.List.{remove}
+use Rattle.spoke_paths.proofs.Common.{◌≡◌, ℕ, ◌<◌, List, [], ◌∷◌, length, ap, sym, ◌∙◌, subst, arith, Some, remove}
 use Rattle.spoke_paths.specs.PathSteps.{after_path_step}
 use Rattle.spoke_paths.specs.PathTurns.{from_vertex}
 use Rattle.spoke_paths.specs.declared.step.PathStep.{PathStep}

@@ -1,6 +1,4 @@
-use Rattle.std.proofs.Common.{arith}
-use Rattle.turn_words.specs.Modulo.{minus}
-use Rattle.turn_words.specs.Lemmas.Sums.{add-cases, minus-cases}
+use Rattle.spoke_paths.proofs.Common.{arith, add-cases, minus-cases, minus}
 use Rattle.spoke_paths.proofs.turn.difference.Goals as goal
 
 pub returns-then-a-b-clause-difference : goal.returns-then-a-b-clause-difference

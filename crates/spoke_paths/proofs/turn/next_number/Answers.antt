@@ -1,5 +1,4 @@
-use Rattle.std.proofs.Common.{arith}
-use Rattle.turn_words.specs.Lemmas.Sums.{add-cases}
+use Rattle.spoke_paths.proofs.Common.{arith, add-cases}
 use Rattle.spoke_paths.proofs.turn.next_number.Goals as goal
 
 pub returns-then-a-degree-clause-next : goal.returns-then-a-degree-clause-next

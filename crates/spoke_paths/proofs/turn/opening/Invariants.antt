@@ -1,4 +1,4 @@
-use Rattle.std.proofs.Common.{◌≡◌, ℕ, ◌-◌, ◌<◌, ◌≤◌, length}
+use Rattle.spoke_paths.proofs.Common.{◌≡◌, ℕ, ◌-◌, ◌<◌, ◌≤◌, length}
 use Rattle.spoke_paths.specs.PathTurns.{turn_of}
 use Rattle.spoke_paths.proofs.turn.opening.Given as goal
 

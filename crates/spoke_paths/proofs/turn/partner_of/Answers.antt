@@ -1,5 +1,4 @@
-use Rattle.std.proofs.Common.{◌≡◌, ◌∙◌, ap, ap₂, length, get_or}
-use Rattle.turn_words.specs.Modulo.{add, minus}
+use Rattle.spoke_paths.proofs.Common.{◌≡◌, ◌∙◌, ap, ap₂, length, get_or, add, minus}
 use Rattle.spoke_paths.proofs.Ways.{partner-quad}
 use Rattle.spoke_paths.proofs.turn.partner_of.Goals as goal
 

@@ -1,4 +1,4 @@
-use Rattle.std.proofs.Common.{sym}
+use Rattle.spoke_rings.proofs.Common.{sym}
 use Rattle.spoke_rings.proofs.Along.{along-first, along-second}
 use Rattle.spoke_rings.proofs.compare.cyclic_at.Goals as goal
 

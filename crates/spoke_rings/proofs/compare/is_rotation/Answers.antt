@@ -1,4 +1,4 @@
-use Rattle.std.proofs.Common.{◌+◌, ◌<◌, length, arith, refl, subst}
+use Rattle.spoke_rings.proofs.Common.{◌+◌, ◌<◌, length, arith, refl, subst}
 use Rattle.spoke_rings.specs.CyclicWords.{spoke_along}
 use Rattle.spoke_rings.proofs.Comparing.{Compares, compares-first, compares-second, compares-yes, compares-no, compares-neither}
 use Rattle.spoke_rings.proofs.compare.is_rotation.Goals as goal

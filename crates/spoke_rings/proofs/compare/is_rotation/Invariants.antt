@@ -1,4 +1,4 @@
-use Rattle.std.proofs.Common.{◌+◌, ◌-◌, ◌*◌}
+use Rattle.spoke_rings.proofs.Common.{◌+◌, ◌-◌, ◌*◌}
 use Rattle.spoke_rings.proofs.Comparing.{Compares}
 use Rattle.spoke_rings.proofs.compare.is_rotation.Given as goal
 

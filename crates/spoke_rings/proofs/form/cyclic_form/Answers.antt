@@ -1,4 +1,4 @@
-use Rattle.std.proofs.Common.{◌≤◌, length, arith, refl, ap, sym, subst}
+use Rattle.spoke_rings.proofs.Common.{◌≤◌, length, arith, refl, ap, sym, subst}
 use Rattle.spoke_rings.specs.CyclicWords.{IsLoop, IsCyclicallyCanonical}
 use Rattle.spoke_rings.proofs.Forming.{Form, form-of, form-over, form-leads, loop-now, all-turns}
 use Rattle.spoke_rings.proofs.form.cyclic_form.Goals as goal

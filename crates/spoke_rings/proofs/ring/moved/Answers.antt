@@ -1,6 +1,4 @@
-use Rattle.std.proofs.Common.{◌≡◌, length, ap, ◌∙◌, ◌-◌, arith}
-use Rattle.turn_words.specs.Modulo.{add}
-use Rattle.turn_words.specs.SpokePaths.{place_round}
+use Rattle.spoke_rings.proofs.Common.{◌≡◌, length, ap, ◌∙◌, ◌-◌, arith, add, place_round}
 use Rattle.spoke_rings.proofs.Places.{moved-on, moved-round}
 use Rattle.spoke_rings.proofs.ring.moved.Goals as goal
 use Rattle.spoke_rings.proofs.ring.moved.Goals.{then-place-room, else-place-room, Joined-place-room}

@@ -1,4 +1,4 @@
-use Rattle.std.proofs.Common.{◌-◌, length, ap, ◌∙◌}
+use Rattle.spoke_rings.proofs.Common.{◌-◌, length, ap, ◌∙◌}
 use Rattle.spoke_rings.proofs.Places.{one-back}
 use Rattle.spoke_rings.proofs.ring.one_on.Goals as goal
 

@@ -1,5 +1,4 @@
-use Rattle.std.proofs.Common.{length, ap, ◌∙◌, ◌-◌, ◌+◌}
-use Rattle.turn_words.specs.SpokePaths.{place_round}
+use Rattle.spoke_rings.proofs.Common.{length, ap, ◌∙◌, ◌-◌, ◌+◌, place_round}
 use Rattle.spoke_rings.proofs.Places.{turn-on, turn-back}
 use Rattle.spoke_rings.proofs.ring.turn_between.Goals as goal
 

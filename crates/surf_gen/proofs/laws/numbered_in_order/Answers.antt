@@ -1,5 +1,4 @@
-use Rattle.std.proofs.Common.{ap, sym, ◌∙◌}
-use Rattle.std.specs.List.{range_with_len}
+use Rattle.surf_gen.proofs.Common.{ap, sym, ◌∙◌, range_with_len}
 use Rattle.surf_gen.proofs.NumberLemmas.{numbers_rise, vertex_total}
 use Rattle.surf_gen.proofs.laws.numbered_in_order.Goals as goal
 

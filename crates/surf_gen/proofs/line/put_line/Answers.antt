@@ -1,7 +1,4 @@
-use Rattle.std.proofs.Common.{◌≡◌, ℕ, ◌-◌, List, ◌++◌, ◌∷◌, ◌∙◌, ap, sym, map, length, drop, get_or, arith}
-use Rattle.std.proofs.Math.Seq.{drop-length}
-use Rattle.std.specs.Prelude.{Result, Ok, Err, OnOk, is_ok, if◌then◌else◌}
-use Rattle.std.specs.Fmt.{decimal}
+use Rattle.surf_gen.proofs.Common.{◌≡◌, ℕ, ◌-◌, List, ◌++◌, ◌∷◌, ◌∙◌, ap, sym, map, length, drop, get_or, arith, drop-length, decimal, Result, Ok, Err, OnOk, is_ok, if◌then◌else◌}
 use Rattle.surf_gen.specs.ChainTexts.{line_of}
 use Rattle.surf_gen.proofs.LineLemmas.{behind_number, number_more, line_whole}
 use Rattle.surf_gen.proofs.line.put_line.Goals as goal

@@ -1,4 +1,4 @@
-use Rattle.std.proofs.Common.{◌≡◌, ◌+◌, ◌*◌, ◌≤◌, ◌∷◌, length, drop}
+use Rattle.surf_gen.proofs.Common.{◌≡◌, ◌+◌, ◌*◌, ◌≤◌, ◌∷◌, length, drop}
 use Rattle.surf_gen.proofs.LineLemmas.{behind_number}
 use Rattle.surf_gen.proofs.line.put_line.Given as goal
 

@@ -1,5 +1,4 @@
-use Rattle.std.proofs.Common.{◌∙◌, ap, ◌++◌, ◌∷◌, []}
-use Rattle.std.specs.Prelude.{codes}
+use Rattle.surf_gen.proofs.Common.{◌∙◌, ap, ◌++◌, ◌∷◌, [], codes}
 use Rattle.surf_gen.proofs.TextLemmas.{whole_text}
 use Rattle.surf_gen.proofs.text.chain_of_tori.Goals as goal
 

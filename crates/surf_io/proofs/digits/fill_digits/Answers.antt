@@ -1,5 +1,4 @@
-use Rattle.std.proofs.Common.{arith, ◌≤◌, ◌∙◌}
-use Rattle.std.proofs.lemmas.List.{length-set}
+use Rattle.surf_io.proofs.Common.{arith, ◌≤◌, ◌∙◌, length-set}
 use Rattle.surf_io.proofs.Decimal.{room, more, last}
 use Rattle.surf_io.proofs.digits.fill_digits.Goals as goal
 

@@ -1,5 +1,4 @@
-use Rattle.std.proofs.Common.{◌≡◌, ◌≤◌, ◌++◌, drop, length}
-use Rattle.std.specs.Fmt.{decimal}
+use Rattle.surf_io.proofs.Common.{◌≡◌, ◌≤◌, ◌++◌, drop, length, decimal}
 use Rattle.surf_io.proofs.digits.fill_digits.Given as goal
 
 abbrev pub invariant-loop-rest : goal.invariant-loop-rest

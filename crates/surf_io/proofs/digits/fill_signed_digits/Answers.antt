@@ -1,6 +1,4 @@
-use Rattle.std.proofs.Common.{w64, ◌∙◌, ap, ◌≡◌, to_z, of_z}
-use Rattle.std.specs.Fmt.{decimal}
-use lib.IntN.{nat_abs}
+use Rattle.surf_io.proofs.Common.{w64, ◌∙◌, ap, ◌≡◌, to_z, of_z, decimal, nat_abs}
 use Rattle.std.proofs.Math.Facts.{to_z-of_z}
 use Rattle.surf_io.proofs.Decimal.{room_for_sign, sign}
 use Rattle.surf_io.proofs.digits.fill_signed_digits.Goals as goal

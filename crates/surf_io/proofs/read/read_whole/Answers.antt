@@ -1,4 +1,4 @@
-use Rattle.std.proofs.Common.{◌≡◌, ◌-◌, drop, vec_len, ◌∙◌, ◌++◌, ap, length, take, ◌+◌, ◌≤◌, arith}
+use Rattle.surf_io.proofs.Common.{◌≡◌, ◌-◌, drop, vec_len, ◌∙◌, ◌++◌, ap, length, take, ◌+◌, ◌≤◌, arith}
 use Rattle.surf_io.proofs.Appending.{within_rest}
 use Rattle.surf_io.proofs.Reading.{told_more, take-filled}
 use Rattle.surf_io.proofs.read.read_whole.Goals as goal

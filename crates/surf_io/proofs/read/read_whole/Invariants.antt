@@ -1,4 +1,4 @@
-use Rattle.std.proofs.Common.{◌+◌, ◌-◌, ◌≡◌, ◌≤◌, vec_len, IfSome}
+use Rattle.surf_io.proofs.Common.{◌+◌, ◌-◌, ◌≡◌, ◌≤◌, vec_len, IfSome}
 use Rattle.surf_io.specs.Files.{file_of}
 use Rattle.surf_io.proofs.Reading.{IsReadUpTo}
 use Rattle.surf_io.proofs.read.read_whole.Given as goal

@@ -1,4 +1,4 @@
-use Rattle.std.proofs.Common.{length, ◌-◌, ◌≡◌, ◌≤◌, take}
+use Rattle.surf_io.proofs.Common.{length, ◌-◌, ◌≡◌, ◌≤◌, take}
 use Rattle.surf_io.specs.Bytes.{Appends}
 use Rattle.surf_io.proofs.write.write_whole.Given as goal
 

@@ -1,4 +1,4 @@
-use Rattle.std.proofs.Common.{◌≡◌, ◌+◌, ◌≤◌, ◌++◌, map, length, take, vec_capacity}
+use Rattle.surf_model.proofs.Common.{◌≡◌, ◌+◌, ◌≤◌, ◌++◌, map, length, take, vec_capacity}
 use Rattle.surf_model.proofs.edge_list.append.Given as goal
 
 abbrev pub invariant-loop-side : goal.invariant-loop-side

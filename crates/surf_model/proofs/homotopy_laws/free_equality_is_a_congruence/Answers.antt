@@ -1,6 +1,5 @@
-use Rattle.std.proofs.Common.{◌++◌, length, refl}
+use Rattle.surf_model.proofs.Common.{◌++◌, length, refl, All-nil, All-append}
 use Rattle.std.specs.Prelude.{[]}
-use Rattle.std.proofs.lemmas.List.Elements.{All-nil, All-append}
 use Rattle.surf_model.specs.FreeWalks.{IsSpurMove}
 use Rattle.surf_model.specs.Rewriting.{all_raised, way_back}
 use Rattle.surf_model.proofs.ContextLemmas.{list_in_context, one_after_another}

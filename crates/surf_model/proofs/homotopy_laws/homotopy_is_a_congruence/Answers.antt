@@ -1,4 +1,4 @@
-use Rattle.std.proofs.Common.{◌++◌, length, refl}
+use Rattle.surf_model.proofs.Common.{◌++◌, length, refl}
 use Rattle.std.specs.Prelude.{[]}
 use Rattle.surf_model.specs.Rewriting.{all_raised, way_back}
 use Rattle.surf_model.proofs.ContextLemmas.{list_in_context, one_after_another}

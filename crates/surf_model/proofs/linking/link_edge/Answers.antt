@@ -1,6 +1,4 @@
-use Rattle.std.proofs.Common.{◌≡◌, ◌<◌, inl, inr, ℕ, true, List, length, get_or, set, ap, sym, ◌∙◌, subst, arith}
-use Rattle.std.proofs.lemmas.Bool.{cases_lt}
-use Rattle.std.proofs.lemmas.List.{length-set}
+use Rattle.surf_model.proofs.Common.{◌≡◌, ◌<◌, inl, inr, ℕ, true, List, length, get_or, set, ap, sym, ◌∙◌, subst, arith, cases_lt, length-set}
 use Rattle.surf_model.specs.FaceLists.{next_corner}
 use Rattle.surf_model.specs.EdgeLists.{DartEdge, dart_edge_in}
 use Rattle.surf_model.specs.Links.{IsLinked}

@@ -1,5 +1,4 @@
-use Rattle.std.proofs.Common.{◌≡◌, ◌≤◌, ℕ, false, take, length, slice_index_or}
-use Rattle.std.specs.List.{list_any}
+use Rattle.surf_model.proofs.Common.{◌≡◌, ◌≤◌, ℕ, false, take, length, slice_index_or, list_any}
 use Rattle.surf_model.specs.Links.{is_end}
 use Rattle.surf_model.proofs.linking.marks.Given as goal
 

@@ -1,4 +1,4 @@
-use Rattle.std.proofs.Common.{refl, ap, ◌∙◌}
+use Rattle.text_scan.proofs.Common.{refl, ap, ◌∙◌}
 use Rattle.text_scan.proofs.ViewLemmas.{starts_unmarked}
 use Rattle.text_scan.proofs.cursor.unmarked.Goals as goal
 

@@ -1,4 +1,4 @@
-use Rattle.std.proofs.Common.{arith}
+use Rattle.text_scan.proofs.Common.{arith}
 use Rattle.text_scan.proofs.NaturalLemmas.{past_digit}
 use Rattle.text_scan.proofs.naturals.after_digits.Goals as goal
 

@@ -1,4 +1,4 @@
-use Rattle.std.proofs.Common.{length}
+use Rattle.text_scan.proofs.Common.{length}
 use Rattle.text_scan.specs.Steps.{IsPastDigits}
 use Rattle.text_scan.proofs.naturals.after_digits.Given as goal
 

@@ -1,4 +1,4 @@
-use Rattle.std.proofs.Common.{sym, ◌∙◌}
+use Rattle.text_scan.proofs.Common.{sym, ◌∙◌}
 use Rattle.text_scan.proofs.NaturalLemmas.{natural_both, natural_front}
 use Rattle.text_scan.proofs.naturals.are_digits.Goals as goal
 

@@ -1,4 +1,4 @@
-use Rattle.std.proofs.Common.{sym, ◌∙◌, ap, not}
+use Rattle.text_scan.proofs.Common.{sym, ◌∙◌, ap, not}
 use Rattle.text_scan.proofs.NaturalLemmas.{all_digits, no_bytes}
 use Rattle.text_scan.proofs.naturals.is_natural.Goals as goal
 

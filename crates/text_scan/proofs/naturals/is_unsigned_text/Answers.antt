@@ -1,4 +1,5 @@
-use Rattle.std.proofs.Common.{sym, ap, ◌∙◌, bytes_eq}
+use Rattle.text_scan.proofs.Common.{sym, ap, ◌∙◌}
+use Rattle.std.proofs.Common.{bytes_eq}
 use Rattle.text_scan.specs.Numbers.{is_natural}
 use Rattle.text_scan.proofs.NaturalLemmas.{with_exponent, without_exponent}
 use Rattle.text_scan.proofs.naturals.is_unsigned_text.Goals as goal

@@ -1,4 +1,4 @@
-use Rattle.std.proofs.Common.{arith, refl, ◌^◌}
+use Rattle.text_scan.proofs.Common.{arith, refl, ◌^◌}
 use Rattle.text_scan.specs.Numbers.{value_of}
 use Rattle.text_scan.proofs.NaturalLemmas.{value_step, value_past, natural_digit}
 use Rattle.text_scan.proofs.naturals.value_of.Goals as goal

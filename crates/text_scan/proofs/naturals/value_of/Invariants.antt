@@ -1,4 +1,4 @@
-use Rattle.std.proofs.Common.{◌≡◌, take}
+use Rattle.text_scan.proofs.Common.{◌≡◌, take}
 use Rattle.text_scan.specs.Numbers.{value_of}
 use Rattle.text_scan.proofs.naturals.value_of.Given as goal
 

@@ -1,4 +1,4 @@
-use Rattle.std.proofs.Common.{sym}
+use Rattle.text_scan.proofs.Common.{sym}
 use Rattle.text_scan.proofs.StepLemmas.{past_blank}
 use Rattle.text_scan.proofs.steps.after_blanks.Goals as goal
 

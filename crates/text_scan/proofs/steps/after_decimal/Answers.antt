@@ -1,4 +1,4 @@
-use Rattle.std.proofs.Common.{arith}
+use Rattle.text_scan.proofs.Common.{arith}
 use Rattle.text_scan.proofs.TextLemmas.{whole_digits, with_point}
 use Rattle.text_scan.proofs.steps.after_decimal.Goals as goal
 

@@ -1,4 +1,4 @@
-use Rattle.std.proofs.Common.{◌≡◌, ◌≤◌, length}
+use Rattle.text_scan.proofs.Common.{◌≡◌, ◌≤◌, length}
 use Rattle.text_scan.specs.Unread.{behind}
 use Rattle.text_scan.proofs.steps.after_line.Given as goal
 

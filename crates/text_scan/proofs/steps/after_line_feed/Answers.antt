@@ -1,4 +1,4 @@
-use Rattle.std.proofs.Common.{sym, ◌∙◌}
+use Rattle.text_scan.proofs.Common.{sym, ◌∙◌}
 use Rattle.text_scan.proofs.StepLemmas.{no_line_feed, past_line_feed}
 use Rattle.text_scan.proofs.steps.after_line_feed.Goals as goal
 

@@ -1,4 +1,4 @@
-use Rattle.std.proofs.Common.{sym, subst}
+use Rattle.text_scan.proofs.Common.{sym, subst}
 use Rattle.text_scan.specs.Steps.{IsPastDecimal}
 use Rattle.text_scan.proofs.TextLemmas.{plain_number}
 use Rattle.text_scan.proofs.steps.after_plain_number.Goals as goal

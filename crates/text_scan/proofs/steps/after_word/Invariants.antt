@@ -1,4 +1,4 @@
-use Rattle.std.proofs.Common.{◌≡◌, length}
+use Rattle.text_scan.proofs.Common.{◌≡◌, length}
 use Rattle.text_scan.specs.Steps.{ends_word, from_first}
 use Rattle.text_scan.proofs.steps.after_word.Given as goal
 

@@ -1,4 +1,4 @@
-use Rattle.std.proofs.Common.{arith, sym, ◌∙◌}
+use Rattle.text_scan.proofs.Common.{arith, sym, ◌∙◌}
 use Rattle.text_scan.proofs.StepLemmas.{digit_value, digit_place}
 use Rattle.text_scan.proofs.steps.digit_at.Goals as goal
 

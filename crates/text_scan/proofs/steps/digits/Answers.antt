@@ -1,4 +1,4 @@
-use Rattle.std.proofs.Common.{arith, subst, sym, ◌+◌, ◌*◌}
+use Rattle.text_scan.proofs.Common.{arith, subst, sym, ◌+◌, ◌*◌}
 use Rattle.text_scan.proofs.StepLemmas.{FewDigits, no_few, few_small, few_more}
 use Rattle.text_scan.proofs.steps.digits.Goals as goal
 

@@ -1,4 +1,4 @@
-use Rattle.std.proofs.Common.{sym}
+use Rattle.text_scan.proofs.Common.{sym}
 use Rattle.text_scan.proofs.StepLemmas.{pass_blank, pass_line_feed, pass_comment, no_more}
 use Rattle.text_scan.proofs.steps.first_word.Goals as goal
 

@@ -1,4 +1,4 @@
-use Rattle.std.proofs.Common.{◌≡◌, ◌+◌, ◌≤◌, length}
+use Rattle.text_scan.proofs.Common.{◌≡◌, ◌+◌, ◌≤◌, length}
 use Rattle.text_scan.specs.Lines.{lines_from}
 use Rattle.text_scan.proofs.steps.first_word.Given as goal
 

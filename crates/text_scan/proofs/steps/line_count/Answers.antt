@@ -1,4 +1,4 @@
-use Rattle.std.proofs.Common.{arith, sym, ap, length}
+use Rattle.text_scan.proofs.Common.{arith, sym, ap, length}
 use Rattle.text_scan.specs.Lines.{cut}
 use Rattle.text_scan.proofs.StepLemmas.{one_line, no_lines}
 use Rattle.text_scan.proofs.steps.line_count.Goals as goal

@@ -1,4 +1,4 @@
-use Rattle.std.proofs.Common.{◌≡◌, ◌≤◌, ◌+◌, length}
+use Rattle.text_scan.proofs.Common.{◌≡◌, ◌≤◌, ◌+◌, length}
 use Rattle.text_scan.specs.Lines.{cut}
 use Rattle.text_scan.proofs.steps.line_count.Given as goal
 

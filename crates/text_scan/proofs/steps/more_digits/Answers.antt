@@ -1,4 +1,4 @@
-use Rattle.std.proofs.Common.{arith}
+use Rattle.text_scan.proofs.Common.{arith}
 use Rattle.text_scan.proofs.StepLemmas.{one_digit}
 use Rattle.text_scan.proofs.steps.more_digits.Goals as goal
 

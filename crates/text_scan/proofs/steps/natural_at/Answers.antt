@@ -1,4 +1,4 @@
-use Rattle.std.proofs.Common.{arith, ◌∙◌, sym}
+use Rattle.text_scan.proofs.Common.{arith, ◌∙◌, sym}
 use Rattle.text_scan.proofs.StepLemmas.{natural_value, natural_place, no_natural, no_natural_here}
 use Rattle.text_scan.proofs.steps.natural_at.Goals as goal
 

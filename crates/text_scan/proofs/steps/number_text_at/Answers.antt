@@ -1,4 +1,4 @@
-use Rattle.std.proofs.Common.{sym, ◌∙◌, ap, is_some}
+use Rattle.text_scan.proofs.Common.{sym, ◌∙◌, ap, is_some}
 use Rattle.text_scan.proofs.TextLemmas.{text_first, no_text, past_text}
 use Rattle.text_scan.proofs.steps.number_text_at.Goals as goal
 

@@ -1,8 +1,4 @@
-use Rattle.std.proofs.Common.{◌≡◌, ◌/◌, ℕ, List, refl, length, ap, ◌∙◌, rules}
-use Rattle.std.specs.Prelude.{replicate}
-use Rattle.std.proofs.lemmas.List.{length-replicate}
-use Rattle.surf_model.specs.Numbers.{count_below}
-use Rattle.halfedge_map.specs.OrientedMeshes.{OrientedMesh}
+use Rattle.tree_cotree.proofs.Common.{OrientedMesh, ◌≡◌, ◌/◌, ℕ, List, refl, length, ap, ◌∙◌, rules, length-replicate, replicate, count_below}
 use Rattle.tree_cotree.specs.declared.split.Kind.{Kind}
 use Rattle.tree_cotree.specs.declared.split.Kind.TheVariants.{Tree, Left}
 use Rattle.tree_cotree.specs.Searches.{has_kind}

@@ -1,6 +1,4 @@
-use Rattle.std.proofs.Common.{◌<◌, ◌≤◌, ℕ, List, length, ap, sym, subst, arith}
-use Rattle.surf_model.specs.Edges.{Edge}
-use Rattle.halfedge_map.specs.OrientedMeshes.{OrientedMesh}
+use Rattle.tree_cotree.proofs.Common.{OrientedMesh, ◌<◌, ◌≤◌, ℕ, List, length, ap, sym, subst, arith, Edge}
 use Rattle.tree_cotree.specs.declared.split.Kind.{Kind}
 use Rattle.tree_cotree.specs.Joinings.{IsTried, kind_over}
 use Rattle.tree_cotree.proofs.ColouringLemmas.{IsSpanning, kind_not_left, spanning_none, spanning_early, spanning_next, spanning_all}

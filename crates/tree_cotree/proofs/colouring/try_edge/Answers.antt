@@ -1,10 +1,4 @@
-use Rattle.std.proofs.Common.{◌≡◌, ◌<◌, List, length, refl, ap, sym, ◌∙◌, arith}
-use Rattle.std.proofs.Math.ListN.{set}
-use Rattle.std.proofs.lemmas.Bool.{both_ways}
-use Rattle.std.proofs.lemmas.List.{get_or_default}
-use Rattle.halfedge_map.specs.OrientedMeshes.{OrientedMesh}
-use Rattle.halfedge_map.specs.RotationSystems.{Rotations, rotations_of}
-use Rattle.halfedge_map.proofs.SystemLemmas.{rotation_system}
+use Rattle.tree_cotree.proofs.Common.{rotation_system, OrientedMesh, Rotations, rotations_of, ◌≡◌, ◌<◌, List, length, refl, ap, sym, ◌∙◌, arith, set, both_ways, get_or_default}
 use Rattle.tree_cotree.specs.declared.split.Kind.{Kind}
 use Rattle.tree_cotree.specs.declared.split.Kind.TheVariants.{Tree, Left}
 use Rattle.tree_cotree.specs.Searches.{same_kind, has_kind, node_of}

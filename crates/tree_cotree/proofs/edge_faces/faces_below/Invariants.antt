@@ -1,5 +1,4 @@
-use Rattle.std.proofs.Common.{◌≡◌, length}
-use Rattle.halfedge_map.specs.RotationSystems.{rotations_of}
+use Rattle.tree_cotree.proofs.Common.{rotations_of, ◌≡◌, length}
 use Rattle.tree_cotree.specs.Searches.{kept_at}
 use Rattle.tree_cotree.specs.EdgeFaces.{AreBelowEdges}
 use Rattle.tree_cotree.proofs.edge_faces.faces_below.Given as goal

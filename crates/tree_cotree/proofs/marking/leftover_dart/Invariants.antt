@@ -1,4 +1,4 @@
-use Rattle.std.proofs.Common.{◌≡◌, ◌<◌, ℕ, false}
+use Rattle.tree_cotree.proofs.Common.{◌≡◌, ◌<◌, ℕ, false}
 use Rattle.tree_cotree.specs.Searches.{has_kind}
 use Rattle.tree_cotree.specs.declared.split.Kind.TheVariants.{Left}
 use Rattle.tree_cotree.proofs.marking.leftover_dart.Given as goal

@@ -1,5 +1,4 @@
-use Rattle.std.proofs.Common.{◌≡◌, ◌≤◌}
-use Rattle.surf_model.specs.Numbers.{count_below}
+use Rattle.tree_cotree.proofs.Common.{◌≡◌, ◌≤◌, count_below}
 use Rattle.tree_cotree.specs.Searches.{has_kind}
 use Rattle.tree_cotree.specs.declared.split.Kind.TheVariants.{Left}
 use Rattle.tree_cotree.proofs.marking.leftover_edges.Given as goal

@@ -1,8 +1,4 @@
-use Rattle.std.proofs.Common.{◌≡◌, ◌+◌, ◌<◌, ℕ, length, sym, ap, ◌∙◌, subst, arith}
-use Rattle.std.specs.Prelude.{Some, None}
-use Rattle.std.proofs.Math.ListN.{set}
-use Rattle.halfedge_map.specs.DartMaps.{edge_of}
-use Rattle.halfedge_map.specs.RotationSystems.{Rotations, rotations_of}
+use Rattle.tree_cotree.proofs.Common.{edge_of, Rotations, rotations_of, ◌≡◌, ◌+◌, ◌<◌, ℕ, length, sym, ap, ◌∙◌, subst, arith, set, Some, None}
 use Rattle.tree_cotree.specs.Searches.{kept_at}
 use Rattle.tree_cotree.specs.Markings.{IsMarked}
 use Rattle.tree_cotree.proofs.SearchLemmas.{kept_read}

@@ -1,4 +1,4 @@
-use Rattle.halfedge_map.specs.RotationSystems.{rotations_of}
+use Rattle.tree_cotree.proofs.Common.{rotations_of}
 use Rattle.tree_cotree.specs.Markings.{IsMarked}
 use Rattle.tree_cotree.proofs.marking.mark.Given as goal
 

@@ -1,4 +1,4 @@
-use Rattle.halfedge_map.proofs.SystemLemmas.{rotation_system}
+use Rattle.tree_cotree.proofs.Common.{rotation_system}
 use Rattle.tree_cotree.proofs.ring_laws.rings_go_round_vertices_and_faces.Goals as goal
 
 pub returns : goal.returns

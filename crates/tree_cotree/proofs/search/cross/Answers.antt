@@ -1,10 +1,5 @@
-use Rattle.std.proofs.Common.{◌≡◌, ◌<◌, ℕ, true, List, [], ◌∷◌, ◌++◌, length, ap, sym, ◌∙◌, subst, rules, arith}
-use Rattle.std.proofs.lemmas.List.{append_assoc}
-use Rattle.surf_model.specs.declared.names.DartName.{DartName}
-use Rattle.halfedge_map.specs.RotationSystems.{Rotations}
-use Rattle.halfedge_map.proofs.SystemLemmas.{rotation_system}
+use Rattle.tree_cotree.proofs.Common.{rotation_system, Rotations, ◌≡◌, ◌<◌, ℕ, true, List, [], ◌∷◌, ◌++◌, length, ap, sym, ◌∙◌, subst, rules, arith, set, append_assoc, DartName}
 use Rattle.tree_cotree.specs.RingViews.{dart_numbers}
-use Rattle.std.proofs.Math.ListN.{set}
 use Rattle.tree_cotree.specs.Graphs.{maps_of, node_in, crosses}
 use Rattle.tree_cotree.specs.Searches.{IsFound, IsOrder}
 use Rattle.tree_cotree.proofs.SearchLemmas.{IsNewDart, root_found, kept_found, none_kept, order_pushed, found_pushed, added_pushed}

@@ -1,7 +1,4 @@
-use Rattle.std.proofs.Common.{◌≡◌, ◌≤◌, ℕ, List, length, sym, ap, subst, arith}
-use Rattle.std.proofs.lemmas.List.{length-map, length-append}
-use Rattle.surf_model.specs.declared.names.DartName.{DartName}
-use Rattle.halfedge_map.specs.RotationSystems.{Rotations}
+use Rattle.tree_cotree.proofs.Common.{Rotations, ◌≡◌, ◌≤◌, ℕ, List, length, sym, ap, subst, arith, length-map, length-append, DartName}
 use Rattle.tree_cotree.specs.RingViews.{dart_numbers}
 use Rattle.tree_cotree.specs.Waiting.{waiting_darts, IsTaken}
 use Rattle.tree_cotree.specs.Graphs.{maps_of, node_in, crosses}

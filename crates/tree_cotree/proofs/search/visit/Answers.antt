@@ -1,6 +1,4 @@
-use Rattle.std.proofs.Common.{◌≡◌, ◌+◌, ◌≤◌, ℕ, List, length, sym, ◌∙◌, subst, arith}
-use Rattle.std.proofs.lemmas.Bool.{eqb-true}
-use Rattle.halfedge_map.specs.RotationSystems.{Rotations}
+use Rattle.tree_cotree.proofs.Common.{Rotations, ◌≡◌, ◌+◌, ◌≤◌, ℕ, List, length, sym, ◌∙◌, subst, arith, eqb-true}
 use Rattle.tree_cotree.specs.RingViews.{dart_numbers}
 use Rattle.tree_cotree.specs.Waiting.{waiting_darts}
 use Rattle.tree_cotree.specs.Graphs.{maps_of, node_in, turn_in, crosses}

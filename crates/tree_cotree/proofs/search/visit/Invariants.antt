@@ -1,4 +1,4 @@
-use Rattle.std.proofs.Common.{length}
+use Rattle.tree_cotree.proofs.Common.{length}
 use Rattle.tree_cotree.specs.RingViews.{dart_numbers}
 use Rattle.tree_cotree.specs.Waiting.{waiting_darts}
 use Rattle.tree_cotree.specs.Graphs.{maps_of, node_in, turn_in, crosses}

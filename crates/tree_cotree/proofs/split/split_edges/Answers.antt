@@ -1,11 +1,4 @@
-use Rattle.std.proofs.Common.{◌≡◌, ◌<◌, ◌/◌, ℕ, true, List, length, sym, ap, ◌∙◌, subst, rules, arith}
-use Rattle.std.specs.Prelude.{Option, Some, replicate}
-use Rattle.std.proofs.lemmas.List.{length-replicate, with_items_is}
-use Rattle.surf_model.specs.FaceLists.{FaceList}
-use Rattle.surf_model.specs.Numbers.{count_below}
-use Rattle.halfedge_map.specs.OrientedMeshes.{OrientedMesh}
-use Rattle.halfedge_map.specs.RotationSystems.{Rotations, rotations_of, NamesAll}
-use Rattle.halfedge_map.proofs.SystemLemmas.{rotation_system, names_all}
+use Rattle.tree_cotree.proofs.Common.{rotation_system, names_all, OrientedMesh, Rotations, rotations_of, NamesAll, ◌≡◌, ◌<◌, ◌/◌, ℕ, true, List, length, sym, ap, ◌∙◌, subst, rules, arith, length-replicate, with_items_is, Option, Some, replicate, FaceList, count_below}
 use Rattle.tree_cotree.specs.declared.split.Kind.{Kind}
 use Rattle.tree_cotree.specs.declared.split.Kind.TheVariants.{Tree, Cotree, Left}
 use Rattle.tree_cotree.specs.Searches.{same_kind, has_kind, kept_at, IsSearched, FindsAll}

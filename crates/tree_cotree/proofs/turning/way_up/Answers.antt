@@ -1,11 +1,5 @@
-use Rattle.std.proofs.Common.{◌≡◌, ◌<◌, ℕ, List, length, ap, sym, ◌∙◌, subst, arith}
-use Rattle.std.proofs.lemmas.List.{length_push, length-map}
-use Rattle.surf_model.specs.declared.names.DartName.{DartName}
-use Rattle.halfedge_map.specs.OrientedMeshes.{OrientedMesh}
-use Rattle.halfedge_map.specs.RotationSystems.{Rotations, rotations_of}
-use Rattle.halfedge_map.proofs.SystemLemmas.{names_all}
+use Rattle.tree_cotree.proofs.Common.{names_all, OrientedMesh, Rotations, rotations_of, ◌≡◌, ◌<◌, ℕ, List, length, ap, sym, ◌∙◌, subst, arith, length_push, length-map, Some, None, DartName}
 use Rattle.tree_cotree.specs.RingViews.{dart_numbers}
-use Rattle.std.specs.Prelude.{Some, None}
 use Rattle.tree_cotree.proofs.SearchLemmas.{numbers_push, kept_read}
 use Rattle.tree_cotree.proofs.TurningLemmas.{IsClimb, climb_start, climb_dart, climb_more, climb_few, climb_within, climb_done}
 use Rattle.tree_cotree.proofs.turning.way_up.Goals as goal

@@ -1,5 +1,4 @@
-use Rattle.std.proofs.Common.{◌-◌, length}
-use Rattle.halfedge_map.specs.RotationSystems.{rotations_of}
+use Rattle.tree_cotree.proofs.Common.{rotations_of, ◌-◌, length}
 use Rattle.tree_cotree.specs.RingViews.{dart_numbers}
 use Rattle.tree_cotree.proofs.TurningLemmas.{IsClimb}
 use Rattle.tree_cotree.proofs.turning.way_up.Given as goal

@@ -1,10 +1,4 @@
-use Rattle.std.proofs.Common.{List, ℕ, subst}
-use Rattle.off_reader.specs.OffTexts.{meaning_of}
-use Rattle.off_reader.specs.declared.off_fault.OffFault.TheVariants.{OutOfMemory}
-use Rattle.surf_gen.specs.ChainTexts.{chain_text}
-use Rattle.commands.specs.Checks.{Passes, meant}
-use Rattle.commands.specs.Refusals.{off_line}
-use Rattle.commands.proofs.Checking.{read_passes}
+use Rattle.trial_commands.proofs.Common.{read_passes, Passes, meant, off_line, meaning_of, OutOfMemory, List, ℕ, subst, chain_text}
 use Rattle.trial_commands.proofs.Trying.{spelled_end}
 use Rattle.trial_commands.proofs.trial.chain_surface.Goals as goal
 

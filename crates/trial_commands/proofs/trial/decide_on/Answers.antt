@@ -1,6 +1,4 @@
-use Rattle.std.proofs.Common.{subst, ◌∙◌}
-use Rattle.surf_model.specs.FaceLists.{FaceList}
-use Rattle.commands.specs.Stops.{Ends}
+use Rattle.trial_commands.proofs.Common.{Ends, subst, ◌∙◌, FaceList}
 use Rattle.trial_commands.specs.Trial.{pairs_decided}
 use Rattle.trial_commands.proofs.trial.decide_on.Goals as goal
 

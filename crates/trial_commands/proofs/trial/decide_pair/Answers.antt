@@ -1,16 +1,10 @@
-use Rattle.std.proofs.Common.{◌≡◌, [], ℕ, List, get_or, refl, sym, subst, ap, ◌∙◌}
-use Rattle.std.specs.Prelude.{◌↔◌, Some, None}
+use Rattle.trial_commands.proofs.Common.{walks_of_pair, ◌≡◌, [], ℕ, List, get_or, refl, sym, subst, ap, ◌∙◌, err_from_is_err_and, ◌↔◌, Some, None, first_walk, second_walk, Homotopic, pair_fault}
 use Rattle.std.proofs.lemmas.Option.{get_or_from_slice_get}
-use Rattle.std.proofs.lemmas.Result.{err_from_is_err_and}
 use Rattle.surf_model.specs.Edges.{IsTableOf}
-use Rattle.surf_model.specs.Moves as moves
 use Rattle.surf_model.specs.Walks.{AreWalkPair}
-use Rattle.surf_gen.specs.TrialWalks.{first_walk, second_walk}
-use Rattle.walk_files.specs.Pairs.{pair_fault}
 use Rattle.walk_files.specs.WalkLists.{WalkText}
-use Rattle.surf_model.specs.declared.decisions.Answer.TheVariants.{Homotopic}
+use Rattle.surf_model.specs.Moves as moves
 use Rattle.trial_commands.specs.Trial.{pair_walks}
-use Rattle.commands.proofs.Deciding.{walks_of_pair}
 use Rattle.trial_commands.proofs.Trying.{pair_faulty, pair_answered}
 use Rattle.trial_commands.proofs.trial.decide_pair.Goals as goal
 

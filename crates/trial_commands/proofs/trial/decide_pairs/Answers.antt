@@ -1,4 +1,4 @@
-use Rattle.std.proofs.lemmas.Result.{err_from_is_err_and}
+use Rattle.trial_commands.proofs.Common.{err_from_is_err_and}
 use Rattle.trial_commands.proofs.Trying.{cell_stops, loops_stop, pairs_answered}
 use Rattle.trial_commands.proofs.trial.decide_pairs.Goals as goal
 

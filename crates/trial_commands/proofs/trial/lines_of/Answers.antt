@@ -1,7 +1,5 @@
-use Rattle.std.proofs.Common.{◌++◌, List, ℕ, ap, ◌∙◌}
+use Rattle.trial_commands.proofs.Common.{in_lines, ◌++◌, List, ℕ, ap, ◌∙◌, genus_line}
 use Rattle.std.specs.Prelude.{map}
-use Rattle.commands.specs.Lines.{in_lines}
-use Rattle.surface_commands.specs.Surface.{genus_line}
 use Rattle.trial_commands.specs.Trial.{last_lines}
 use Rattle.trial_commands.proofs.trial.lines_of.Goals as goal
 

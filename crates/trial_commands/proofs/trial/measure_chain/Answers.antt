@@ -1,4 +1,4 @@
-use Rattle.manifold_check.proofs.PartPieces.{few_joined}
+use Rattle.trial_commands.proofs.Common.{few_joined}
 use Rattle.trial_commands.proofs.trial.measure_chain.Goals as goal
 
 pub returns-clause-joined : goal.returns-clause-joined

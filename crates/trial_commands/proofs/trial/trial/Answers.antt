@@ -1,6 +1,4 @@
-use Rattle.std.proofs.Common.{refl}
-use Rattle.std.proofs.lemmas.Result.{err_from_is_err_and}
-use Rattle.commands.specs.Answers.{yes_with}
+use Rattle.trial_commands.proofs.Common.{yes_with, refl, err_from_is_err_and}
 use Rattle.trial_commands.specs.Trial.{trial_text}
 use Rattle.trial_commands.proofs.Trying.{surface_stops, few_stop, decisions_stop, trial_answered}
 use Rattle.trial_commands.proofs.trial.trial.Goals as goal

@@ -1,4 +1,4 @@
-use Rattle.std.proofs.Common.{◌≤◌, ◌+◌, ◌*◌, length}
+use Rattle.turn_words.proofs.Common.{◌≤◌, ◌+◌, ◌*◌, length}
 use Rattle.turn_words.proofs.Unique.{ReadsTo}
 use Rattle.turn_words.proofs.canonising.canonise.Given as goal
 

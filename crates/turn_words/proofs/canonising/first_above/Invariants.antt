@@ -1,4 +1,4 @@
-use Rattle.std.proofs.Common.{◌<◌, ℕ, slice_index}
+use Rattle.turn_words.proofs.Common.{◌<◌, ℕ, slice_index}
 use Rattle.turn_words.proofs.canonising.first_above.Given as goal
 
 abbrev pub invariant-loop-at : goal.invariant-loop-at

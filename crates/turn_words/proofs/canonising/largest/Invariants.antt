@@ -1,5 +1,4 @@
-use Rattle.std.proofs.Common.{◌≡◌, ◌⊎◌, ◌<◌, ◌≤◌, ℕ, slice_index}
-use Rattle.std.specs.Prelude.{Contains}
+use Rattle.turn_words.proofs.Common.{◌≡◌, ◌⊎◌, ◌<◌, ◌≤◌, ℕ, slice_index, Contains}
 use Rattle.turn_words.proofs.canonising.largest.Given as goal
 
 -- of the entries so far

@@ -1,4 +1,4 @@
-use Rattle.std.proofs.Common.{ℕ, ◌<◌, ◌++◌, length, subst}
+use Rattle.turn_words.proofs.Common.{ℕ, ◌<◌, ◌++◌, length, subst}
 use Rattle.std.proofs.lemmas.List.Elements.{All-append}
 use Rattle.turn_words.specs.Canonical.{IsCanonicalOf}
 use Rattle.turn_words.specs.HyperStates.{HyperState, empty_state, hyper_next}

@@ -1,4 +1,4 @@
-use Rattle.std.proofs.Common.{arith}
+use Rattle.turn_words.proofs.Common.{arith}
 use Rattle.turn_words.specs.Lemmas.Sums.{add-cases}
 use Rattle.turn_words.proofs.modulo.sum_modulo.Goals as goal
 

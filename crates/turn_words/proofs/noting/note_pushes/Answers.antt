@@ -1,4 +1,4 @@
-use Rattle.std.proofs.Common.{arith, ◌≡◌, ◌+◌, ◌-◌, ◌∙◌, ap₂}
+use Rattle.turn_words.proofs.Common.{arith, ◌≡◌, ◌+◌, ◌-◌, ◌∙◌, ap₂}
 use Rattle.turn_words.specs.Recorded.{with_steps}
 use Rattle.turn_words.specs.Private.PutSteps.{pushes}
 use Rattle.turn_words.proofs.Telling.{tells-on, tells-still}

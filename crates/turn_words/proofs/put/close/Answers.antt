@@ -1,5 +1,4 @@
-use Rattle.std.proofs.Common.{arith, ◌≡◌, ◌∙◌, length, ap, sym, ◌++◌, reverse, replicate}
-use Rattle.std.proofs.lemmas.List.{length-reverse}
+use Rattle.turn_words.proofs.Common.{arith, ◌≡◌, ◌∙◌, length, ap, sym, ◌++◌, reverse, replicate, length-reverse}
 use Rattle.turn_words.specs.Private.PutSteps.{close_steps, rewrite_steps, StoodIn}
 use Rattle.turn_words.specs.Private.StoredWords.{last_changed}
 use Rattle.turn_words.specs.declared.put.Rewrite.TheVariants.{Close}

@@ -1,5 +1,4 @@
-use Rattle.std.proofs.Common.{◌≡◌, ◌∙◌, ap, sym, subst, ◌++◌, reverse, replicate}
-use Rattle.std.proofs.lemmas.List.{length-reverse}
+use Rattle.turn_words.proofs.Common.{◌≡◌, ◌∙◌, ap, sym, subst, ◌++◌, reverse, replicate, length-reverse}
 use Rattle.turn_words.specs.Modulo.{minus}
 use Rattle.turn_words.specs.Private.StoredWords.{EndsOtherwise}
 use Rattle.turn_words.proofs.Rewrites.{behind-below, flip-written, flip-noted}

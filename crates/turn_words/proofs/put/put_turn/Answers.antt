@@ -1,5 +1,4 @@
-use Rattle.std.proofs.Common.{sym, reverse}
-use Rattle.std.proofs.lemmas.List.{length-reverse}
+use Rattle.turn_words.proofs.Common.{sym, reverse, length-reverse}
 use Rattle.turn_words.proofs.Rewrites.{spur-noted}
 use Rattle.turn_words.proofs.put.put_turn.Goals as goal
 

@@ -1,5 +1,4 @@
-use Rattle.std.proofs.Common.{◌≡◌, ◌+◌, ◌∙◌, ◌≤◌, ◌++◌, length, take, replicate, ap, arith, rules}
-use Rattle.std.proofs.lemmas.List.{take-replicate}
+use Rattle.turn_words.proofs.Common.{◌≡◌, ◌+◌, ◌∙◌, ◌≤◌, ◌++◌, length, take, replicate, ap, arith, rules, take-replicate}
 use Rattle.std.proofs.Math.Seq.{take-append-add}
 use Rattle.turn_words.proofs.run_word.push_copies.Goals as goal
 

@@ -1,4 +1,4 @@
-use Rattle.std.proofs.Common.{◌≡◌, ◌+◌, ◌++◌, ◌≤◌, replicate, vec_len, vec_capacity}
+use Rattle.turn_words.proofs.Common.{◌≡◌, ◌+◌, ◌++◌, ◌≤◌, replicate, vec_len, vec_capacity}
 use Rattle.turn_words.proofs.run_word.push_copies.Given as goal
 
 abbrev pub invariant-loop : goal.invariant-loop

@@ -1,4 +1,4 @@
-use Rattle.std.proofs.Common.{◌<◌, length, slice_index, ℕ}
+use Rattle.turn_words.proofs.Common.{◌<◌, length, slice_index, ℕ}
 use Rattle.turn_words.proofs.wheel.first_outside.Given as goal
 
 abbrev pub invariant-loop-spoke : goal.invariant-loop-spoke

@@ -1,5 +1,4 @@
-use Rattle.std.proofs.Common.{arith, ◌≡◌, ◌<◌, length, get_or}
-use Rattle.std.proofs.lemmas.List.{get_or_read}
+use Rattle.turn_words.proofs.Common.{arith, ◌≡◌, ◌<◌, length, get_or, get_or_read}
 use Rattle.turn_words.proofs.Filling.{Filling, filling-set, filling-twice, filling-same, filled-inverse}
 use Rattle.turn_words.proofs.wheel.inverse_of.Goals as goal
 use Rattle.turn_words.proofs.wheel.inverse_of.Goals.{then-index-degree, else-index-degree+then-place-twice, else-index-degree+else-place-twice}

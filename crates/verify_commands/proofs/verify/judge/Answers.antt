@@ -1,23 +1,7 @@
-use Rattle.std.proofs.Common.{◌≡◌, ◌<◌, ◌≤◌, ℕ, List, length, sym, ap, subst, ◌∙◌}
-use Rattle.std.specs.Prelude.{Option, Ok, Err}
-use Rattle.std.proofs.lemmas.Result.{err_from_is_err_and}
-use Rattle.surf_io.specs.Files.{Files, file_of}
+use Rattle.verify_commands.proofs.Common.{stops_first, judged_no_fault, only_self, only_then, reads_ended, reads_made, reads_stopped, reads_then, certificate_in, certificate_of, Stops, Certificate, Denial, MOST_BYTES, ◌≡◌, ◌<◌, ◌≤◌, ℕ, List, length, sym, ap, subst, ◌∙◌, err_from_is_err_and, Option, Ok, Err, Files, file_of, head_of_text, denial_left, Streamed, reader_at, IsIn, Belongs, IsAnswer, IsWithin, CertHead, Labels, StreamEnd}
 use Rattle.labellings.specs.declared.denial.Denial as denials
-use Rattle.walk_files.specs.Certificates.{head_of_text}
-use Rattle.walk_files.specs.Readers.{denial_left}
-use Rattle.walk_files.specs.Streams.{Streamed, reader_at, IsIn, Belongs, IsAnswer, IsWithin}
-use Rattle.walk_files.specs.declared.certificate.CertHead.{CertHead}
-use Rattle.walk_files.specs.declared.certificate.CertHead.TheVariants.{Labels}
-use Rattle.walk_files.specs.declared.stream_end.StreamEnd.{StreamEnd}
-use Rattle.commands.specs.Inputs.{certificate_in, certificate_of}
 use Rattle.verify_commands.specs.Progress.{IsVerdictOnFile}
-use Rattle.commands.specs.Stops.{Stops}
 use Rattle.verify_commands.specs.Verify.{judgement}
-use Rattle.commands.specs.declared.certificate.Certificate.{Certificate}
-use Rattle.commands.specs.declared.certificate.Certificate.TheVariants.{Denial}
-use Rattle.commands.specs.declared.inputs.TheConstants.{MOST_BYTES}
-use Rattle.commands.proofs.Checking.{stops_first}
-use Rattle.commands.proofs.Running.{judged_no_fault, only_self, only_then, reads_ended, reads_made, reads_stopped, reads_then}
 use Rattle.verify_commands.proofs.Streaming.{at_told, certificate_passed, certificate_stopped, denial_right, denial_start, denial_wrong, head_answered, told}
 use Rattle.verify_commands.proofs.Verifying.{denial_judged, judged, moves_judged}
 use Rattle.verify_commands.proofs.verify.judge.Goals as goal

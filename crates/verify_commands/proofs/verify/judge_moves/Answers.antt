@@ -1,18 +1,5 @@
-use Rattle.std.proofs.Common.{◌≡◌, ◌+◌, ◌<◌, ◌≤◌, ◌++◌, ℕ, List, [], ◌∷◌, length, refl, sym, ap, subst, ◌∙◌, append_assoc, append-nil, arith}
-use Rattle.std.specs.Prelude.{Option, None, Result, Ok, Err, IfNone}
-use Rattle.std.proofs.lemmas.Result.{err_from_is_err_and}
-use Rattle.surf_io.specs.Files.{Files, file_of}
-use Rattle.surf_model.specs.Moves.{PeakedMoves}
-use Rattle.surf_model.specs.declared.moves.Move.{Move}
-use Rattle.walk_files.specs.Readers.{count_in, next_answer}
-use Rattle.walk_files.specs.Streams.{Streamed, reader_at, IsIn, Belongs, IsAnswer, IsWithin, after_move}
-use Rattle.walk_files.specs.declared.stream_end.StreamEnd.{StreamEnd}
-use Rattle.commands.specs.Inputs.{certificate_of}
+use Rattle.verify_commands.proofs.Common.{only_then, reads_made, reads_stopped, certificate_of, Certificate, Moves, MOST_BYTES, ◌≡◌, ◌+◌, ◌<◌, ◌≤◌, ◌++◌, ℕ, List, [], ◌∷◌, length, refl, sym, ap, subst, ◌∙◌, append_assoc, append-nil, arith, err_from_is_err_and, Option, None, Result, Ok, Err, IfNone, Files, file_of, PeakedMoves, Move, count_in, next_answer, Streamed, reader_at, IsIn, Belongs, IsAnswer, IsWithin, after_move, StreamEnd}
 use Rattle.verify_commands.specs.Progress.{outlook, peak_in}
-use Rattle.commands.specs.declared.certificate.Certificate.{Certificate}
-use Rattle.commands.specs.declared.certificate.Certificate.TheVariants.{Moves}
-use Rattle.commands.specs.declared.inputs.TheConstants.{MOST_BYTES}
-use Rattle.commands.proofs.Running.{only_then, reads_made, reads_stopped}
 use Rattle.verify_commands.proofs.Streaming.{AreFirst, at_told, certificate_passed, certificate_stopped, first_all, first_more, first_none, first_wrong, head_moves, told}
 use Rattle.verify_commands.proofs.verify.judge_moves.Goals as goal
 

@@ -1,8 +1,4 @@
-use Rattle.std.proofs.Common.{◌≡◌, ◌-◌, ◌≤◌, ◌++◌, List, IfSome}
-use Rattle.std.specs.Prelude.{None}
-use Rattle.surf_io.specs.Files.{file_of}
-use Rattle.surf_model.specs.declared.moves.Move.{Move}
-use Rattle.walk_files.specs.Readers.{count_in}
+use Rattle.verify_commands.proofs.Common.{◌≡◌, ◌-◌, ◌≤◌, ◌++◌, List, IfSome, None, file_of, Move, count_in}
 use Rattle.verify_commands.specs.Progress.{outlook}
 use Rattle.verify_commands.proofs.Streaming.{AreFirst}
 use Rattle.verify_commands.proofs.verify.judge_moves.Given as goal

@@ -1,18 +1,8 @@
-use Rattle.std.proofs.Common.{ℕ, List, subst, ◌∙◌, arith}
-use Rattle.std.specs.Prelude.{Option}
-use Rattle.std.proofs.lemmas.Result.{err_from_is_err_and}
-use Rattle.surf_io.specs.Files.{Files}
-use Rattle.surf_model.specs.Walks.{AreWalkPair}
-use Rattle.commands.specs.Checks.{Passes}
-use Rattle.commands.specs.Inputs.{pair_in, walk_at}
-use Rattle.commands.specs.Replies.{Concludes}
-use Rattle.commands.specs.Stops.{Stops}
+use Rattle.verify_commands.proofs.Common.{two_walks, only_then, runs_read, runs_stopped, Passes, pair_in, walk_at, Concludes, Stops, ℕ, List, subst, ◌∙◌, arith, err_from_is_err_and, Option, Files, AreWalkPair}
+use Rattle.commands.proofs.Deciding.{walks_of_pair, at_places}
 use Rattle.verify_commands.specs.Verify as of_verify
 use Rattle.verify_commands.specs.Verify.{judged_file}
 use Rattle.verify_commands.proofs.Verifying.{concluded, walks_stop}
-use Rattle.commands.proofs.Deciding.{walks_of_pair, at_places}
-use Rattle.commands.proofs.Rows.{two_walks}
-use Rattle.commands.proofs.Running.{only_then, runs_read, runs_stopped}
 use Rattle.verify_commands.proofs.verify.verify.Goals as goal
 use Rattle.verify_commands.proofs.verify.verify.Goals.{After-at-2}
 

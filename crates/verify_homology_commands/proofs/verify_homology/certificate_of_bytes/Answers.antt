@@ -1,8 +1,5 @@
-use Rattle.std.proofs.Common.{refl}
-use Rattle.homology_files.specs.HomologyTexts.{cert_of_text}
+use Rattle.verify_homology_commands.proofs.Common.{read_passes, read_stops, tells_no_fault, cert_of_text, refl}
 use Rattle.homology_files.specs.declared.fault.HomologyFault.TheVariants.{OutOfMemory}
-use Rattle.commands.proofs.Checking.{read_passes, read_stops}
-use Rattle.commands.proofs.Running.{tells_no_fault}
 use Rattle.verify_homology_commands.specs.VerifyHomology.{fault_line}
 use Rattle.verify_homology_commands.proofs.verify_homology.certificate_of_bytes.Goals as goal
 

@@ -1,7 +1,5 @@
-use Rattle.std.proofs.Common.{◌≡◌, ℕ, List, sym, subst}
+use Rattle.verify_homology_commands.proofs.Common.{walk_at, IsVerdict, ◌≡◌, ℕ, List, sym, subst}
 use Rattle.std.proofs.lemmas.Option.{get_or_from_slice_get}
-use Rattle.homology.specs.Verdicts.{IsVerdict}
-use Rattle.commands.specs.Inputs.{walk_at}
 use Rattle.verify_homology_commands.proofs.Verifying.{verdict_judged}
 use Rattle.verify_homology_commands.proofs.verify_homology.judge.Goals as goal
 

@@ -1,9 +1,6 @@
-use Rattle.commands.specs.Checks.{file, meant}
-use Rattle.homology_files.specs.HomologyTexts.{cert_of_text}
-use Rattle.verify_homology_commands.specs.VerifyHomology.{fault_line}
+use Rattle.verify_homology_commands.proofs.Common.{next_end, reads_ended, file, meant, cert_of_text}
 use Rattle.commands.specs.declared.refusal.Input.TheVariants.{Certificate}
-use Rattle.commands.proofs.Checking.{next_end}
-use Rattle.commands.proofs.Running.{reads_ended}
+use Rattle.verify_homology_commands.specs.VerifyHomology.{fault_line}
 use Rattle.verify_homology_commands.proofs.verify_homology.read_shown.Goals as goal
 
 pub returns : goal.returns

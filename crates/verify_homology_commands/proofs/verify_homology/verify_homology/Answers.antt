@@ -1,14 +1,8 @@
-use Rattle.std.proofs.Common.{◌∙◌, subst}
-use Rattle.std.specs.Prelude.{Option}
+use Rattle.verify_homology_commands.proofs.Common.{judged_no_fault, only_then, runs_judged, runs_stopped, Passes, pair_in, Stops, ◌∙◌, subst, Option, Files}
 use Rattle.std.proofs.lemmas.Result.{err_from_is_err_and}
-use Rattle.surf_io.specs.Files.{Files}
-use Rattle.commands.specs.Checks.{Passes}
-use Rattle.commands.specs.Inputs.{pair_in}
-use Rattle.commands.specs.Stops.{Stops}
 use Rattle.verify_homology_commands.specs.VerifyHomology.{certificate_in}
 use Rattle.verify_homology_commands.specs.VerifyHomology as of_verify
 use Rattle.verify_homology_commands.proofs.Verifying.{walks_stop, certificate_stops, judged}
-use Rattle.commands.proofs.Running.{judged_no_fault, only_then, runs_judged, runs_stopped}
 use Rattle.verify_homology_commands.proofs.verify_homology.verify_homology.Goals as goal
 
 pub returns-in_err-pair : goal.returns-in_err-pair

@@ -1,4 +1,4 @@
-use Rattle.std.proofs.Common.{true, false}
+use Rattle.walk_files.proofs.Common.{true, false}
 use Rattle.walk_files.proofs.AnswerLines.{homotopic-line, other-line}
 use Rattle.walk_files.proofs.certificate.pass_answer.Goals as goal
 

@@ -1,4 +1,4 @@
-use Rattle.std.proofs.Common.{◌≡◌, length}
+use Rattle.walk_files.proofs.Common.{◌≡◌, length}
 use Rattle.walk_files.specs.LineReads.{IsCountedTo}
 use Rattle.walk_files.proofs.counting.count_darts.Given as goal
 

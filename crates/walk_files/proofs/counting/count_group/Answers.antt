@@ -1,7 +1,5 @@
-use Rattle.std.proofs.Common.{[], ◌∷◌, ◌++◌, length, Err, sym, ap, ◌∙◌, length-append, arith}
-use Rattle.std.proofs.lemmas.Result.{err_from_is_err_and}
-use Rattle.std.proofs.lemmas.Bool.{le-leb}
-use Rattle.text_scan.specs.Each.{each_some}
+use Rattle.walk_files.proofs.Common.{[], ◌∷◌, ◌++◌, length, sym, ap, ◌∙◌, length-append, arith, le-leb, err_from_is_err_and, each_some}
+use Rattle.std.proofs.Common.{Err}
 use Rattle.walk_files.specs.LineReads.{capped}
 use Rattle.walk_files.specs.WalkTexts.{token_of, times, read_tokens}
 use Rattle.walk_files.proofs.TokenLemmas.{closing, rest_of-inside, rest_of-close, closed_with, ends_at-last, length-times, capped-sum, capped-product}

@@ -1,5 +1,5 @@
-use Rattle.std.proofs.Common.{◌≡◌, ℕ, ◌≤◌, List, length}
-use Rattle.std.specs.Prelude.{Some, []}
+use Rattle.walk_files.proofs.Common.{◌≡◌, ℕ, ◌≤◌, List, length, Some}
+use Rattle.std.specs.Prelude.{[]}
 use Rattle.walk_files.specs.LineReads.{capped, rest_of}
 use Rattle.walk_files.specs.WalkTexts.{ends_at}
 use Rattle.walk_files.proofs.counting.count_group.Given as goal

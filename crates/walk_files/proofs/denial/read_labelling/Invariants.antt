@@ -1,5 +1,4 @@
-use Rattle.std.proofs.Common.{length}
-use Rattle.text_scan.specs.Unread.{lines_left}
+use Rattle.walk_files.proofs.Common.{length, lines_left}
 use Rattle.walk_files.proofs.DenialLines.{SoFar}
 use Rattle.walk_files.proofs.denial.read_labelling.Given as goal
 

@@ -1,7 +1,4 @@
-use Rattle.std.proofs.Common.{◌≡◌, ◌+◌, length}
-use Rattle.text_scan.specs.Each.{each_some}
-use Rattle.text_scan.specs.Numbers.{number_of}
-use Rattle.text_scan.proofs.EachLemmas.{before_some}
+use Rattle.walk_files.proofs.Common.{◌≡◌, ◌+◌, length, before_some, each_some, number_of}
 use Rattle.walk_files.proofs.denial.read_places.Given as goal
 
 -- the places so far and the words left are those of the line

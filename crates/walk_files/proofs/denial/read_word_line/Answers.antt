@@ -1,4 +1,4 @@
-use Rattle.std.proofs.Common.{sym, ◌∙◌}
+use Rattle.walk_files.proofs.Common.{sym, ◌∙◌}
 use Rattle.walk_files.proofs.FewLemmas.{few-found}
 use Rattle.walk_files.proofs.denial.read_word_line.Goals as goal
 

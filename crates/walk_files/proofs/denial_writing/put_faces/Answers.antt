@@ -1,13 +1,4 @@
-use Rattle.std.specs.Prelude.{All}
-use Rattle.std.proofs.lemmas.List.{take_all}
-use Rattle.std.proofs.lemmas.List.Elements.{All-nil}
-use Rattle.std.proofs.Common.{subst, ◌∷◌, ap, ◌∙◌, map, arith}
-use Rattle.std.specs.Prelude.{decimal}
-use Rattle.std.proofs.lemmas.Result.{err_from_is_err_and}
-use Rattle.surf_model.specs.Surfaces.{is_flipped}
-use Rattle.labellings.specs.Labellings.{FaceLabels, signs_of}
-use Rattle.text_scan.specs.Plain.{line_of}
-use Rattle.surf_io.proofs.Gathering.{puts-same, each-none, each-more, each-fails, each-all}
+use Rattle.walk_files.proofs.Common.{FaceLabels, signs_of, subst, ◌∷◌, ap, ◌∙◌, map, arith, take_all, All-nil, err_from_is_err_and, All, decimal, puts-same, each-none, each-more, each-fails, each-all, is_flipped, line_of}
 use Rattle.walk_files.specs.DenialTexts.{sign_word, face_words, AreNumbers}
 use Rattle.walk_files.proofs.DenialParts.{face_of_labelling}
 use Rattle.walk_files.proofs.ListLemmas.{all-next}

@@ -1,7 +1,4 @@
-use Rattle.std.proofs.Common.{take}
-use Rattle.std.specs.Prelude.{All}
-use Rattle.text_scan.specs.Plain.{line_of}
-use Rattle.surf_io.proofs.Gathering.{EachPut}
+use Rattle.walk_files.proofs.Common.{take, All, EachPut, line_of}
 use Rattle.walk_files.specs.DenialTexts.{face_words, AreNumbers}
 use Rattle.walk_files.proofs.denial_writing.put_faces.Given as goal
 

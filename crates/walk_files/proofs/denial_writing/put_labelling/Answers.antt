@@ -1,9 +1,4 @@
-use Rattle.std.proofs.Common.{◌++◌, List, ℕ, ap, subst, arith}
-use Rattle.std.specs.Prelude.{flat_map}
-use Rattle.std.proofs.lemmas.Result.{err_from_is_err_and}
-use Rattle.text_scan.specs.Plain.{line_of}
-use Rattle.labellings.specs.Labellings.{FaceLabels}
-use Rattle.surf_io.proofs.Gathering.{on_ok, puts-then, puts-fails, puts-same}
+use Rattle.walk_files.proofs.Common.{FaceLabels, ◌++◌, List, ℕ, ap, subst, arith, err_from_is_err_and, flat_map, on_ok, puts-then, puts-fails, puts-same, line_of}
 use Rattle.walk_files.specs.DenialTexts.{face_words, places_words, labels_head_words, AreNumbers}
 use Rattle.walk_files.proofs.denial_writing.put_labelling.Goals as goal
 

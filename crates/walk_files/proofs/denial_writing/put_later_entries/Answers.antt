@@ -1,8 +1,4 @@
-use Rattle.std.proofs.Common.{drop, ap, subst, arith}
-use Rattle.std.proofs.lemmas.List.{length-drop}
-use Rattle.std.proofs.lemmas.Result.{err_from_is_err_and}
-use Rattle.surf_io.specs.Gathered.{spaced}
-use Rattle.surf_io.proofs.Gathering.{EachPut, puts-same, each-none, each-more, each-fails, each-all}
+use Rattle.walk_files.proofs.Common.{drop, ap, subst, arith, length-drop, err_from_is_err_and, EachPut, puts-same, each-none, each-more, each-fails, each-all, spaced}
 use Rattle.walk_files.proofs.DenialParts.{later_entry, below_next}
 use Rattle.walk_files.proofs.denial_writing.put_later_entries.Goals as goal
 

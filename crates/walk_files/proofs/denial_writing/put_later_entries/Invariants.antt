@@ -1,7 +1,4 @@
-use Rattle.std.proofs.Common.{ℕ, ◌-◌, ◌<◌, ◌^◌, drop}
-use Rattle.std.specs.Prelude.{slice_index}
-use Rattle.surf_io.specs.Gathered.{spaced}
-use Rattle.surf_io.proofs.Gathering.{EachPut}
+use Rattle.walk_files.proofs.Common.{ℕ, ◌-◌, ◌<◌, ◌^◌, drop, slice_index, EachPut, spaced}
 use Rattle.walk_files.proofs.denial_writing.put_later_entries.Given as goal
 
 -- the entries so far, behind the first, were put

@@ -1,4 +1,4 @@
-use Rattle.std.proofs.Common.{arith}
+use Rattle.walk_files.proofs.Common.{arith}
 use Rattle.walk_files.proofs.DenialParts.{small_at_each}
 use Rattle.walk_files.proofs.denial_writing.put_line.Goals as goal
 

@@ -1,8 +1,4 @@
-use Rattle.std.proofs.Common.{◌++◌, ◌∙◌, ap, drop, arith}
-use Rattle.std.specs.Prelude.{flat_map, decimal, slice_index, IsTrue}
-use Rattle.std.proofs.lemmas.Result.{err_from_is_err_and}
-use Rattle.surf_io.specs.Gathered.{spaced}
-use Rattle.surf_io.proofs.Gathering.{on_ok, gathers-put, puts-then, puts-fails, puts-same}
+use Rattle.walk_files.proofs.Common.{◌++◌, ◌∙◌, ap, drop, arith, err_from_is_err_and, flat_map, decimal, slice_index, IsTrue, on_ok, gathers-put, puts-then, puts-fails, puts-same, spaced}
 use Rattle.walk_files.proofs.DenialParts.{first_and_later, small_with_first}
 use Rattle.walk_files.proofs.denial_writing.put_turns.Goals as goal
 

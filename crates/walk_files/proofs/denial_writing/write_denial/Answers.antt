@@ -1,4 +1,4 @@
-use Rattle.surf_io.proofs.Gathering.{on_ok, all-written, part-written}
+use Rattle.walk_files.proofs.Common.{on_ok, all-written, part-written}
 use Rattle.walk_files.proofs.DenialRoundTrip.{denial_of_text-denial_text}
 use Rattle.walk_files.proofs.DenialParts.{reads_back}
 use Rattle.walk_files.proofs.denial_writing.write_denial.Goals as goal

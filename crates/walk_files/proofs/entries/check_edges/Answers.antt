@@ -1,7 +1,4 @@
-use Rattle.std.proofs.Common.{◌≡◌, ◌+◌, false, sym, ap, ◌∙◌, arith}
-use Rattle.std.specs.Prelude.{not, slice_index, is_some, option_map}
-use Rattle.surf_model.specs.FaceLists.{is_edge}
-use Rattle.surf_model.specs.Walks.{darts}
+use Rattle.walk_files.proofs.Common.{◌≡◌, ◌+◌, false, sym, ap, ◌∙◌, arith, not, slice_index, is_some, option_map, is_edge, darts}
 use Rattle.walk_files.specs.declared.entries.EntryFault.TheVariants.{NoEdge}
 use Rattle.walk_files.proofs.EntryLemmas.{first_below-some, first_below-none}
 use Rattle.walk_files.proofs.entries.check_edges.Goals as goal

@@ -1,7 +1,4 @@
-use Rattle.std.proofs.Common.{◌≡◌, ℕ, ◌+◌, ◌<◌, true}
-use Rattle.std.specs.Prelude.{slice_index}
-use Rattle.surf_model.specs.FaceLists.{FaceList, is_edge}
-use Rattle.surf_model.specs.Edges.{IsTableOf}
+use Rattle.walk_files.proofs.Common.{◌≡◌, ℕ, ◌+◌, ◌<◌, true, slice_index, IsTableOf, FaceList, is_edge}
 use Rattle.walk_files.proofs.entries.check_edges.Given as goal
 
 abbrev pub invariant-loop-place : goal.invariant-loop-place

@@ -1,4 +1,4 @@
-use Rattle.std.proofs.Common.{◌≡◌, ◌++◌, take}
+use Rattle.walk_files.proofs.Common.{◌≡◌, ◌++◌, take}
 use Rattle.walk_files.proofs.groups.put_all.Given as goal
 
 abbrev pub invariant-loop-number : goal.invariant-loop-number

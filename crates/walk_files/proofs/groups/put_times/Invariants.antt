@@ -1,4 +1,4 @@
-use Rattle.std.proofs.Common.{◌≡◌, ◌++◌}
+use Rattle.walk_files.proofs.Common.{◌≡◌, ◌++◌}
 use Rattle.walk_files.specs.WalkTexts.{times}
 use Rattle.walk_files.proofs.groups.put_times.Given as goal
 

@@ -1,7 +1,5 @@
-use Rattle.std.proofs.Common.{◌≡◌, ◌≤◌, length}
+use Rattle.walk_files.proofs.Common.{◌≡◌, ◌≤◌, length, sum_by, darts}
 use Rattle.std.specs.Prelude.{[]}
-use Rattle.std.specs.List.{sum_by}
-use Rattle.surf_model.specs.Walks.{darts}
 use Rattle.walk_files.specs.WalkTexts.{walks_behind}
 use Rattle.walk_files.specs.declared.limits.TheConstants.{MOST_DARTS, MOST_LINES}
 use Rattle.walk_files.proofs.groups.read_groups.Given as goal

@@ -1,9 +1,5 @@
-use Rattle.std.proofs.Common.{◌≡◌, ◌≤◌, length}
-use Rattle.surf_model.specs.Vertices.{numbers}
-use Rattle.text_scan.specs.Each.{each_some}
-use Rattle.text_scan.specs.Numbers.{number_of}
+use Rattle.walk_files.proofs.Common.{◌≡◌, ◌≤◌, length, numbers, before_some, each_some, number_of}
 use Rattle.walk_files.specs.declared.limits.TheConstants.{MOST_WALK_VERTICES}
-use Rattle.text_scan.proofs.EachLemmas.{before_some}
 use Rattle.walk_files.proofs.groups.read_vertices.Given as goal
 
 -- the vertices so far and the words left are those of the line

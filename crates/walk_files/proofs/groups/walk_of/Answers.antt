@@ -1,6 +1,5 @@
-use Rattle.std.proofs.Common.{◌∙◌, Ok, inl, ap, sym, arith}
-use Rattle.std.proofs.lemmas.List.{length-map}
-use Rattle.surf_model.specs.Vertices.{numbers}
+use Rattle.walk_files.proofs.Common.{◌∙◌, inl, ap, sym, arith, length-map, numbers}
+use Rattle.std.proofs.Common.{Ok}
 use Rattle.surf_model.specs.declared.names.VertexName.{VertexName}
 use Rattle.walk_files.proofs.PlainLines.{plain_long, plain_short}
 use Rattle.walk_files.proofs.groups.walk_of.Goals as goal

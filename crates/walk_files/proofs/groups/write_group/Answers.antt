@@ -1,8 +1,8 @@
-use Rattle.std.proofs.Common.{◌≡◌, ◌++◌, length, Err, sym, ap, ◌∙◌, arith}
-use Rattle.text_scan.specs.Each.{each_some}
+use Rattle.walk_files.proofs.Common.{◌≡◌, ◌++◌, length, sym, ap, ◌∙◌, arith, None, Some, each_some}
+use Rattle.std.proofs.Common.{Err}
+use Rattle.std.specs.Prelude.{[]}
 use Rattle.walk_files.specs.LineReads.{rest_of}
 use Rattle.walk_files.specs.WalkTexts.{token_of, times, read_tokens}
-use Rattle.std.specs.Prelude.{None, Some, []}
 use Rattle.walk_files.proofs.TokenLemmas.{closing, rest_of-close, group_closed, room_left}
 use Rattle.walk_files.proofs.groups.write_group.Goals as goal
 

@@ -1,5 +1,5 @@
-use Rattle.std.proofs.Common.{◌≡◌, ℕ, ◌≤◌, length}
-use Rattle.std.specs.Prelude.{Some, []}
+use Rattle.walk_files.proofs.Common.{◌≡◌, ℕ, ◌≤◌, length, Some}
+use Rattle.std.specs.Prelude.{[]}
 use Rattle.walk_files.specs.LineReads.{rest_of}
 use Rattle.walk_files.proofs.groups.write_group.Given as goal
 

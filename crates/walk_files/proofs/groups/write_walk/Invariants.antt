@@ -1,5 +1,4 @@
-use Rattle.std.proofs.Common.{◌≡◌, ℕ, length}
-use Rattle.std.specs.Prelude.{None}
+use Rattle.walk_files.proofs.Common.{◌≡◌, ℕ, length, None}
 use Rattle.walk_files.specs.LineReads.{walk_on, put_before, rest_of}
 use Rattle.walk_files.proofs.groups.write_walk.Given as goal
 

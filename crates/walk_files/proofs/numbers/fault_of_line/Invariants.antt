@@ -1,4 +1,4 @@
-use Rattle.std.proofs.Common.{◌≡◌, ◌+◌, length}
+use Rattle.walk_files.proofs.Common.{◌≡◌, ◌+◌, length}
 use Rattle.walk_files.proofs.numbers.fault_of_line.Given as goal
 
 -- as many words were read as the room has shrunk

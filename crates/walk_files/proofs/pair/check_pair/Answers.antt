@@ -1,7 +1,4 @@
-use Rattle.std.proofs.Common.{sym, ap, ◌∙◌}
-use Rattle.std.specs.Prelude.{Some}
-use Rattle.std.specs.Result.{result_err}
-use Rattle.std.proofs.lemmas.Result.{err_from_is_err_and}
+use Rattle.walk_files.proofs.Common.{sym, ap, ◌∙◌, err_from_is_err_and, Some, result_err}
 use Rattle.walk_files.specs.declared.pair.PairFault.TheVariants.{NotTwo}
 use Rattle.walk_files.specs.Pairs.{of_entry, ends_fault}
 use Rattle.walk_files.proofs.PairLemmas.{says_pair}

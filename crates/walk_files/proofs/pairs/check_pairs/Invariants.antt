@@ -1,7 +1,4 @@
-use Rattle.std.proofs.Common.{◌≡◌, ◌+◌, ◌*◌, drop}
-use Rattle.std.specs.Prelude.{None}
-use Rattle.surf_model.specs.FaceLists.{FaceList}
-use Rattle.surf_model.specs.Edges.{IsTableOf}
+use Rattle.walk_files.proofs.Common.{◌≡◌, ◌+◌, ◌*◌, drop, None, IsTableOf, FaceList}
 use Rattle.walk_files.specs.Entries.{walks_fault}
 use Rattle.walk_files.specs.PairLists.{in_pairs, pairs_ends_fault}
 use Rattle.walk_files.proofs.pairs.check_pairs.Given as goal

@@ -1,9 +1,4 @@
-use Rattle.std.proofs.Common.{◌<◌, ◌^◌, ℕ, List, length, sym, ap, ◌∙◌, subst}
-use Rattle.std.specs.Prelude.{Ok, Err}
-use Rattle.std.proofs.lemmas.Result.{err_from_is_err_and}
-use Rattle.surf_io.specs.Files.{file_of}
-use Rattle.text_scan.specs.Lines.{full_lines, end_line}
-use Rattle.text_scan.specs.Unread.{lines_left}
+use Rattle.walk_files.proofs.Common.{◌<◌, ◌^◌, ℕ, List, length, sym, ap, ◌∙◌, subst, err_from_is_err_and, Ok, Err, file_of, full_lines, end_line, lines_left}
 use Rattle.walk_files.specs.Denials.{AreFew, denial_in, unlabelled}
 use Rattle.walk_files.specs.StreamEnds.{end_of_text}
 use Rattle.walk_files.proofs.FewLemmas.{full_lines-few}

@@ -1,4 +1,4 @@
-use Rattle.text_scan.specs.Unread.{words_here}
+use Rattle.walk_files.proofs.Common.{words_here}
 use Rattle.walk_files.proofs.StreamLemmas.{short_words}
 use Rattle.walk_files.proofs.stream_lines.at_words.Goals as goal
 

@@ -1,7 +1,4 @@
-use Rattle.std.proofs.Common.{refl}
-use Rattle.std.specs.Prelude.{Ok, Err}
-use Rattle.surf_io.specs.Files.{file_of}
-use Rattle.text_scan.specs.Unread.{words_here}
+use Rattle.walk_files.proofs.Common.{refl, Ok, Err, file_of, words_here}
 use Rattle.walk_files.proofs.StreamLemmas.{next_answered, next_leaves, answers_refused}
 use Rattle.walk_files.proofs.WholeLineLemmas.{move_answered}
 use Rattle.walk_files.proofs.stream_lines.read_next_move.Goals as goal

@@ -1,7 +1,5 @@
-use Rattle.std.proofs.Common.{Option, refl, ap}
-use Rattle.std.specs.Prelude.{Err}
-use Rattle.surf_io.specs.Files.{Files, file_of}
-use Rattle.text_scan.specs.Unread.{words_here}
+use Rattle.walk_files.proofs.Common.{refl, ap, Err, Files, file_of, words_here}
+use Rattle.std.proofs.Common.{Option}
 use Rattle.walk_files.proofs.StreamLemmas.{first_answered, second_answered, answers_refused}
 use Rattle.walk_files.proofs.stream_lines.read_stream_head.Goals as goal
 

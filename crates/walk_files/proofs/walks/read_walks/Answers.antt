@@ -1,5 +1,4 @@
-use Rattle.std.proofs.Common.{drop, sym, ap, ◌∙◌}
-use Rattle.text_scan.specs.Unread.{LinesLeft}
+use Rattle.walk_files.proofs.Common.{drop, sym, ap, ◌∙◌, LinesLeft}
 use Rattle.walk_files.proofs.HeaderLemmas.{next_behind, as_groups, as_plain}
 use Rattle.walk_files.proofs.walks.read_walks.Goals as goal
 

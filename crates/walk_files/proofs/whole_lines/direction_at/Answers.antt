@@ -1,4 +1,4 @@
-use Rattle.std.proofs.Common.{arith, refl, true, false}
+use Rattle.walk_files.proofs.Common.{arith, refl, true, false}
 use Rattle.walk_files.proofs.WholeLineLemmas.{direction_first}
 use Rattle.walk_files.proofs.whole_lines.direction_at.Goals as goal
 

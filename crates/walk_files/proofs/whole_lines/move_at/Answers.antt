@@ -1,6 +1,4 @@
-use Rattle.std.proofs.Common.{arith, refl}
-use Rattle.std.proofs.lemmas.Option.{IfSome_then}
-use Rattle.surf_model.specs.declared.moves.Move.TheVariants.{Insert, Remove}
+use Rattle.walk_files.proofs.Common.{arith, refl, IfSome_then, Insert, Remove}
 use Rattle.walk_files.specs.Certificates.{spur_of, across_of}
 use Rattle.walk_files.proofs.WholeLineLemmas.{move_first}
 use Rattle.walk_files.proofs.whole_lines.move_at.Goals as goal

@@ -1,4 +1,4 @@
-use Rattle.std.proofs.Common.{arith}
+use Rattle.walk_files.proofs.Common.{arith}
 use Rattle.walk_files.proofs.WholeLineLemmas.{line_with_feed, line_with_return}
 use Rattle.walk_files.proofs.whole_lines.move_line.Goals as goal
 

@@ -1,4 +1,4 @@
-use Rattle.std.proofs.Common.{◌+◌, ◌*◌, sym, subst, arith}
+use Rattle.walk_files.proofs.Common.{◌+◌, ◌*◌, sym, subst, arith}
 use Rattle.walk_files.proofs.WholeLineLemmas.{PastDigits, after_head, no_digits, one_digit, number_first}
 use Rattle.walk_files.proofs.whole_lines.number_at.Goals as goal
 

@@ -1,4 +1,4 @@
-use Rattle.std.proofs.Common.{length}
+use Rattle.walk_files.proofs.Common.{length}
 use Rattle.walk_files.proofs.WholeLineLemmas.{PastDigits}
 use Rattle.walk_files.proofs.whole_lines.number_at.Given as goal
 

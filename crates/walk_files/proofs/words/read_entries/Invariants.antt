@@ -1,9 +1,6 @@
-use Rattle.std.proofs.Common.{◌≡◌, ◌+◌, length}
-use Rattle.text_scan.specs.Each.{each_some}
-use Rattle.text_scan.specs.Numbers.{number_of}
+use Rattle.walk_files.proofs.Common.{◌≡◌, ◌+◌, length, before_some, each_some, number_of}
 use Rattle.walk_files.specs.NumberTexts.{entries_of}
 use Rattle.walk_files.specs.declared.limits.TheConstants.{MOST_ENTRIES}
-use Rattle.text_scan.proofs.EachLemmas.{before_some}
 use Rattle.walk_files.proofs.words.read_entries.Given as goal
 
 -- the entries so far and the words left are those of the line

@@ -1,6 +1,5 @@
-use Rattle.std.proofs.Common.{rules, ◌≡◌, ◌++◌, [], ◌∷◌, Ok, ◌∙◌}
-use Rattle.text_scan.specs.Each.{ok_first}
-use Rattle.text_scan.proofs.EachLemmas.{before_ok-more}
+use Rattle.walk_files.proofs.Common.{rules, ◌≡◌, ◌++◌, [], ◌∷◌, ◌∙◌, before_ok-more, ok_first}
+use Rattle.std.proofs.Common.{Ok}
 use Rattle.walk_files.specs.NumberLists.{NumberLine}
 use Rattle.walk_files.proofs.words.read_words.Goals as goal
 

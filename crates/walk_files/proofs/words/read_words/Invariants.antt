@@ -1,5 +1,4 @@
-use Rattle.std.proofs.Common.{◌≡◌, []}
-use Rattle.text_scan.proofs.EachLemmas.{before_ok}
+use Rattle.walk_files.proofs.Common.{◌≡◌, [], before_ok}
 use Rattle.walk_files.specs.NumberTexts.{words_of}
 use Rattle.walk_files.proofs.words.read_words.Given as goal
 

@@ -1,11 +1,4 @@
-use Rattle.std.proofs.Common.{◌≡◌, ◌++◌, List, ℕ, ap, sym, ◌∙◌, subst, arith}
-use Rattle.std.specs.Prelude.{All}
-use Rattle.std.proofs.lemmas.List.{take_all}
-use Rattle.std.proofs.lemmas.List.Elements.{All-nil}
-use Rattle.std.proofs.lemmas.List.Folds.{flat_map-map}
-use Rattle.std.proofs.lemmas.Result.{err_from_is_err_and}
-use Rattle.text_scan.specs.Plain.{line_of}
-use Rattle.surf_io.proofs.Gathering.{only-none, gathers-none, gathers-put, puts-then, puts-same, each-none, each-more, each-stops, each-all}
+use Rattle.walk_files.proofs.Common.{◌≡◌, ◌++◌, List, ℕ, ap, sym, ◌∙◌, subst, arith, take_all, All-nil, flat_map-map, err_from_is_err_and, All, only-none, gathers-none, gathers-put, puts-then, puts-same, each-none, each-more, each-stops, each-all, line_of}
 use Rattle.walk_files.specs.MoveTexts.{head_words, move_words, MoveFits}
 use Rattle.walk_files.proofs.ListLemmas.{all-next}
 use Rattle.walk_files.proofs.MoveLines.{move_line}

@@ -1,6 +1,4 @@
-use Rattle.std.proofs.Common.{take}
-use Rattle.std.specs.Prelude.{All}
-use Rattle.surf_io.proofs.Gathering.{EachPut}
+use Rattle.walk_files.proofs.Common.{take, All, EachPut}
 use Rattle.walk_files.specs.MoveTexts.{MoveFits}
 use Rattle.walk_files.proofs.MoveLines.{move_line}
 use Rattle.walk_files.proofs.write.put_list.Given as goal

@@ -1,4 +1,4 @@
-use Rattle.surf_io.proofs.Gathering.{on_ok, all-written, part-written}
+use Rattle.walk_files.proofs.Common.{on_ok, all-written, part-written}
 use Rattle.surf_io.proofs.Appending.{on_err}
 use Rattle.walk_files.proofs.RoundTrip.{list_of_text-list_text}
 use Rattle.walk_files.proofs.write.write_moves.Goals as goal

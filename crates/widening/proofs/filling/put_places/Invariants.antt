@@ -1,4 +1,4 @@
-use Rattle.std.proofs.Common.{◌≡◌, take}
+use Rattle.widening.proofs.Common.{◌≡◌, take}
 use Rattle.widening.proofs.filling.put_places.Given as goal
 
 abbrev pub invariant-loop-place : goal.invariant-loop-place

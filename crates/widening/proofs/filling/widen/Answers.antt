@@ -1,11 +1,4 @@
-use Rattle.std.proofs.Common.{◌≡◌, ◌<◌, ℕ, List, length, take, replicate, ap, sym, ◌∙◌, subst, arith}
-use Rattle.std.proofs.lemmas.Bool.{both_ways}
-use Rattle.std.proofs.lemmas.List.{take-replicate}
-use Rattle.surf_model.specs.FaceLists.{face_at}
-use Rattle.surf_model.specs.ComponentParts.{component_at}
-use Rattle.manifold_check.proofs.PieceLemmas.{IsPiece}
-use Rattle.manifold_check.proofs.PartPieces.{IsOfComponent, piece_of_parts}
-use Rattle.labellings.specs.Labellings.{LabellingView, labels_at}
+use Rattle.widening.proofs.Common.{LabellingView, labels_at, IsOfComponent, piece_of_parts, IsPiece, ◌≡◌, ◌<◌, ℕ, List, length, take, replicate, ap, sym, ◌∙◌, subst, arith, both_ways, take-replicate, component_at, face_at}
 use Rattle.widening.specs.Widened.{IsWidened}
 use Rattle.widening.proofs.WidenedLemmas.{Widening, good_widened}
 use Rattle.widening.proofs.WidenedPaths.{path_alike}

@@ -1,4 +1,4 @@
-use Rattle.surf_model.specs.ComponentParts.{component_at}
+use Rattle.widening.proofs.Common.{component_at}
 use Rattle.widening.proofs.WideningLemmas.{IsWidenedUpTo}
 use Rattle.widening.proofs.filling.widen.Given as goal
 

@@ -1,5 +1,4 @@
-use Rattle.std.proofs.Common.{ℕ, ◌<◌, ◌≤◌, length}
-use Rattle.surf_model.specs.FaceLists.{face_at}
+use Rattle.widening.proofs.Common.{ℕ, ◌<◌, ◌≤◌, length, face_at}
 use Rattle.widening.proofs.filling.zeros.Given as goal
 
 abbrev pub invariant-loop-face : goal.invariant-loop-face

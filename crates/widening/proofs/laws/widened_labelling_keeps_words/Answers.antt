@@ -1,4 +1,4 @@
-use Rattle.manifold_check.proofs.PartPieces.{piece_of_parts}
+use Rattle.widening.proofs.Common.{piece_of_parts}
 use Rattle.widening.proofs.WidenedPaths.{word_alike}
 use Rattle.widening.proofs.laws.widened_labelling_keeps_words.Goals as goal
 

@@ -1,4 +1,4 @@
-use Rattle.std.proofs.Common.{◌≡◌, ◌<◌, ap, arith}
+use Rattle.chain_pool.proofs.Common.{◌≡◌, ◌<◌, ap, arith}
 use Rattle.chain_pool.specs.Memory.{PartedChains, chains_of}
 use Rattle.chain_pool.proofs.Edits.{cut_edits}
 use Rattle.chain_pool.proofs.Soundness.{few}

@@ -1,4 +1,4 @@
-use Rattle.std.proofs.Common.{◌≡◌, length, ap, arith}
+use Rattle.chain_pool.proofs.Common.{◌≡◌, length, ap, arith}
 use Rattle.chain_pool.specs.Memory.{Parted, PartedChains, chains_of}
 use Rattle.chain_pool.specs.Chains.{under}
 use Rattle.chain_pool.proofs.Heads.{drop_sound}

@@ -1,4 +1,4 @@
-use Rattle.std.proofs.Common.{sym, ◌∙◌}
+use Rattle.chain_pool.proofs.Common.{sym, ◌∙◌}
 use Rattle.chain_pool.proofs.Places.{SameLists-refl, SameLists-done}
 use Rattle.chain_pool.proofs.cells.Cells.go_to.Goals as goal
 

@@ -1,4 +1,4 @@
-use Rattle.std.proofs.Common.{◌≡◌, ap, arith}
+use Rattle.chain_pool.proofs.Common.{◌≡◌, ap, arith}
 use Rattle.chain_pool.specs.Memory.{PartedChains, chains_of}
 use Rattle.chain_pool.proofs.Soundness.{few}
 use Rattle.chain_pool.proofs.Writes.{before_len, behind_len}

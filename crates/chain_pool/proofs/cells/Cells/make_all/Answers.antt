@@ -1,4 +1,4 @@
-use Rattle.std.proofs.Common.{◌∙◌}
+use Rattle.chain_pool.proofs.Common.{◌∙◌}
 use Rattle.chain_pool.proofs.cells.Cells.make_all.Goals as goal
 
 pub loop-self-preserved : goal.loop-self-preserved

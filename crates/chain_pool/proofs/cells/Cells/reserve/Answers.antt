@@ -1,5 +1,4 @@
-use Rattle.std.proofs.Common.{◌≡◌, ◌≤◌, List, Option, count_by, is_some, ap, ◌∙◌, arith}
-use Rattle.slab.specs.Slab.{Slab}
+use Rattle.chain_pool.proofs.Common.{Slab, ◌≡◌, ◌≤◌, List, Option, count_by, is_some, ap, ◌∙◌, arith}
 use Rattle.chain_pool.specs.Chains.{cells_in}
 use Rattle.chain_pool.specs.Memory.{PartedChains, chains_of, joined_lists}
 use Rattle.chain_pool.specs.declared.cells.Cell.{Cell}

@@ -1,4 +1,4 @@
-use Rattle.std.proofs.Common.{◌<◌, arith}
+use Rattle.chain_pool.proofs.Common.{◌<◌, arith}
 use Rattle.chain_pool.proofs.Going.{IsGoing-start, going_on, going_back, gone, right_top, left_top, both_now, few_now}
 use Rattle.chain_pool.proofs.Writes.{once_written}
 use Rattle.chain_pool.proofs.cells.Cells.travel.Goals as goal

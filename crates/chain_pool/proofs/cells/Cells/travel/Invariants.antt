@@ -1,4 +1,4 @@
-use Rattle.std.proofs.Common.{◌≤◌, ◌-◌}
+use Rattle.chain_pool.proofs.Common.{◌≤◌, ◌-◌}
 use Rattle.chain_pool.proofs.Going.{IsGoing}
 use Rattle.chain_pool.proofs.cells.Cells.travel.Given as goal
 

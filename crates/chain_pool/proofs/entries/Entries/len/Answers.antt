@@ -1,4 +1,4 @@
-use Rattle.std.proofs.Common.{List, ℕ, length, sym, ap, ◌∙◌}
+use Rattle.chain_pool.proofs.Common.{List, ℕ, length, sym, ap, ◌∙◌}
 use Rattle.chain_pool.specs.Memory.{memory_of}
 use Rattle.chain_pool.proofs.Reading.{length-stack}
 use Rattle.chain_pool.proofs.entries.Entries.len.Goals as goal

@@ -1,4 +1,4 @@
-use Rattle.std.proofs.Common.{ℕ, sym, ap, ◌∙◌, arith, rules}
+use Rattle.chain_pool.proofs.Common.{ℕ, sym, ap, ◌∙◌, arith, rules}
 use Rattle.chain_pool.specs.Memory.{memory_of, values}
 use Rattle.chain_pool.proofs.Reading.{first_entry, rest_stack, values-first}
 use Rattle.chain_pool.proofs.Stacks.{values-none}

@@ -1,4 +1,4 @@
-use Rattle.std.proofs.Common.{◌≡◌, ℕ, Option, is_some, ap, subst, sym, arith}
+use Rattle.chain_pool.proofs.Common.{◌≡◌, ℕ, Option, is_some, ap, subst, sym, arith}
 use Rattle.chain_pool.specs.Chains.{Chains}
 use Rattle.chain_pool.specs.Memory.{Parted}
 use Rattle.chain_pool.proofs.Lists.{IsCutTo, IsCutTo-none, IsCutTo-more, IsCutTo-done, IsCutTo-behind, IsCutTo-nothing}

@@ -1,5 +1,4 @@
-use Rattle.std.proofs.Common.{◌≡◌, ◌+◌, ℕ, List, get_or, ap, ◌∙◌, refl, arith}
-use Rattle.std.proofs.lemmas.List.{get_or-drop}
+use Rattle.chain_pool.proofs.Common.{◌≡◌, ◌+◌, ℕ, List, get_or, ap, ◌∙◌, refl, arith, get_or-drop}
 use Rattle.chain_pool.specs.Chains.{Chains, list_under}
 use Rattle.chain_pool.specs.Memory.{Parted}
 use Rattle.chain_pool.proofs.Lists.{IsCutTo, IsCutTo-none, IsCutTo-nothing}

@@ -1,4 +1,4 @@
-use Rattle.std.proofs.Common.{ℕ, List, Option, None, ap, subst, sym, ◌∙◌}
+use Rattle.chain_pool.proofs.Common.{ℕ, List, Option, None, ap, subst, sym, ◌∙◌}
 use Rattle.chain_pool.specs.Chains.{Chains, IsEdit, list_under}
 use Rattle.chain_pool.specs.Memory.{joined_lists}
 use Rattle.chain_pool.proofs.Lists.{list_in, list_under-is, edit_twice}

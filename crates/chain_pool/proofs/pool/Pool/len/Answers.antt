@@ -1,5 +1,4 @@
-use Rattle.std.proofs.Common.{List, ℕ, ap, sym, ◌∙◌}
-use Rattle.std.proofs.Common.{length}
+use Rattle.chain_pool.proofs.Common.{List, ℕ, ap, sym, ◌∙◌, length}
 use Rattle.chain_pool.specs.Chains.{Chains}
 use Rattle.chain_pool.specs.Memory.{parted_under}
 use Rattle.chain_pool.proofs.Lists.{list_in}

@@ -1,5 +1,4 @@
-use Rattle.std.proofs.Common.{sym, ◌∙◌, ap}
-use Rattle.std.specs.Option.{option_map}
+use Rattle.commands.proofs.Common.{sym, ◌∙◌, ap, option_map}
 use Rattle.commands.specs.Limits.{over_line}
 use Rattle.commands.proofs.limits.Limits.check.Goals as goal
 

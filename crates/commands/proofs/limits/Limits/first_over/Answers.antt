@@ -1,4 +1,4 @@
-use Rattle.std.proofs.Common.{◌+◌, arith}
+use Rattle.commands.proofs.Common.{◌+◌, arith}
 use Rattle.commands.proofs.LimitLemmas.{darts_over, nothing_over, sides_over}
 use Rattle.commands.proofs.limits.Limits.first_over.Goals as goal
 

@@ -1,5 +1,4 @@
-use Rattle.std.proofs.Common.{◌≡◌, ℕ, ◌+◌, ◌-◌, ◌<◌, ◌++◌, ◌∷◌, [], List, length, take, drop, get_or, ap, sym, ◌∙◌, arith}
-use Rattle.std.proofs.lemmas.List.{drop-take, get_or-drop, length-drop, take_more}
+use Rattle.common_ends.proofs.Common.{◌≡◌, ℕ, ◌+◌, ◌-◌, ◌<◌, ◌++◌, ◌∷◌, [], List, length, take, drop, get_or, ap, sym, ◌∙◌, arith, drop-take, get_or-drop, length-drop, take_more}
 use Rattle.common_ends.proofs.common_darts.CommonDarts.between.Goals as goal
 
 pub loop-done-preserved : goal.loop-done-preserved

@@ -1,4 +1,4 @@
-use Rattle.std.proofs.Common.{◌≡◌, ◌+◌, take, drop}
+use Rattle.common_ends.proofs.Common.{◌≡◌, ◌+◌, take, drop}
 use Rattle.common_ends.proofs.common_darts.CommonDarts.between.Given as goal
 
 abbrev pub invariant-loop-done : goal.invariant-loop-done

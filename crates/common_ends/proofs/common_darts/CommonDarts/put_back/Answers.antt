@@ -1,6 +1,4 @@
-use Rattle.std.proofs.Common.{◌≡◌, ◌+◌, ℕ, List, ap, sym, ◌∙◌, arith}
-use Rattle.surf_model.specs.Rewriting.{all_raised}
-use Rattle.surf_model.specs.declared.moves.Move.{Move}
+use Rattle.common_ends.proofs.Common.{◌≡◌, ◌+◌, ℕ, List, ap, sym, ◌∙◌, arith, all_raised, Move}
 use Rattle.common_ends.proofs.TrimLemmas.{raised_nowhere}
 use Rattle.common_ends.proofs.common_darts.CommonDarts.put_back.Goals as goal
 

@@ -1,6 +1,4 @@
-use Rattle.std.proofs.Common.{◌≡◌, List, ℕ, length, sym, ap, ◌∙◌, subst, arith}
-use Rattle.std.specs.Vec.{with_items}
-use Rattle.std.proofs.lemmas.List.{with_items_is}
+use Rattle.connectivity.proofs.Common.{◌≡◌, List, ℕ, length, sym, ap, ◌∙◌, subst, arith, with_items_is, with_items}
 use Rattle.connectivity.specs.Classes.{AreLeastMembers, roots_of}
 use Rattle.connectivity.proofs.Forests.{length-roots_of, roots_are_least}
 use Rattle.connectivity.proofs.classes.Classes.into_least.Goals as goal

@@ -1,5 +1,4 @@
-use Rattle.std.proofs.Common.{◌≡◌}
-use Rattle.std.specs.List.{range_with_len}
+use Rattle.connectivity.proofs.Common.{◌≡◌, range_with_len}
 use Rattle.connectivity.proofs.classes.Classes.new.Given as goal
 
 abbrev pub invariant-loop-number : goal.invariant-loop-number

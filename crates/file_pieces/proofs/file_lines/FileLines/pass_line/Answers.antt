@@ -1,4 +1,4 @@
-use Rattle.std.proofs.Common.{◌≡◌, ◌+◌, drop, ap, ◌∙◌}
+use Rattle.file_pieces.proofs.Common.{◌≡◌, ◌+◌, drop, ap, ◌∙◌}
 use Rattle.file_pieces.specs.FileLines.{LinesReading}
 use Rattle.file_pieces.proofs.KeptLines.{pass_line-reads, passes_line}
 use Rattle.file_pieces.proofs.file_lines.FileLines.pass_line.Goals as goal

@@ -1,5 +1,4 @@
-use Rattle.std.proofs.Common.{◌≡◌, ◌+◌, ◌-◌, ◌≤◌, ◌++◌, length, IfSome, if◌then◌else◌}
-use Rattle.surf_io.specs.Files.{file_of}
+use Rattle.file_pieces.proofs.Common.{◌≡◌, ◌+◌, ◌-◌, ◌≤◌, ◌++◌, length, IfSome, if◌then◌else◌, file_of}
 use Rattle.file_pieces.specs.Reading.{Reads, left_of, read_so_far}
 use Rattle.file_pieces.proofs.pieces.Pieces.gather_rest.Given as goal
 

@@ -1,5 +1,4 @@
-use Rattle.std.proofs.Common.{◌≡◌, ℕ, List, Option, false, IfSome, refl, ap, subst, ◌∙◌, arith, rules}
-use Rattle.surf_io.specs.Files.{Files, file_of}
+use Rattle.file_pieces.proofs.Common.{◌≡◌, ℕ, List, Option, false, IfSome, refl, ap, subst, ◌∙◌, arith, rules, Files, file_of}
 use Rattle.file_pieces.specs.Reading.{Reading, Reads}
 use Rattle.file_pieces.proofs.ReadingLemmas.{told, at_told, pass_kept-reads}
 use Rattle.file_pieces.proofs.pieces.Pieces.pass_rest.Goals as goal

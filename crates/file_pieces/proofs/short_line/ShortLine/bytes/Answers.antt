@@ -1,7 +1,5 @@
-use Rattle.std.proofs.Common.{◌≡◌, ap, ◌∙◌, subst}
+use Rattle.file_pieces.proofs.Common.{◌≡◌, ap, ◌∙◌, subst, is_filled, full_lines, words_here}
 use Rattle.std.specs.Prelude.{cond, [], ◌∷◌}
-use Rattle.text_scan.specs.Lines.{is_filled, full_lines}
-use Rattle.text_scan.specs.Unread.{words_here}
 use Rattle.file_pieces.specs.ShortLines.{ShortText}
 use Rattle.file_pieces.proofs.ShortLemmas.{own_line}
 use Rattle.file_pieces.proofs.short_line.ShortLine.bytes.Goals as goal

@@ -1,6 +1,4 @@
-use Rattle.std.proofs.Common.{◌≡◌, ◌+◌, ℕ, List, true, [], ◌∷◌, ◌++◌, length, eqb, refl, ap, ◌∙◌, subst, sym}
-use Rattle.std.proofs.lemmas.Bool.{eqb-true}
-use Rattle.text_scan.specs.Lines.{is_filled}
+use Rattle.file_pieces.proofs.Common.{◌≡◌, ◌+◌, ℕ, List, true, [], ◌∷◌, ◌++◌, length, eqb, refl, ap, ◌∙◌, subst, sym, eqb-true, is_filled}
 use Rattle.file_pieces.specs.ShortLines.{ShortText, HasEnded}
 use Rattle.file_pieces.proofs.ShortLemmas.{has_ended, none_ended, short_ended, filled_word}
 use Rattle.file_pieces.proofs.short_line.ShortLine.end_word.Goals as goal

@@ -1,4 +1,4 @@
-use Rattle.std.proofs.Common.{rules}
+use Rattle.file_pieces.proofs.Common.{rules}
 use Rattle.file_pieces.proofs.ShortLemmas.{finish_closed, finish_word}
 use Rattle.file_pieces.proofs.short_line.ShortLine.finish.Goals as goal
 

@@ -1,4 +1,4 @@
-use Rattle.std.proofs.Common.{◌≡◌, ℕ, List, false, [], ◌∷◌, ◌++◌, refl, ap, ◌∙◌}
+use Rattle.file_pieces.proofs.Common.{◌≡◌, ℕ, List, false, [], ◌∷◌, ◌++◌, refl, ap, ◌∙◌}
 use Rattle.file_pieces.proofs.ShortLemmas.{starts_short, starts_standing}
 use Rattle.file_pieces.proofs.short_line.ShortLine.new.Goals as goal
 

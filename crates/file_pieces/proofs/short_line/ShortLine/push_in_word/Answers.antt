@@ -1,6 +1,4 @@
-use Rattle.std.proofs.Common.{◌∷◌, ◌++◌, ap, subst, ◌∙◌}
-use Rattle.std.proofs.lemmas.Bool.{both_ways}
-use Rattle.text_scan.specs.Unread.{words_here}
+use Rattle.file_pieces.proofs.Common.{◌∷◌, ◌++◌, ap, subst, ◌∙◌, both_ways, words_here}
 use Rattle.file_pieces.specs.SameLines.{SameLine}
 use Rattle.file_pieces.specs.ShortLines.{ShortText}
 use Rattle.file_pieces.proofs.ShortLemmas.{goes_on}

@@ -1,6 +1,4 @@
-use Rattle.std.proofs.Common.{◌≡◌, ◌<◌, ℕ, get_or}
-use Rattle.surf_model.specs.Edges.{edge_in}
-use Rattle.surf_model.specs.declared.edges.Side.{Side}
+use Rattle.free_forms.proofs.Common.{◌≡◌, ◌<◌, ℕ, get_or, edge_in, Side}
 use Rattle.free_forms.proofs.open_mesh.OpenMesh.parent_between.Given as goal
 
 abbrev pub invariant-loop-k : goal.invariant-loop-k

@@ -1,4 +1,4 @@
-use Rattle.surf_model.specs.FaceLists.{total_sides}
+use Rattle.halfedge_map.proofs.Common.{total_sides}
 use Rattle.halfedge_map.specs.OrientedMeshes.{OrientedMesh}
 use Rattle.halfedge_map.specs.DartMaps.{used_vertices}
 use Rattle.halfedge_map.proofs.StoringLemmas.{nexts_signed, origins_signed}

@@ -1,6 +1,4 @@
-use Rattle.std.proofs.Common.{◌≢◌, ◌<◌, length, sym, ◌∙◌, subst}
-use Rattle.std.proofs.lemmas.Bool.{eqb-true, eq-eqb, both_ways}
-use Rattle.surf_model.specs.Edges.{HasEnds, edge_in}
+use Rattle.halfedge_map.proofs.Common.{◌≢◌, ◌<◌, length, sym, ◌∙◌, subst, eqb-true, eq-eqb, both_ways, HasEnds, edge_in}
 use Rattle.halfedge_map.specs.OrientedMeshes.{OrientedMesh, IsOrientedSurface}
 use Rattle.halfedge_map.specs.DartMaps.{origin_of}
 use Rattle.halfedge_map.specs.RotationSystems.{rotations_of, IsDartFrom}

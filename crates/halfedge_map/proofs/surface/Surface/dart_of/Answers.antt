@@ -1,4 +1,4 @@
-use Rattle.std.proofs.Common.{◌≡◌, ◌<◌, length, sym, ap, ◌∙◌, subst}
+use Rattle.halfedge_map.proofs.Common.{◌≡◌, ◌<◌, length, sym, ap, ◌∙◌, subst}
 use Rattle.halfedge_map.specs.OrientedMeshes.{OrientedMesh}
 use Rattle.halfedge_map.specs.DartMaps.{edge_of}
 use Rattle.halfedge_map.proofs.EdgeLemmas.{IsSideInTable, side_got}

@@ -1,4 +1,4 @@
-use Rattle.std.proofs.Common.{◌≡◌, ◌<◌, ◌^◌, pos, length, ap, ◌∙◌, arith, rules}
+use Rattle.halfedge_map.proofs.Common.{◌≡◌, ◌<◌, ◌^◌, pos, length, ap, ◌∙◌, arith, rules}
 use Rattle.halfedge_map.specs.DartMaps.{euler_of, used_vertices}
 use Rattle.halfedge_map.proofs.EulerLemmas.{euler_exact}
 use Rattle.halfedge_map.proofs.surface.Surface.euler.Goals as goal

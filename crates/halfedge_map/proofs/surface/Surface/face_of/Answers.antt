@@ -1,4 +1,4 @@
-use Rattle.std.proofs.Common.{◌≡◌, ap, sym, ◌∙◌, subst}
+use Rattle.halfedge_map.proofs.Common.{◌≡◌, ap, sym, ◌∙◌, subst}
 use Rattle.halfedge_map.specs.OrientedMeshes.{OrientedMesh}
 use Rattle.halfedge_map.specs.DartMaps.{face_of}
 use Rattle.halfedge_map.proofs.DartLemmas.{dart_of_side}

@@ -1,5 +1,4 @@
-use Rattle.std.proofs.Common.{◌≡◌, ◌<◌, ℕ, false, sym, subst}
-use Rattle.surf_model.specs.Surfaces.{is_flipped}
+use Rattle.halfedge_map.proofs.Common.{◌≡◌, ◌<◌, ℕ, false, sym, subst, is_flipped}
 use Rattle.halfedge_map.specs.OrientedMeshes.{OrientedMesh}
 use Rattle.halfedge_map.specs.DartMaps.{darts_of, origin_of}
 use Rattle.halfedge_map.specs.StoredDarts.{KeepOrigins}

@@ -1,4 +1,4 @@
-use Rattle.std.proofs.Common.{◌≡◌, ◌<◌, ℕ, sym, subst}
+use Rattle.halfedge_map.proofs.Common.{◌≡◌, ◌<◌, ℕ, sym, subst}
 use Rattle.halfedge_map.specs.OrientedMeshes.{OrientedMesh, IsOrientedSurface}
 use Rattle.halfedge_map.specs.DartMaps.{darts_of, twin_of}
 use Rattle.halfedge_map.proofs.TwinLemmas.{twin_within}

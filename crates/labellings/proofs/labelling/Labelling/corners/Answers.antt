@@ -1,5 +1,4 @@
-use Rattle.std.proofs.Common.{◌≡◌, arith, get_or, ap, ◌∙◌, ◌∷◌, length}
-use Rattle.std.proofs.lemmas.List.{get_or_read}
+use Rattle.labellings.proofs.Common.{◌≡◌, arith, get_or, ap, ◌∙◌, ◌∷◌, length, get_or_read}
 use Rattle.labellings.proofs.StoredLabellingLemmas.{labels_lie_at}
 use Rattle.labellings.proofs.labelling.Labelling.corners.Goals as goal
 

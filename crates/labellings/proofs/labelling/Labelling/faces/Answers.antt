@@ -1,4 +1,4 @@
-use Rattle.std.proofs.Common.{arith}
+use Rattle.labellings.proofs.Common.{arith}
 use Rattle.labellings.proofs.StoredLabellingLemmas.{length-faces}
 use Rattle.labellings.proofs.labelling.Labelling.faces.Goals as goal
 

@@ -1,5 +1,4 @@
-use Rattle.std.proofs.Common.{arith, sym, ◌∙◌, ap, false, get_or}
-use Rattle.std.proofs.lemmas.List.{get_or_read}
+use Rattle.labellings.proofs.Common.{arith, sym, ◌∙◌, ap, false, get_or, get_or_read}
 use Rattle.labellings.proofs.StoredLabellingLemmas.{labels_lie_at}
 use Rattle.labellings.proofs.labelling.Labelling.flipped.Goals as goal
 

@@ -1,5 +1,4 @@
-use Rattle.std.proofs.Common.{◌≡◌, ◌+◌, ◌<◌, arith, get_or, length, sym, ap, ◌∙◌, ◌∷◌}
-use Rattle.std.proofs.lemmas.List.{get_or_read}
+use Rattle.labellings.proofs.Common.{◌≡◌, ◌+◌, ◌<◌, arith, get_or, length, sym, ap, ◌∙◌, ◌∷◌, get_or_read}
 use Rattle.labellings.proofs.StoredLabellingLemmas.{labels_lie_at}
 use Rattle.labellings.proofs.labelling.Labelling.label.Goals as goal
 

@@ -1,5 +1,4 @@
-use Rattle.std.proofs.Common.{◌≡◌, ◌-◌, arith, get_or, take, drop, length, sym, ap, ap₂, ◌∙◌, ◌∷◌}
-use Rattle.std.proofs.lemmas.List.{get_or_read}
+use Rattle.labellings.proofs.Common.{◌≡◌, ◌-◌, arith, get_or, take, drop, length, sym, ap, ap₂, ◌∙◌, ◌∷◌, get_or_read}
 use Rattle.labellings.proofs.StoredLabellingLemmas.{labels_lie_at}
 use Rattle.labellings.proofs.labelling.Labelling.labels.Goals as goal
 

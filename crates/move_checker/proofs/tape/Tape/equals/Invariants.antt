@@ -1,5 +1,4 @@
-use Rattle.std.proofs.Common.{◌≡◌, ◌+◌, ◌-◌, ◌≤◌, length, take}
-use Rattle.chain_pool.specs.Chains.{list_of}
+use Rattle.move_checker.proofs.Common.{list_of, ◌≡◌, ◌+◌, ◌-◌, ◌≤◌, length, take}
 use Rattle.move_checker.proofs.tape.Tape.equals.Given as goal
 
 abbrev pub invariant-loop-place : goal.invariant-loop-place

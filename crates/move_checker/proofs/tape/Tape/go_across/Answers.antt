@@ -1,12 +1,4 @@
-use Rattle.std.proofs.Common.{◌≡◌, Bool, true, ℕ, ◌+◌, ◌-◌, ◌≤◌, List, length, not, ap, sym, subst, ◌∙◌, arith}
-use Rattle.std.specs.Prelude.{◌&&◌, nat_lt, nat_le, Ok, Err}
-use Rattle.std.proofs.lemmas.Bool.{and_parts, leb-true}
-use Rattle.chain_pool.specs.Chains.{Chains, list_of}
-use Rattle.chain_pool.proofs.Lists.{list_under-is}
-use Rattle.surf_model.specs.FaceLists.{face_at, corners_from}
-use Rattle.surf_model.specs.Moves.{replaced}
-use Rattle.surf_model.specs.declared.moves.Move.TheVariants.{Across}
-use Rattle.surf_model.proofs.ReplacementLemmas.{length-corners_from}
+use Rattle.move_checker.proofs.Common.{list_under-is, Chains, list_of, ◌≡◌, Bool, true, ℕ, ◌+◌, ◌-◌, ◌≤◌, List, length, not, ap, sym, subst, ◌∙◌, arith, and_parts, leb-true, ◌&&◌, nat_lt, nat_le, Ok, Err, length-corners_from, face_at, corners_from, replaced, Across}
 use Rattle.move_checker.specs.Refusals.{step_of}
 use Rattle.move_checker.specs.Tapes.{PeakedWalk}
 use Rattle.move_checker.specs.declared.fault.MoveFault.TheVariants.{Place, NotOnFace, OverPeak}

@@ -1,11 +1,5 @@
-use Rattle.std.proofs.Common.{◌≡◌, ℕ, ◌+◌, ◌<◌, ◌≤◌, ◌∷◌, [], List, length, get_or, ap, sym, subst, ◌∙◌, arith}
-use Rattle.std.specs.Prelude.{Ok, Err}
-use Rattle.chain_pool.specs.Chains.{Chains, list_of, inserted}
-use Rattle.chain_pool.proofs.Lists.{list_under-is}
-use Rattle.surf_model.specs.FaceLists.{FaceList, is_edge}
+use Rattle.move_checker.proofs.Common.{list_under-is, Chains, list_of, inserted, ◌≡◌, ℕ, ◌+◌, ◌<◌, ◌≤◌, ◌∷◌, [], List, length, get_or, ap, sym, subst, ◌∙◌, arith, Ok, Err, FaceList, is_edge, replaced, Insert}
 use Rattle.surf_model.specs.Edges.{IsTableOf}
-use Rattle.surf_model.specs.Moves.{replaced}
-use Rattle.surf_model.specs.declared.moves.Move.TheVariants.{Insert}
 use Rattle.move_checker.specs.Refusals.{step_of}
 use Rattle.move_checker.specs.Tapes.{PeakedWalk}
 use Rattle.move_checker.specs.declared.fault.MoveFault.TheVariants.{Place, NoEdge, OverPeak}

@@ -1,11 +1,4 @@
-use Rattle.std.proofs.Common.{◌≡◌, ℕ, ◌+◌, ◌≤◌, ◌∷◌, [], List, length, get_or, true, ap, sym, subst, ◌∙◌, arith}
-use Rattle.std.specs.Prelude.{◌==◌, Ok, Err}
-use Rattle.std.proofs.lemmas.Bool.{and_left, and_right, and_from, not-true, not-false, eqb-true}
-use Rattle.chain_pool.specs.Chains.{Chains, list_of, cut}
-use Rattle.chain_pool.proofs.Lists.{list_under-is}
-use Rattle.surf_model.specs.Moves.{replaced}
-use Rattle.surf_model.specs.Walks.{darts}
-use Rattle.surf_model.specs.declared.moves.Move.TheVariants.{Remove}
+use Rattle.move_checker.proofs.Common.{list_under-is, Chains, list_of, cut, ◌≡◌, ℕ, ◌+◌, ◌≤◌, ◌∷◌, [], List, length, get_or, true, ap, sym, subst, ◌∙◌, arith, and_left, and_right, and_from, not-true, not-false, eqb-true, ◌==◌, Ok, Err, replaced, darts, Remove}
 use Rattle.move_checker.specs.Refusals.{step_of}
 use Rattle.move_checker.specs.Tapes.{PeakedWalk}
 use Rattle.move_checker.specs.declared.fault.MoveFault.TheVariants.{Place, NotSpur}

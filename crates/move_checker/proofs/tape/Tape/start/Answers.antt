@@ -1,6 +1,4 @@
-use Rattle.std.proofs.Common.{◌<◌, ℕ, List, length, Some, ap, ◌∙◌, arith}
-use Rattle.chain_pool.specs.Chains.{inserted}
-use Rattle.chain_pool.proofs.Lists.{list_under-is}
+use Rattle.move_checker.proofs.Common.{list_under-is, inserted, ◌<◌, ℕ, List, length, Some, ap, ◌∙◌, arith}
 use Rattle.move_checker.proofs.Replacements.{pushed_last}
 use Rattle.move_checker.proofs.tape.Tape.start.Goals as goal
 

@@ -1,5 +1,4 @@
-use Rattle.std.proofs.Common.{◌≡◌, ◌+◌, take, Some}
-use Rattle.chain_pool.specs.Chains.{under}
+use Rattle.move_checker.proofs.Common.{under, ◌≡◌, ◌+◌, take, Some}
 use Rattle.move_checker.proofs.tape.Tape.start.Given as goal
 
 abbrev pub invariant-loop-place : goal.invariant-loop-place

@@ -1,7 +1,4 @@
-use Rattle.std.proofs.Common.{ℕ, ◌++◌, ◌∷◌, [], true, List, subst, arith, append_assoc}
-use Rattle.surf_model.specs.FreeWalks.{AreFreelyEqual}
-use Rattle.surf_model.specs.Vertices.{numbers}
-use Rattle.polygon_cut.specs.SpokeLoops.{backward}
+use Rattle.move_lifting.proofs.Common.{backward, ℕ, ◌++◌, ◌∷◌, [], true, List, subst, arith, append_assoc, AreFreelyEqual, numbers}
 use Rattle.move_lifting.specs.SpokeWalks.{walks_loop}
 use Rattle.move_lifting.proofs.LayLemmas.{laid_two}
 use Rattle.move_lifting.proofs.looping.Looping.approach_of.Goals as goal

@@ -1,13 +1,4 @@
-use Rattle.std.proofs.Common.{◌≡◌, ℕ, ◌-◌, ◌<◌, ◌∷◌, [], true, List, get_or, ap, sym, ◌∙◌, subst, arith}
-use Rattle.std.specs.Prelude.{All}
-use Rattle.surf_model.specs.FaceLists.{is_used}
-use Rattle.surf_model.specs.FreeWalks.{AreFreelyEqual, HasNoSpur}
-use Rattle.surf_model.specs.Vertices.{numbers}
-use Rattle.surf_model.specs.declared.names.VertexName.{VertexName}
-use Rattle.halfedge_map.specs.DartMaps.{darts_of, origin_of}
-use Rattle.polygon_cut.specs.Polygons.{side_at}
-use Rattle.polygon_cut.specs.SpokeLoops.{AreWaysUp, last_side}
-use Rattle.common_ends.proofs.PeakLemmas.{places_below}
+use Rattle.move_lifting.proofs.Common.{places_below, darts_of, origin_of, OrientedMesh, side_at, PolygonView, AreWaysUp, last_side, ◌≡◌, ℕ, ◌-◌, ◌<◌, ◌∷◌, [], true, List, get_or, ap, sym, ◌∙◌, subst, arith, All, is_used, AreFreelyEqual, HasNoSpur, numbers, VertexName, SplitView}
 use Rattle.move_lifting.specs.SpokeWalks.{AreSpokeWalks, HasWalk, IsLastLoop, IsLooping, walks_loop}
 use Rattle.move_lifting.specs.Tracks.{last_of}
 use Rattle.move_lifting.proofs.ApproachLemmas.{goes_end, goes_start, goes_some, goes_walk}
@@ -16,9 +7,6 @@ use Rattle.move_lifting.proofs.LastLoopLemmas.{last_below}
 use Rattle.move_lifting.proofs.LoopInLemmas.{IsReady, approach_by, is_ready, picked, loop_put_in}
 use Rattle.move_lifting.proofs.LoopRiseLemmas.{loop_rises, loop_room}
 use Rattle.move_lifting.proofs.TreeUpLemmas.{origin_used}
-use Rattle.halfedge_map.specs.OrientedMeshes.{OrientedMesh}
-use Rattle.tree_cotree.specs.Splits.{SplitView}
-use Rattle.polygon_cut.specs.Polygons.{PolygonView}
 use Rattle.move_lifting.specs.declared.expanding.TheConstants.{MOST_LIFTED_DARTS}
 use Rattle.move_lifting.specs.declared.looping.Looping.{Looping}
 use Rattle.move_lifting.proofs.looping.Looping.put_loop.Goals as goal

@@ -1,8 +1,4 @@
-use Rattle.std.proofs.Common.{◌≡◌, ℕ, ◌+◌, ◌-◌, ◌<◌, List, length, get_or, ap, ◌∙◌, arith}
-use Rattle.std.proofs.lemmas.List.{get_or-map}
-use Rattle.surf_model.specs.FaceLists.{is_edge}
-use Rattle.surf_model.specs.Vertices.{numbers}
-use Rattle.surf_model.specs.declared.names.VertexName.{VertexName}
+use Rattle.move_lifting.proofs.Common.{◌≡◌, ℕ, ◌+◌, ◌-◌, ◌<◌, List, length, get_or, ap, ◌∙◌, arith, get_or-map, is_edge, numbers, VertexName}
 use Rattle.move_lifting.specs.Tracks.{TrackView}
 use Rattle.move_lifting.proofs.ExpandLemmas.{edge_to, led_first, led_more, led_all, led_all_within, length-numbers}
 use Rattle.move_lifting.proofs.passing.Pass.over.Goals as goal

@@ -1,4 +1,4 @@
-use Rattle.std.proofs.Common.{[], ◌∷◌}
+use Rattle.move_lifting.proofs.Common.{[], ◌∷◌}
 use Rattle.move_lifting.proofs.ChainLemmas.{alone_pushed}
 use Rattle.move_lifting.proofs.pooled_walk.PooledWalk.push.Goals as goal
 

@@ -1,8 +1,4 @@
-use Rattle.std.proofs.Common.{ℕ, ◌++◌, List, length, drop, ap, ◌∙◌, ◌+◌, arith}
-use Rattle.std.proofs.lemmas.List.{length-drop, length-map}
-use Rattle.chain_pool.specs.Chains.{spliced}
-use Rattle.surf_model.specs.Vertices.{numbers}
-use Rattle.surf_model.specs.declared.names.VertexName.{VertexName}
+use Rattle.move_lifting.proofs.Common.{spliced, ℕ, ◌++◌, List, length, drop, ap, ◌∙◌, ◌+◌, arith, length-drop, length-map, numbers, VertexName}
 use Rattle.move_lifting.specs.PooledWalks.{Pooled, IsPushed}
 use Rattle.move_lifting.proofs.ChainLemmas.{IsPutIn, put_in, pushed_both}
 use Rattle.move_lifting.proofs.pooled_walk.PooledWalk.put_in.Goals as goal

@@ -1,4 +1,4 @@
-use Rattle.std.proofs.Common.{arith}
+use Rattle.move_lifting.proofs.Common.{arith}
 use Rattle.move_lifting.proofs.ChainLemmas.{alone_first}
 use Rattle.move_lifting.proofs.pooled_walk.PooledWalk.start.Goals as goal
 

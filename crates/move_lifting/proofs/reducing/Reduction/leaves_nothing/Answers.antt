@@ -1,6 +1,4 @@
-use Rattle.std.proofs.Common.{◌≡◌, ℕ, ◌/◌, ◌%◌, List, [], length, ap, ◌∙◌, arith}
-use Rattle.std.proofs.lemmas.Bool.{eq-eqb, eqb-true}
-use Rattle.std.proofs.lemmas.List.{nil_from_length}
+use Rattle.move_lifting.proofs.Common.{◌≡◌, ℕ, ◌/◌, ◌%◌, List, [], length, ap, ◌∙◌, arith, eq-eqb, eqb-true, nil_from_length}
 use Rattle.move_lifting.specs.Reductions.{spurs_of}
 use Rattle.move_lifting.proofs.ReductionLemmas.{steps_long}
 use Rattle.move_lifting.proofs.reducing.Reduction.leaves_nothing.Goals as goal

@@ -1,9 +1,4 @@
-use Rattle.std.proofs.Common.{ℕ, ◌<◌, List, length, sym, ◌∙◌, subst}
-use Rattle.std.specs.Prelude.{All}
-use Rattle.surf_model.specs.Vertices.{numbers}
-use Rattle.polygon_cut.specs.SpokeLoops.{spokes_along}
-use Rattle.spoke_paths.specs.PathTurns.{HasQuads}
-use Rattle.quad_system.proofs.FreePathLemmas.{free_walk_below}
+use Rattle.move_lifting.proofs.Common.{spokes_along, free_walk_below, HasQuads, ℕ, ◌<◌, List, length, sym, ◌∙◌, subst, All, numbers}
 use Rattle.move_lifting.proofs.PathLemmas.{has_quads}
 use Rattle.move_lifting.proofs.reducing.Reduction.of.Goals as goal
 

@@ -1,7 +1,4 @@
-use Rattle.std.proofs.Common.{subst, arith}
-use Rattle.std.specs.Prelude.{All}
-use Rattle.std.proofs.lemmas.List.{take_all}
-use Rattle.std.proofs.lemmas.List.Elements.{All-more}
+use Rattle.move_lifting.proofs.Common.{subst, arith, take_all, All-more, All}
 use Rattle.move_lifting.specs.SpokeWalks.{HasWalk}
 use Rattle.move_lifting.proofs.spoke_walks.SpokeWalks.has_all.Goals as goal
 

@@ -1,5 +1,4 @@
-use Rattle.std.proofs.Common.{take}
-use Rattle.std.specs.Prelude.{All}
+use Rattle.move_lifting.proofs.Common.{take, All}
 use Rattle.move_lifting.specs.SpokeWalks.{HasWalk}
 use Rattle.move_lifting.proofs.spoke_walks.SpokeWalks.has_all.Given as goal
 

@@ -1,5 +1,4 @@
-use Rattle.std.proofs.Common.{◌≡◌, true, false, length, take, get_or}
-use Rattle.std.specs.Prelude.{All}
+use Rattle.move_lifting.proofs.Common.{◌≡◌, true, false, length, take, get_or, All}
 use Rattle.move_lifting.proofs.spoke_walks.SpokeWalks.named_with.Given as goal
 
 abbrev pub invariant-loop-spoke : goal.invariant-loop-spoke

@@ -1,13 +1,5 @@
-use Rattle.std.proofs.Common.{◌≡◌, inl, inr, ℕ, ◌-◌, ◌∷◌, [], ◌++◌, false, List, get_or, refl, ap, ◌∙◌, arith, if◌then◌else◌}
-use Rattle.std.proofs.lemmas.Bool.{both_ways, cases_lt}
-use Rattle.std.proofs.lemmas.List.{get_or_past}
-use Rattle.surf_model.specs.Vertices.{numbers}
-use Rattle.surf_model.specs.FaceLists.{is_used}
-use Rattle.surf_model.specs.declared.names.VertexName.{VertexName}
-use Rattle.halfedge_map.specs.OrientedMeshes.{OrientedMesh}
-use Rattle.halfedge_map.specs.DartMaps.{origin_of}
-use Rattle.polygon_cut.specs.Polygons.{PolygonView, side_at}
-use Rattle.polygon_cut.specs.SpokeLoops.{last_side}
+use Rattle.move_lifting.proofs.Common.{origin_of, OrientedMesh, PolygonView, side_at, last_side, ◌≡◌, inl, inr, ℕ, ◌-◌, ◌∷◌, [], ◌++◌, false, List, get_or, refl, ap, ◌∙◌, arith, both_ways, cases_lt, get_or_past, is_used, numbers, VertexName}
+use Rattle.std.proofs.Common.{if◌then◌else◌}
 use Rattle.move_lifting.proofs.ApproachLemmas.{first_spoke, made_more, none_made, last_used, spoke_some}
 use Rattle.move_lifting.proofs.ExpandLemmas.{length-numbers}
 use Rattle.move_lifting.proofs.spoke_walks.SpokeWalks.of.Goals as goal

@@ -1,4 +1,4 @@
-use Rattle.surf_model.specs.Vertices.{numbers}
+use Rattle.move_lifting.proofs.Common.{numbers}
 use Rattle.move_lifting.proofs.ApproachLemmas.{AreMade}
 use Rattle.move_lifting.proofs.spoke_walks.SpokeWalks.of.Given as goal
 

@@ -1,5 +1,4 @@
-use Rattle.std.proofs.Common.{◌≡◌, ◌∷◌, [], ◌++◌, ◌+◌, List, ℕ, length, ap, ◌∙◌, arith, rules, length-append}
-use Rattle.surf_model.specs.Vertices.{numbers}
+use Rattle.move_lifting.proofs.Common.{◌≡◌, ◌∷◌, [], ◌++◌, ◌+◌, List, ℕ, length, ap, ◌∙◌, arith, rules, length-append, numbers}
 use Rattle.move_lifting.proofs.StoredWalkLemmas.{stored-push}
 use Rattle.move_lifting.proofs.spoke_walks.SpokeWalks.push.Goals as goal
 

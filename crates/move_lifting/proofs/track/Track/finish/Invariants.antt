@@ -1,4 +1,4 @@
-use Rattle.std.proofs.Common.{◌≡◌, length, take}
+use Rattle.move_lifting.proofs.Common.{◌≡◌, length, take}
 use Rattle.move_lifting.proofs.track.Track.finish.Given as goal
 
 abbrev pub invariant-loop-place : goal.invariant-loop-place

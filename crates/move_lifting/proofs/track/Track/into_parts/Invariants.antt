@@ -1,5 +1,4 @@
-use Rattle.std.proofs.Common.{◌≡◌, length, take}
-use Rattle.surf_model.specs.Vertices.{numbers}
+use Rattle.move_lifting.proofs.Common.{◌≡◌, length, take, numbers}
 use Rattle.move_lifting.proofs.track.Track.into_parts.Given as goal
 
 abbrev pub invariant-loop-place : goal.invariant-loop-place

@@ -1,4 +1,4 @@
-use Rattle.std.proofs.lemmas.Result.{on_ok_weaker}
+use Rattle.move_lifting.proofs.Common.{on_ok_weaker}
 use Rattle.move_lifting.proofs.MoveLemmas.{step_back_goes, step_back_no_spur, step_back_removes, step_back_some}
 use Rattle.move_lifting.proofs.track.Track.put.Goals as goal
 

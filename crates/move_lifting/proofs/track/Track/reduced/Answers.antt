@@ -1,4 +1,4 @@
-use Rattle.std.proofs.Common.{◌≡◌, length, arith}
+use Rattle.move_lifting.proofs.Common.{◌≡◌, length, arith}
 use Rattle.move_lifting.proofs.InPlaceLemmas.{IsReduced, in_place_first, in_place_next, in_place_short, in_place_more, in_place_all}
 use Rattle.move_lifting.proofs.track.Track.reduced.Goals as goal
 use Rattle.move_lifting.proofs.track.Track.reduced.Goals.{After-loop-read}

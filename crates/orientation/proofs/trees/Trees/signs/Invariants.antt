@@ -1,4 +1,4 @@
-use Rattle.std.proofs.Common.{◌≡◌, take}
+use Rattle.orientation.proofs.Common.{◌≡◌, take}
 use Rattle.orientation.proofs.trees.Trees.signs.Given as goal
 
 abbrev pub invariant-loop-flipped : goal.invariant-loop-flipped

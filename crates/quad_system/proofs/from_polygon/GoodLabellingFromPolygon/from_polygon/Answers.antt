@@ -1,7 +1,4 @@
-use Rattle.std.proofs.Common.{◌≡◌}
-use Rattle.std.proofs.lemmas.Result.{IfOk-weaker}
-use Rattle.labellings.specs.Labellings.{LabellingView}
-use Rattle.labellings.specs.GoodLabellings.{IsGood}
+use Rattle.quad_system.proofs.Common.{IsGood, LabellingView, ◌≡◌, IfOk-weaker}
 use Rattle.quad_system.specs.PolygonLabellings.{labelling_from, IsFull}
 use Rattle.quad_system.proofs.PolygonLabelLemmas.{polygon_good}
 use Rattle.quad_system.proofs.FullLemmas.{polygon_full}

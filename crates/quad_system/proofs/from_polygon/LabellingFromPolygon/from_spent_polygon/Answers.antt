@@ -1,6 +1,5 @@
-use Rattle.std.specs.Prelude.{◌≡◌, IfOk}
-use Rattle.std.proofs.Common.{subst}
-use Rattle.labellings.specs.Labellings.{LabellingView}
+use Rattle.quad_system.proofs.Common.{LabellingView, subst, IfOk}
+use Rattle.std.specs.Prelude.{◌≡◌}
 use Rattle.quad_system.proofs.PolygonMakingLemmas.{told_alone}
 use Rattle.quad_system.proofs.from_polygon.LabellingFromPolygon.from_spent_polygon.Goals as goal
 

@@ -1,4 +1,4 @@
-use Rattle.std.proofs.Common.{rules, ◌≡◌, ◌∷◌, [], ◌++◌}
+use Rattle.reduce_commands.proofs.Common.{rules, ◌≡◌, ◌∷◌, [], ◌++◌}
 use Rattle.reduce_commands.proofs.Reducing.{so_far-fault, so_far-kept, so_far-word}
 use Rattle.reduce_commands.proofs.reduce.SoFar.put.Goals as goal
 

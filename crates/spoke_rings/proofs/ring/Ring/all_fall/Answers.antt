@@ -1,6 +1,4 @@
-use Rattle.std.proofs.Common.{length, arith, ◌∙◌, ap, inl, inr}
-use Rattle.std.proofs.lemmas.Bool.{cases_eq}
-use Rattle.turn_words.specs.Lemmas.Sums.{minus-two}
+use Rattle.spoke_rings.proofs.Common.{length, arith, ◌∙◌, ap, inl, inr, cases_eq, minus-two}
 use Rattle.spoke_rings.specs.Private.Rings.{ring_turn}
 use Rattle.spoke_rings.proofs.ring.Ring.all_fall.Goals as goal
 

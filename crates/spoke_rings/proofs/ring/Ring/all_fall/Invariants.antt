@@ -1,5 +1,4 @@
-use Rattle.std.proofs.Common.{◌≡◌, ◌<◌, ℕ, length}
-use Rattle.turn_words.specs.Modulo.{minus}
+use Rattle.spoke_rings.proofs.Common.{◌≡◌, ◌<◌, ℕ, length, minus}
 use Rattle.spoke_rings.specs.Private.Rings.{ring_turn}
 use Rattle.spoke_rings.proofs.ring.Ring.all_fall.Given as goal
 

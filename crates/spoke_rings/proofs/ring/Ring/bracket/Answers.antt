@@ -1,4 +1,4 @@
-use Rattle.std.proofs.Common.{◌≡◌, ◌+◌, ◌-◌, ◌<◌, ℕ, length, arith, sym, ◌∙◌, ap}
+use Rattle.spoke_rings.proofs.Common.{◌≡◌, ◌+◌, ◌-◌, ◌<◌, ℕ, length, arith, sym, ◌∙◌, ap}
 use Rattle.spoke_rings.specs.Private.Rings.{ring_turn}
 use Rattle.spoke_rings.proofs.Reducing.{fine-one}
 use Rattle.spoke_rings.proofs.ring.Ring.bracket.Goals as goal

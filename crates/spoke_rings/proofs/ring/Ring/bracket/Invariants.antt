@@ -1,4 +1,4 @@
-use Rattle.std.proofs.Common.{◌≡◌, ◌+◌, ◌-◌, ◌<◌, ◌≤◌, ℕ}
+use Rattle.spoke_rings.proofs.Common.{◌≡◌, ◌+◌, ◌-◌, ◌<◌, ◌≤◌, ℕ}
 use Rattle.spoke_rings.specs.Private.Rings.{ring_turn}
 use Rattle.spoke_rings.proofs.ring.Ring.bracket.Given as goal
 

@@ -1,4 +1,4 @@
-use Rattle.std.proofs.Common.{◌≡◌, ◌-◌, suc, length, arith, refl, subst, inl, inr}
+use Rattle.spoke_rings.proofs.Common.{◌≡◌, ◌-◌, suc, length, arith, refl, subst, inl, inr}
 use Rattle.spoke_rings.specs.Private.Rings.{ring_turn}
 use Rattle.spoke_rings.proofs.Acting.{went-back, took-out}
 use Rattle.spoke_rings.proofs.Closing.{closes-end}

@@ -1,4 +1,4 @@
-use Rattle.std.proofs.Common.{◌-◌, length, sym, ◌∙◌, ap}
+use Rattle.spoke_rings.proofs.Common.{◌-◌, length, sym, ◌∙◌, ap}
 use Rattle.spoke_rings.specs.Private.Rings.{ring_turn}
 use Rattle.spoke_rings.proofs.Reducing.{fall-is, not-fall, fine-other}
 use Rattle.spoke_rings.proofs.ring.Ring.look.Goals as goal

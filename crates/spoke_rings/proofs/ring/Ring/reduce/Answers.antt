@@ -1,4 +1,4 @@
-use Rattle.std.proofs.Common.{arith}
+use Rattle.spoke_rings.proofs.Common.{arith}
 use Rattle.spoke_rings.specs.Private.Rings.{Shortens}
 use Rattle.spoke_rings.proofs.Acting.{WentOn, went-forward, took-out}
 use Rattle.spoke_rings.proofs.Reducing.{spur-spokes, reducing-forward, reducing-again, reducing-end, left-shorter, left-lighter, left-passed}

@@ -1,4 +1,4 @@
-use Rattle.std.proofs.Common.{length}
+use Rattle.spoke_rings.proofs.Common.{length}
 use Rattle.spoke_rings.proofs.Reducing.{Reducing, left_of}
 use Rattle.spoke_rings.proofs.ring.Ring.reduce.Given as goal
 

@@ -1,4 +1,4 @@
-use Rattle.std.proofs.Common.{◌<◌, length, arith}
+use Rattle.spoke_rings.proofs.Common.{◌<◌, length, arith}
 use Rattle.spoke_rings.proofs.Acting.{went-forward, went-back}
 use Rattle.spoke_rings.proofs.Reducing.{rises-push, rises-forward, rises-back}
 use Rattle.spoke_rings.proofs.ring.Ring.rise.Goals as goal

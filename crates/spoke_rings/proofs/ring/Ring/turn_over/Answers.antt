@@ -1,6 +1,4 @@
-use Rattle.std.proofs.Common.{◌≡◌, ◌-◌, suc, true, length, arith, sym, subst, ◌∙◌, ap}
-use Rattle.turn_words.specs.Modulo.{add}
-use Rattle.turn_words.specs.SpokePaths.{place_round}
+use Rattle.spoke_rings.proofs.Common.{◌≡◌, ◌-◌, suc, true, length, arith, sym, subst, ◌∙◌, ap, add, place_round}
 use Rattle.spoke_rings.proofs.Acting.{went-forward, took-out}
 use Rattle.spoke_rings.proofs.Reducing.{spur-spokes}
 use Rattle.spoke_rings.proofs.TurningOver.{Turning, turning-begins, turning-next, turning-spur, turning-end}

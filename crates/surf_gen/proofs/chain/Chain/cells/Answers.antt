@@ -1,4 +1,4 @@
-use Rattle.std.proofs.Common.{sym}
+use Rattle.surf_gen.proofs.Common.{sym}
 use Rattle.surf_gen.proofs.CellLemmas.{cell_count}
 use Rattle.surf_gen.proofs.chain.Chain.cells.Goals as goal
 

@@ -1,6 +1,5 @@
-use Rattle.std.proofs.Common.{◌≡◌, ◌++◌}
+use Rattle.surf_gen.proofs.Common.{◌≡◌, ◌++◌, range_with_len}
 use Rattle.std.specs.Prelude.{flat_map}
-use Rattle.std.specs.List.{range_with_len}
 use Rattle.surf_gen.specs.Parts.{part_text, points_of_torus}
 use Rattle.surf_gen.proofs.chain.Chain.put_part.Given as goal
 

@@ -1,5 +1,4 @@
-use Rattle.std.proofs.Common.{[], ◌∷◌, ◌∙◌}
-use Rattle.std.specs.List.{range_with_len}
+use Rattle.surf_gen.proofs.Common.{[], ◌∷◌, ◌∙◌, range_with_len}
 use Rattle.std.specs.Prelude.{map}
 use Rattle.surf_gen.specs.Chains.{point}
 use Rattle.surf_gen.proofs.PartLemmas.{part_more, columns_more}

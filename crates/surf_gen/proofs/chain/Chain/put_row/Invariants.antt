@@ -1,5 +1,4 @@
-use Rattle.std.proofs.Common.{◌≡◌, ◌++◌, map}
-use Rattle.std.specs.List.{range_with_len}
+use Rattle.surf_gen.proofs.Common.{◌≡◌, ◌++◌, map, range_with_len}
 use Rattle.surf_gen.specs.Chains.{point}
 use Rattle.surf_gen.specs.Parts.{part_text}
 use Rattle.surf_gen.proofs.chain.Chain.put_row.Given as goal

@@ -1,6 +1,5 @@
-use Rattle.std.proofs.Common.{◌≡◌, ◌++◌}
+use Rattle.surf_gen.proofs.Common.{◌≡◌, ◌++◌, range_with_len}
 use Rattle.std.specs.Prelude.{flat_map}
-use Rattle.std.specs.List.{range_with_len}
 use Rattle.surf_gen.specs.Parts.{part_text, points_of_row}
 use Rattle.surf_gen.proofs.chain.Chain.put_torus.Given as goal
 

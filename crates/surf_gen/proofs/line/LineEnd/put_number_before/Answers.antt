@@ -1,6 +1,4 @@
-use Rattle.std.proofs.Common.{◌≡◌, ◌+◌, ◌/◌, ◌≤◌, ◌++◌, ◌∙◌, sym, ap, length, arith}
-use Rattle.std.proofs.Math.ListN.{length-append}
-use Rattle.std.specs.Fmt.{decimal}
+use Rattle.surf_gen.proofs.Common.{◌≡◌, ◌+◌, ◌/◌, ◌≤◌, ◌++◌, ◌∙◌, sym, ap, length, arith, length-append, decimal}
 use Rattle.surf_gen.proofs.DigitLemmas.{ten_digits, room, more, last}
 use Rattle.surf_gen.proofs.line.LineEnd.put_number_before.Goals as goal
 

@@ -1,5 +1,4 @@
-use Rattle.std.proofs.Common.{◌≡◌, ◌++◌}
-use Rattle.std.specs.Fmt.{decimal}
+use Rattle.surf_gen.proofs.Common.{◌≡◌, ◌++◌, decimal}
 use Rattle.surf_gen.proofs.line.LineEnd.put_number_before.Given as goal
 
 -- the digits that are left to write, and then what was written, are all digits and what was there

@@ -1,5 +1,4 @@
-use Rattle.std.proofs.Common.{ap, sym, ◌∙◌, ◌++◌, arith}
-use Rattle.std.proofs.lemmas.Fmt.{decimal_digit}
+use Rattle.surf_io.proofs.Common.{ap, sym, ◌∙◌, ◌++◌, arith, decimal_digit}
 use Rattle.surf_io.proofs.piece.Piece.put_natural.Goals as goal
 
 pub returns-then-n-lt10-clause-put : goal.returns-then-n-lt10-clause-put

@@ -1,6 +1,4 @@
-use Rattle.std.proofs.Common.{arith}
-use Rattle.std.proofs.lemmas.Option.{slice_get-get_or}
-use Rattle.std.proofs.lemmas.Result.{err_from_is_err_and}
+use Rattle.surf_io.proofs.Common.{arith, slice_get-get_or, err_from_is_err_and}
 use Rattle.surf_io.specs.Gathered.{spaced}
 use Rattle.surf_io.proofs.Gathering.{each-none, each-more, each-fails, each-all}
 use Rattle.surf_io.proofs.piece.Piece.put_numbers.Goals as goal

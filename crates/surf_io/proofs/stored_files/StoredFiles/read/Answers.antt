@@ -1,8 +1,4 @@
-use Rattle.std.proofs.Common.{◌≡◌, ap, sym, ◌∙◌, map, ◌-◌, length, min, Some, string_bytes}
-use Rattle.std.specs.Ordering.{nat_cmp}
-use Rattle.std.specs.Cmp.Lexicographic.{slice_cmp, nat_list_cmp_total}
-use Rattle.std.specs.FinMap.{get, find, get-from_entries}
-use Rattle.std.specs.VecDeque.Iter.{deque_iter_rest}
+use Rattle.surf_io.proofs.Common.{◌≡◌, ap, sym, ◌∙◌, map, ◌-◌, length, min, Some, string_bytes, slice_cmp, nat_list_cmp_total, get, find, get-from_entries, nat_cmp, deque_iter_rest}
 use Rattle.surf_io.specs.Files.{GivesFrom}
 use Rattle.surf_io.specs.Stored.{entry_of}
 use Rattle.surf_io.proofs.Stored.{find-here, find-past, IsSomeAnd-found}

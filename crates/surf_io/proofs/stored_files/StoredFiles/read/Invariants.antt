@@ -1,8 +1,5 @@
-use Rattle.std.proofs.Common.{◌≡◌, map}
-use Rattle.std.specs.Ordering.{nat_cmp}
-use Rattle.std.specs.Cmp.Lexicographic.{slice_cmp}
+use Rattle.surf_io.proofs.Common.{◌≡◌, map, slice_cmp, nat_cmp, deque_iter_rest}
 use Rattle.std.specs.FinMap as finite
-use Rattle.std.specs.VecDeque.Iter.{deque_iter_rest}
 use Rattle.surf_io.specs.Stored.{entry_of}
 use Rattle.surf_io.proofs.stored_files.StoredFiles.read.Given as goal
 

@@ -1,4 +1,4 @@
-use Rattle.std.proofs.Common.{arith}
+use Rattle.surf_model.proofs.Common.{arith}
 use Rattle.surf_model.proofs.EdgeListLemmas.{length-edges}
 use Rattle.surf_model.proofs.edge_list.EdgeList.len.Goals as goal
 

@@ -1,5 +1,4 @@
-use Rattle.std.proofs.Common.{◌≡◌, ◌+◌, ◌≤◌, ◌∷◌, [], ◌++◌, List, length, map, ap, ◌∙◌, arith, rules, length-append}
-use Rattle.std.proofs.lemmas.List.{length-map}
+use Rattle.surf_model.proofs.Common.{◌≡◌, ◌+◌, ◌≤◌, ◌∷◌, [], ◌++◌, List, length, map, ap, ◌∙◌, arith, rules, length-append, length-map}
 use Rattle.surf_model.specs.EdgeLists.{DartEdge, dart_of}
 use Rattle.surf_model.specs.declared.edge_list.SideEntry.{SideEntry}
 use Rattle.surf_model.specs.declared.names.DartName.{DartName}

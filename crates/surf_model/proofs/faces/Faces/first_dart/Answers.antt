@@ -1,4 +1,4 @@
-use Rattle.std.proofs.Common.{sym, ◌∙◌}
+use Rattle.surf_model.proofs.Common.{sym, ◌∙◌}
 use Rattle.surf_model.proofs.StoredLemmas.{lies_at}
 use Rattle.surf_model.proofs.faces.Faces.first_dart.Goals as goal
 

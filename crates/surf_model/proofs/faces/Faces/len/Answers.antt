@@ -1,4 +1,4 @@
-use Rattle.std.proofs.Common.{sym, ◌∙◌}
+use Rattle.surf_model.proofs.Common.{sym, ◌∙◌}
 use Rattle.surf_model.proofs.StoredLemmas.{length-faces}
 use Rattle.surf_model.proofs.faces.Faces.len.Goals as goal
 

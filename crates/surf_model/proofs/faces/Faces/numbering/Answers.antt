@@ -1,5 +1,4 @@
-use Rattle.std.proofs.Common.{sym, subst, Ok, Err}
-use Rattle.std.specs.Prelude.{Result, IfOk}
+use Rattle.surf_model.proofs.Common.{sym, subst, Ok, Err, Result, IfOk}
 use Rattle.surf_model.specs.FaceLists.{IsFaceList}
 use Rattle.surf_model.specs.StoredEdges.{IsNumbering}
 use Rattle.surf_model.proofs.StoredLemmas.{numbering}

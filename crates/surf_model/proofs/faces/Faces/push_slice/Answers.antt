@@ -1,4 +1,4 @@
-use Rattle.std.proofs.Common.{◌≡◌, ◌+◌, ◌≤◌, ◌∷◌, [], ◌++◌, length, sym, ap, ◌∙◌, subst, arith, rules}
+use Rattle.surf_model.proofs.Common.{◌≡◌, ◌+◌, ◌≤◌, ◌∷◌, [], ◌++◌, length, sym, ap, ◌∙◌, subst, arith, rules}
 use Rattle.surf_model.specs.FaceLists.{FaceList, total_sides, IsFace}
 use Rattle.surf_model.specs.Parts.{last_end}
 use Rattle.surf_model.specs.Vertices.{numbers}

@@ -1,4 +1,4 @@
-use Rattle.std.proofs.Common.{◌-◌, List, get_or, take, drop, sym, ap, ◌∙◌, arith}
+use Rattle.surf_model.proofs.Common.{◌-◌, List, get_or, take, drop, sym, ap, ◌∙◌, arith}
 use Rattle.surf_model.specs.Vertices.{numbers}
 use Rattle.surf_model.specs.declared.names.VertexName.{VertexName}
 use Rattle.surf_model.proofs.StoredLemmas.{lies_at, numbers-part}

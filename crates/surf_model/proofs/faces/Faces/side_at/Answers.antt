@@ -1,4 +1,4 @@
-use Rattle.std.proofs.Common.{◌<◌, length, arith}
+use Rattle.surf_model.proofs.Common.{◌<◌, length, arith}
 use Rattle.surf_model.proofs.PartsLemmas.{EndsRise-last}
 use Rattle.surf_model.proofs.StoredLemmas.{lies_at, length-faces, total_sides-seen}
 use Rattle.surf_model.proofs.faces.Faces.side_at.Goals as goal

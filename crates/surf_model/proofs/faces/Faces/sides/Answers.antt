@@ -1,4 +1,4 @@
-use Rattle.std.proofs.Common.{arith}
+use Rattle.surf_model.proofs.Common.{arith}
 use Rattle.surf_model.proofs.StoredLemmas.{lies_at}
 use Rattle.surf_model.proofs.faces.Faces.sides.Goals as goal
 

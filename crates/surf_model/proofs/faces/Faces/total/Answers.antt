@@ -1,4 +1,4 @@
-use Rattle.std.proofs.Common.{arith}
+use Rattle.surf_model.proofs.Common.{arith}
 use Rattle.surf_model.proofs.StoredLemmas.{total_sides-seen}
 use Rattle.surf_model.proofs.faces.Faces.total.Goals as goal
 

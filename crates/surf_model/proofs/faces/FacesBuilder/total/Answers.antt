@@ -1,4 +1,4 @@
-use Rattle.std.proofs.Common.{sym, ◌∙◌}
+use Rattle.surf_model.proofs.Common.{sym, ◌∙◌}
 use Rattle.surf_model.proofs.StoredLemmas.{total_sides-pending}
 use Rattle.surf_model.proofs.faces.FacesBuilder.total.Goals as goal
 

@@ -1,4 +1,4 @@
-use Rattle.std.proofs.Common.{◌<◌, ◌≤◌, ◌-◌, ◌∷◌, length, get_or}
+use Rattle.surf_model.proofs.Common.{◌<◌, ◌≤◌, ◌-◌, ◌∷◌, length, get_or}
 use Rattle.surf_model.proofs.listed_parts.ListedParts.part_at.Given as goal
 
 abbrev pub invariant-loop-self : goal.invariant-loop-self

@@ -1,4 +1,4 @@
-use Rattle.std.proofs.Common.{◌+◌, ℕ, List, length, ap, sym, ◌∙◌}
+use Rattle.surf_model.proofs.Common.{◌+◌, ℕ, List, length, ap, sym, ◌∙◌}
 use Rattle.surf_model.proofs.JoinedPartsLemmas.{length-joined}
 use Rattle.surf_model.proofs.parts.Parts.len.Goals as goal
 

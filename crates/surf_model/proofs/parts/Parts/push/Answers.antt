@@ -1,5 +1,4 @@
-use Rattle.std.proofs.Common.{◌≡◌, ◌⊎◌, inl, inr, ◌+◌, ◌≤◌, [], ◌∷◌, ◌++◌, ℕ, sym, ap, ◌∙◌, subst, arith, length-append}
-use Rattle.std.proofs.lemmas.Bool.{eqb-true}
+use Rattle.surf_model.proofs.Common.{◌≡◌, ◌⊎◌, inl, inr, ◌+◌, ◌≤◌, [], ◌∷◌, ◌++◌, ℕ, sym, ap, ◌∙◌, subst, arith, length-append, eqb-true}
 use Rattle.surf_model.specs.Parts.{last_end, joined_ends}
 use Rattle.surf_model.proofs.PartsLemmas.{last_end-push}
 use Rattle.surf_model.proofs.JoinedPartsLemmas.{last_end-joined, joined-push, equal-push}

@@ -1,4 +1,4 @@
-use Rattle.std.proofs.Common.{◌≡◌, ◌+◌, ◌-◌, ◌*◌, ◌<◌, ◌≤◌, ◌∷◌, length, get_or, sym, ap, ◌∙◌, subst, arith}
+use Rattle.surf_model.proofs.Common.{◌≡◌, ◌+◌, ◌-◌, ◌*◌, ◌<◌, ◌≤◌, ◌∷◌, length, get_or, sym, ap, ◌∙◌, subst, arith}
 use Rattle.surf_model.proofs.JoinedPartsLemmas.{listed_below, start-first, start-behind}
 use Rattle.surf_model.proofs.parts.Parts.start.Goals as goal
 

@@ -1,4 +1,4 @@
-use Rattle.std.proofs.Common.{arith}
+use Rattle.text_scan.proofs.Common.{arith}
 use Rattle.text_scan.proofs.StepLemmas.{few_lines}
 use Rattle.text_scan.proofs.cursor.Cursor.end_line.Goals as goal
 

@@ -1,4 +1,4 @@
-use Rattle.std.proofs.Common.{◌∙◌}
+use Rattle.text_scan.proofs.Common.{◌∙◌}
 use Rattle.text_scan.proofs.ViewLemmas.{has_word}
 use Rattle.text_scan.proofs.cursor.Cursor.has_word.Goals as goal
 

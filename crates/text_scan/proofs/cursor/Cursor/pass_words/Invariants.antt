@@ -1,4 +1,4 @@
-use Rattle.std.proofs.Common.{◌≡◌, length}
+use Rattle.text_scan.proofs.Common.{◌≡◌, length}
 use Rattle.text_scan.specs.Unread.{are_words, words_here}
 use Rattle.text_scan.proofs.cursor.Cursor.pass_words.Given as goal
 

@@ -1,4 +1,4 @@
-use Rattle.std.proofs.Common.{sym, ap}
+use Rattle.text_scan.proofs.Common.{sym, ap}
 use Rattle.text_scan.specs.Unread.{next_word}
 use Rattle.text_scan.proofs.ViewLemmas.{no_word_left, word_left, nothing_past, moved_past}
 use Rattle.text_scan.proofs.TextLemmas.{past_text}

@@ -1,4 +1,4 @@
-use Rattle.std.proofs.Common.{sym, ap, ◌∙◌, drop, List, ℕ}
+use Rattle.text_scan.proofs.Common.{sym, ap, ◌∙◌, drop, List, ℕ}
 use Rattle.text_scan.specs.Unread.{next_word}
 use Rattle.text_scan.proofs.TextLemmas.{past_text}
 use Rattle.text_scan.proofs.ViewLemmas.{none_in_line, first_in_line, others_in_line}

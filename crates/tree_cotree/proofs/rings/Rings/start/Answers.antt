@@ -1,6 +1,4 @@
-use Rattle.std.proofs.Common.{◌≡◌, ◌+◌, ◌<◌, ℕ, length, get_or, ap, ◌∙◌, subst, arith, rules}
-use Rattle.std.proofs.lemmas.List.{length_push}
-use Rattle.halfedge_map.specs.DartMaps.{darts_of, next_of, twin_of}
+use Rattle.tree_cotree.proofs.Common.{darts_of, next_of, twin_of, ◌≡◌, ◌+◌, ◌<◌, ℕ, length, get_or, ap, ◌∙◌, subst, arith, rules, length_push}
 use Rattle.tree_cotree.specs.RingViews.{dart_numbers}
 use Rattle.tree_cotree.proofs.RingLemmas.{turns_more, empty_rings}
 use Rattle.tree_cotree.proofs.rings.Rings.start.Goals as goal

@@ -1,7 +1,4 @@
-use Rattle.std.proofs.Common.{◌≡◌, Bool, false, not, List, get_or, ap, sym, subst, arith}
-use Rattle.std.proofs.Math.ListN.{set}
-use Rattle.std.proofs.lemmas.List.{get_or_read}
-use Rattle.halfedge_map.specs.OrientedMeshes.{OrientedMesh}
+use Rattle.tree_cotree.proofs.Common.{OrientedMesh, ◌≡◌, Bool, false, not, List, get_or, ap, sym, subst, arith, set, get_or_read}
 use Rattle.tree_cotree.specs.RingViews.{RingView, AreRingsOf, ChangesByOne}
 use Rattle.tree_cotree.proofs.RingLemmas.{IsSwapped, stored_rings, stored_swap, swapped_rings, swapped_count}
 use Rattle.tree_cotree.proofs.rings.Rings.swap.Goals as goal

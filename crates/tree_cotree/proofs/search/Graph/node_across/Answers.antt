@@ -1,6 +1,4 @@
-use Rattle.std.proofs.Common.{◌≡◌, ℕ, ap, sym, ◌∙◌, subst}
-use Rattle.halfedge_map.specs.RotationSystems.{Rotations, rotations_of}
-use Rattle.halfedge_map.proofs.SystemLemmas.{rotation_system}
+use Rattle.tree_cotree.proofs.Common.{rotation_system, Rotations, rotations_of, ◌≡◌, ℕ, ap, sym, ◌∙◌, subst}
 use Rattle.tree_cotree.specs.Searches.{node_of}
 use Rattle.tree_cotree.specs.declared.search.Nodes.{Nodes}
 use Rattle.tree_cotree.proofs.search.Graph.node_across.Goals as goal

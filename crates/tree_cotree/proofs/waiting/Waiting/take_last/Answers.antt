@@ -1,4 +1,4 @@
-use Rattle.std.specs.Prelude.{Some}
+use Rattle.tree_cotree.proofs.Common.{Some}
 use Rattle.tree_cotree.proofs.WaitingLemmas.{taken_near_last, taken_far_last}
 use Rattle.tree_cotree.proofs.waiting.Waiting.take_last.Goals as goal
 

@@ -1,4 +1,4 @@
-use Rattle.std.proofs.Common.{arith, ◌≡◌, ◌∙◌, ap, ap₂, sym, length, reverse}
+use Rattle.turn_words.proofs.Common.{arith, ◌≡◌, ◌∙◌, ap, ap₂, sym, length, reverse}
 use Rattle.turn_words.specs.Modulo.{add, minus}
 use Rattle.turn_words.specs.PutTurns.{put}
 use Rattle.turn_words.specs.Recorded.{with_steps}

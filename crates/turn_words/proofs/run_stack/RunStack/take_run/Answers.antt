@@ -1,6 +1,5 @@
-use Rattle.std.proofs.Common.{arith, ◌≡◌, ◌∙◌, ℕ, ap, sym, subst, ◌++◌, replicate}
+use Rattle.turn_words.proofs.Common.{arith, ◌≡◌, ◌∙◌, ℕ, ap, sym, subst, ◌++◌, replicate, same_from_push}
 use Rattle.std.proofs.lemmas.Grind.{common_steps}
-use Rattle.std.proofs.lemmas.List.{same_from_push}
 use Rattle.turn_words.specs.Runs.{written, AreFilled, AreApart}
 use Rattle.turn_words.specs.Private.StoredWords.{TopDiffers}
 use Rattle.turn_words.proofs.RunLists.{filled-front, apart-front, top-differs, written-push}

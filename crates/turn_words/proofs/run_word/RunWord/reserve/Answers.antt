@@ -1,4 +1,4 @@
-use Rattle.std.proofs.Common.{arith}
+use Rattle.turn_words.proofs.Common.{arith}
 use Rattle.turn_words.proofs.RunWords.{runs-few}
 use Rattle.turn_words.proofs.run_word.RunWord.reserve.Goals as goal
 

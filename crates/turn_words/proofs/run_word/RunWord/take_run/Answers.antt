@@ -1,4 +1,4 @@
-use Rattle.std.proofs.Common.{arith, ◌<◌, ◌-◌, ap, sym, subst, length}
+use Rattle.turn_words.proofs.Common.{arith, ◌<◌, ◌-◌, ap, sym, subst, length}
 use Rattle.turn_words.specs.Private.StoredWords.{RunWordView, EndsOtherwise}
 use Rattle.turn_words.proofs.RunLists.{ends-otherwise}
 use Rattle.turn_words.proofs.RunWords.{reverse-some, taken-off, word-length}

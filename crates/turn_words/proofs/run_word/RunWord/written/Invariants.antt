@@ -1,4 +1,4 @@
-use Rattle.std.proofs.Common.{◌≡◌, ◌+◌, ◌++◌, length, take, vec_len, vec_capacity}
+use Rattle.turn_words.proofs.Common.{◌≡◌, ◌+◌, ◌++◌, length, take, vec_len, vec_capacity}
 use Rattle.turn_words.specs.Runs.{written}
 use Rattle.turn_words.proofs.run_word.RunWord.written.Given as goal
 

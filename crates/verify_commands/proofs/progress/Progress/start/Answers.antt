@@ -1,10 +1,4 @@
-use Rattle.std.proofs.Common.{◌≤◌, ℕ, List, inl, inr, sym, ap, ◌∙◌}
-use Rattle.std.specs.Prelude.{Err}
-use Rattle.std.proofs.lemmas.Bool.{cases_lt}
-use Rattle.surf_model.specs.Moves.{PeakedMoves}
-use Rattle.surf_model.specs.Walks.{darts}
-use Rattle.move_checker.specs.Verdicts.{verdict_from}
-use Rattle.move_checker.proofs.Judgement.{verdict_over_peak, verdict_start}
+use Rattle.verify_commands.proofs.Common.{verdict_over_peak, verdict_start, verdict_from, ◌≤◌, ℕ, List, inl, inr, sym, ap, ◌∙◌, cases_lt, Err, PeakedMoves, darts}
 use Rattle.verify_commands.proofs.progress.Progress.start.Goals as goal
 
 pub returns-in-Ok : goal.returns-in-Ok

@@ -1,6 +1,4 @@
-use Rattle.std.proofs.Common.{ℕ, ◌+◌, sym, ap, ◌∙◌}
-use Rattle.move_checker.specs.Verdicts.{verdict_from}
-use Rattle.move_checker.proofs.Judgement.{verdict_more, verdict_refused}
+use Rattle.verify_commands.proofs.Common.{verdict_more, verdict_refused, verdict_from, ℕ, ◌+◌, sym, ap, ◌∙◌}
 use Rattle.verify_commands.proofs.progress.Progress.step.Goals as goal
 
 pub returns-in-Err : goal.returns-in-Err

@@ -1,5 +1,4 @@
-use Rattle.std.proofs.Common.{◌+◌, refl, sym}
-use Rattle.move_checker.proofs.Judgement.{verdict_accepted, verdict_end}
+use Rattle.verify_commands.proofs.Common.{verdict_accepted, verdict_end, ◌+◌, refl, sym}
 use Rattle.verify_commands.proofs.progress.Progress.verdict.Goals as goal
 
 pub returns-in-Going : goal.returns-in-Going

@@ -1,5 +1,4 @@
-use Rattle.std.proofs.Common.{◌≡◌, ◌<◌, ◌^◌, false, List, ℕ, length, drop, sym, ap, ◌∙◌, subst}
-use Rattle.text_scan.specs.Lines.{full_lines}
+use Rattle.walk_files.proofs.Common.{◌≡◌, ◌<◌, ◌^◌, false, List, ℕ, length, drop, sym, ap, ◌∙◌, subst, full_lines}
 use Rattle.walk_files.specs.Certificates.{behind_head}
 use Rattle.walk_files.specs.Denials.{AreFew}
 use Rattle.walk_files.specs.Readers.{Certificate}

@@ -1,8 +1,5 @@
-use Rattle.std.proofs.Common.{◌≡◌, ◌+◌, ◌<◌, drop, refl, ap, ◌∙◌, drop-drop, arith, rules}
-use Rattle.text_scan.specs.Lines.{full_lines}
-use Rattle.text_scan.specs.Unread.{lines_left}
+use Rattle.walk_files.proofs.Common.{◌≡◌, ◌+◌, ◌<◌, drop, refl, ap, ◌∙◌, drop-drop, arith, rules, Ok, Some, full_lines, lines_left}
 use Rattle.walk_files.specs.Certificates.{behind_head}
-use Rattle.std.specs.Prelude.{Ok, Some}
 use Rattle.walk_files.specs.Readers.{Certificate, next_answer, after_answer}
 use Rattle.walk_files.proofs.ReaderLemmas.{left_after}
 use Rattle.walk_files.proofs.reader.CertReader.next_move.Goals as goal

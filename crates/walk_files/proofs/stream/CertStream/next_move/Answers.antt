@@ -1,8 +1,5 @@
-use Rattle.std.proofs.Common.{◌≡◌, ◌-◌, ℕ, List, Option, true, sym, ap, subst, ◌∙◌}
-use Rattle.std.specs.Prelude.{Some, None, Result, Ok, Err, IfSome, OnOk}
-use Rattle.surf_io.specs.Files.{file_of}
-use Rattle.surf_model.specs.declared.moves.Move.{Move}
-use Rattle.file_pieces.specs.Reading.{Reads}
+use Rattle.walk_files.proofs.Common.{Reads, ◌≡◌, ◌-◌, ℕ, List, true, sym, ap, subst, ◌∙◌, Some, None, Result, Ok, Err, IfSome, OnOk, file_of, Move}
+use Rattle.std.proofs.Common.{Option}
 use Rattle.walk_files.specs.declared.stream_end.StreamEnd.{StreamEnd}
 use Rattle.walk_files.specs.declared.stream.CertStream.TheInside.{Inside}
 use Rattle.walk_files.specs.Readers.{count_in}

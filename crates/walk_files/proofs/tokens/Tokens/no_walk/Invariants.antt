@@ -1,6 +1,4 @@
-use Rattle.std.proofs.Common.{◌≡◌, length}
-use Rattle.std.specs.Prelude.{is_some}
-use Rattle.text_scan.specs.Each.{each_some}
+use Rattle.walk_files.proofs.Common.{◌≡◌, length, is_some, each_some}
 use Rattle.walk_files.specs.WalkTexts.{token_of}
 use Rattle.walk_files.proofs.tokens.Tokens.no_walk.Given as goal
 

@@ -1,0 +1,26 @@
+-- What proofs of this crate cite of others, passed on from one place (by tools/imports). Declares nothing.
+pub use Rattle.off_reader.specs.OffTexts.{Header, Keyword, bare_counts, coordinates_of, corners_of, counted, counts_behind, face_fault, has_piece, keyword_in, line_before, meaning_of, point_fault, ring_fault, rings_of, two_naturals, ◌>>=◌}
+unfoldable pub use Rattle.off_reader.specs.OffTexts.{counts_at, header_of, mesh_of, taken}
+pub use Rattle.off_reader.specs.declared.off_fault.OffFault.TheVariants.{OutOfMemory, TooMany, UnreadForm}
+pub use Rattle.std.proofs.Common.{Bool, List, ap, append_assoc, arith, drop, false, get_or, inl, inr, length, refl, subst, suc, sym, take, true, zero, ℕ, [], ◌++◌, ◌+◌, ◌<◌, ◌∙◌, ◌∷◌, ◌≡◌, ◌≤◌, ◌⊎◌}
+pub use Rattle.std.proofs.lemmas.Bool.{and_parts, cases_lt, leb-true}
+pub use Rattle.std.proofs.lemmas.Grind.{flat_map-append}
+pub use Rattle.std.proofs.lemmas.List.{append-nil, length-replicate, map-append, take_all, take_more}
+pub use Rattle.std.proofs.lemmas.Option.{get_or_from_slice_get, slice_get-get_or, slice_get_read}
+pub use Rattle.std.proofs.lemmas.Result.{err_from_is_err_and}
+pub use Rattle.std.specs.Option.{option_map}
+pub use Rattle.std.specs.Prelude.{All, Err, IfSome, IsSome, IsSomeAnd, MatchOption, MatchResult, None, Ok, OnErr, OnOk, Option, Result, Some, bytes_eq, codes, decimal, flat_map, if◌then◌else◌, map, nat_le, nat_lt, replicate, slice_get, sum_by, ◌&&◌, ◌↔◌}
+pub use Rattle.surf_io.proofs.Appending.{appends_twice, on_err, part_after, part_first, part_last}
+pub use Rattle.surf_io.proofs.Gathering.{EachPut, all-written, each-all, each-fails, each-more, each-none, gathers-put, line_of-numbers, on_ok, only-then, part-written, puts-fails, puts-same, puts-then}
+pub use Rattle.surf_io.specs.Bytes.{Appends, AppendsPrefix, append_told}
+pub use Rattle.surf_io.specs.Calls.{OnlyReads, OnlyWrites, WroteAll, WrotePart}
+pub use Rattle.surf_io.specs.Faults.{Rose}
+pub use Rattle.surf_io.specs.Files.{Files, file_of}
+pub use Rattle.surf_io.specs.Gathered.{Gathers, Puts, spaced}
+pub use Rattle.surf_model.specs.FaceLists.{FaceList, HasFileSize, IsFace, IsFaceList, total_sides}
+pub use Rattle.surf_model.specs.Walks.{AreWalkPair, darts}
+pub use Rattle.surf_model.specs.declared.decisions.Answer.TheVariants.{Different, Homotopic}
+pub use Rattle.text_scan.specs.Plain.{line_of}
+pub use Rattle.walk_files.specs.DenialTexts.{denial_text, entry_words}
+pub use Rattle.walk_files.specs.Pairs.{IsPair, ends_fault, of_entry, pair_fault}
+pub use Rattle.walk_files.specs.WalkTexts.{walk_text_of, walks_in, walks_of}

@@ -1,0 +1,33 @@
+-- What proofs of this crate cite of others, passed on from one place (by tools/imports). Declares nothing.
+pub use Rattle.flat_forms.specs.FlatStates.{IsFlatWheel, flat_next}
+pub use Rattle.flat_forms.specs.Vectors.{Vector, origin}
+pub use Rattle.std.proofs.Common.{All, Bool, List, ap, append_assoc, ap₂, arith, below_more, drop, eqb, false, get_or, inl, inr, length, map, of_z, refl, rules, slice_index, subst, suc, sym, take, to_z, true, w64, zero, ℕ, [], ◌&&◌, ◌*◌, ◌++◌, ◌+◌, ◌-◌, ◌<◌, ◌^◌, ◌∙◌, ◌∷◌, ◌≡◌, ◌≢◌, ◌≤◌, ◌⊎◌}
+pub use Rattle.std.proofs.lemmas.Bool.{and_parts, cases_Bool, cases_eq, cases_lt, eq-eqb, eqb-true, or_cases}
+pub use Rattle.std.proofs.lemmas.Bool.Decides.{nat_tests}
+pub use Rattle.std.proofs.lemmas.List.{append-nil, get_or-drop, get_or-take, get_or_append_left, get_or_push, get_or_read, length-append, length-drop, length-take-le, length_push, take_all}
+pub use Rattle.std.proofs.lemmas.List.Folds.{Any-from_list_any, list_any-from_Any}
+pub use Rattle.std.proofs.lemmas.Option.{get_or_from_slice_get}
+pub use Rattle.std.specs.Prelude.{Contains, Err, IfOk, IfSome, IsTrue, MatchOption, None, Ok, Option, Result, Some, cond, filter, find, slice_get, ℤ, ◌↔◌}
+pub use Rattle.surf_model.proofs.EdgeLemmas.{ends_differ, step_within}
+pub use Rattle.surf_model.proofs.ListedLemmas.{IsListed, all_listed, partners_listed}
+pub use Rattle.surf_model.proofs.PartnerLemmas.{HasSideEnds, edge_has_side, ends_agree, partners_of_edge, side_of_edge}
+pub use Rattle.surf_model.proofs.TableEdgeLemmas.{IsEdgeBetween, edge_between, place_before, same_pair, sides_between_swap, sides_of_edge, table_pair}
+pub use Rattle.surf_model.specs.Darts.{IsSide, head_of, side_after, tail_of}
+pub use Rattle.surf_model.specs.Edges.{Edge, HasEnds, IsEdgeOf, IsPairBefore, IsTableOf, edge_in, side_name}
+pub use Rattle.surf_model.specs.FaceLists.{FaceList, FaceSide, IsFaceList, all_sides, corners_from, face_at, joins, next_corner}
+unfoldable pub use Rattle.surf_model.specs.FaceLists.{is_edge}
+pub use Rattle.surf_model.specs.Moves.{Homotopic, apply_all}
+pub use Rattle.surf_model.specs.Surfaces.{ArePartners, end_under, is_flipped, start_under}
+pub use Rattle.surf_model.specs.Walks.{IsWalk}
+pub use Rattle.surf_model.specs.declared.edges.Side.{Side}
+pub use Rattle.turn_words.proofs.Spokes.{canonical, turns}
+pub use Rattle.turn_words.specs.Canonical.{IsCanonicalOf}
+pub use Rattle.turn_words.specs.FormLaws.{IsQuad, NotesAlong, led}
+pub use Rattle.turn_words.specs.HyperStates.{BelongsTo, HyperState, IsEven, IsHyperWheel, empty_state, hyper_next}
+unfoldable pub use Rattle.turn_words.specs.Modulo.{add, minus}
+pub use Rattle.turn_words.specs.Recorded.{TellsMore}
+pub use Rattle.turn_words.specs.SpokePaths.{turn_word_of}
+pub use Rattle.turn_words.specs.Wheels.{IsFirstTwice, IsWheel}
+pub use Rattle.turn_words.specs.declared.word.Word.{Word}
+pub use Rattle.turn_words.specs.declared.word.Word.TheVariants.{Flat, Turns}
+pub use Rattle.walk_actions.specs.Actions.{IsEdge, beyond, run, walked}

@@ -1,0 +1,24 @@
+-- What proofs of this crate cite of others, passed on from one place (by tools/imports). Declares nothing.
+pub use Rattle.connectivity.proofs.Joining.{either_way, entries_own, high_at, high_gone, joined_at_ends, joined_at_high, joined_at_keeps, joined_at_other, joined_at_same, joined_keep, joined_refl, joined_step, joined_trans, joins_only-alone, joins_only-joined_at, least_joined_at, least_range, length-joined_at, low_at, others_own}
+pub use Rattle.connectivity.specs.Classes.{AreLeastMembers, joined_at}
+pub use Rattle.halfedge_map.proofs.DartLemmas.{face-next, face_at_number, next_permutes, numbered}
+pub use Rattle.halfedge_map.proofs.OrbitLemmas.{AreAlike, IsPermutationBelow, Returns, reached_back, reached_keeps, reached_refl, reached_step, reached_trans, returns_to, step_first, steps_add, steps_within, two_alike}
+pub use Rattle.halfedge_map.proofs.SystemLemmas.{names_all, rotation_system}
+pub use Rattle.halfedge_map.specs.DartMaps.{darts_of, edge_of, face_of, next_of, origin_of, twin_of}
+unfoldable pub use Rattle.halfedge_map.specs.DartMaps.{used_vertices}
+pub use Rattle.halfedge_map.specs.Orbits.{IsReached, after_steps}
+pub use Rattle.halfedge_map.specs.OrientedMeshes.{IsOrientedSurface, OrientedMesh}
+pub use Rattle.halfedge_map.specs.RotationSystems.{IsDartFrom, IsDartStep, IsRotationSystem, NamesAll, Rotations, rotations_of}
+pub use Rattle.std.proofs.Common.{Bool, List, ap, arith, cond, eqb, false, get_or, inl, inr, length, ltb, not, refl, rules, slice_index, subst, suc, sym, true, zero, ℕ, [], ◌&&◌, ◌*◌, ◌++◌, ◌+◌, ◌-◌, ◌/◌, ◌<◌, ◌||◌, ◌∙◌, ◌∷◌, ◌≡◌, ◌≢◌, ◌≤◌, ◌⊎◌}
+pub use Rattle.std.proofs.Math.ListN.{set}
+pub use Rattle.std.proofs.lemmas.Bool.{and_from, and_parts, and_right, both_ways, cases_Bool, cases_eq, cases_lt, cond-false, cond-true, eq-eqb, eqb-true, lt-ltb, ltb-true, not_from_false, not_from_true, or_cases, or_left, or_right}
+pub use Rattle.std.proofs.lemmas.List.{append-nil, append_assoc, get_or-append-add, get_or-append_right, get_or-map, get_or-replicate, get_or-set_other, get_or-set_same, get_or_append_left, get_or_default, get_or_past, get_or_push, get_or_read, length-append, length-map, length-replicate, length-set, length_push, map-append, with_items_is}
+pub use Rattle.std.specs.Cmp.Derive.{one_truth}
+pub use Rattle.std.specs.List.{range_with_len}
+pub use Rattle.std.specs.Option.{option_map, option_to_list}
+pub use Rattle.std.specs.Prelude.{IfNone, IfSome, None, Option, Some, is_some, replicate, slice_get, swap}
+pub use Rattle.surf_model.specs.Edges.{Edge, IsTableOf, edge_in}
+pub use Rattle.surf_model.specs.FaceLists.{FaceList, IsFaceList, is_used}
+pub use Rattle.surf_model.specs.Numbers.{count_below}
+pub use Rattle.surf_model.specs.Surfaces.{AreJoined, IsPath, IsSurface}
+pub use Rattle.surf_model.specs.declared.names.DartName.{DartName}
