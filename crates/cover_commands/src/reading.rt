@@ -5,16 +5,16 @@ ghost use Rattle.surf_model.specs.Surfaces.{IsClosedManifold};
 ghost use Rattle.commands.specs.Checks.{Passes};
 ghost use Rattle.commands.specs.Stops.{Ends, Reads, Stops, Tells};
 ghost use Rattle.surface_commands.specs.SurfaceInput.{closed};
-ghost use Rattle.surface_commands.specs.SurfaceRefusals.{surface_line};
 ghost use Rattle.cover_commands.specs.MeshCover.{IsWithWays, cover_in, cover_line, covered, seen, ways_in, ways_of, with_ways};
 
 use commands::{Phrase, Stop, read_mesh, refused};
 use doubling::DoubleFault;
-use manifold_check::{SurfaceFault, check_closed};
+use manifold_check::check_closed;
 use orientation_cover::{WaysRound, cover, ways_round};
 use std::alloc::Global;
 use surf_io::Shelf;
 use surf_model::{Faces, Sides};
+use surface_commands::stop_for;
 
 /// A closed manifold, the table of its sides, and ways round its vertices.
 #[derive(Drop)]
@@ -70,7 +70,7 @@ fn check_manifold(alloc: Global, faces: &Faces, sides: &Sides) -> Result<(), Sto
 {
     match check_closed(alloc, faces, sides) {
         Ok(()) => Ok(()),
-        Err(fault) => Err(refused_for(fault)),
+        Err(fault) => Err(stop_for(fault)),
     }
 }
 
@@ -97,28 +97,6 @@ fn cover_on(alloc: Global, on: &MeshWithWays) -> Result<Faces, Stop>
             Ok(cover)
         }
         Err(fault) => Err(refused_as(fault)),
-    }
-}
-
-/// What stops the program where the mesh is no closed manifold.
-fn refused_for(fault: SurfaceFault) -> Stop
-    ensures { Tells (surface_line fault) result }
-{
-    match fault {
-        SurfaceFault::NoFace => refused(&[Phrase::Text("no face")]),
-        SurfaceFault::EdgeSides { low, high, sides } => refused(&[
-            Phrase::Text("edge"),
-            Phrase::Number(low.0 as u64),
-            Phrase::Number(high.0 as u64),
-            Phrase::Text("sides"),
-            Phrase::Number(sides as u64),
-        ]),
-        SurfaceFault::Pinched { vertex } => refused(&[
-            Phrase::Text("vertex"),
-            Phrase::Number(vertex.0 as u64),
-            Phrase::Text("pinched"),
-        ]),
-        SurfaceFault::OutOfMemory => Stop::OutOfMemory,
     }
 }
 

@@ -11,4 +11,5 @@ mod refusal;
 pub mod surface;
 mod surface_input;
 
+pub use refusal::stop_for;
 pub use surface_input::{few_components, read_surface, surface_of};

@@ -6,7 +6,7 @@ use commands::{Phrase, Stop, refused};
 use manifold_check::SurfaceFault;
 
 /// What stops a command whose mesh is no closed manifold.
-pub(crate) fn stop_for(fault: SurfaceFault) -> Stop
+pub fn stop_for(fault: SurfaceFault) -> Stop
     ensures { Tells (surface_line fault) result }
 {
     match fault {
