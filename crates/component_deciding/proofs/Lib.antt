@@ -5,4 +5,4 @@ pub mod OwnSurfaces
 pub mod OrderLemmas
 pub mod SphereLemmas
 pub mod WordLemmas
-pub mod WaitingLemmas
+pub mod FreeComponents

@@ -1,32 +1,23 @@
 -- What words of walks decide, on a connected surface and among several components.
-use Rattle.component_deciding.proofs.Common.{OrientedMesh, IsOrientedSurface, IsWordOf, ◌≡◌, ◌≢◌, ◌↔◌, inl, inr, false, ℕ, zero, suc, ◌<◌, eqb, List, [], ◌∷◌, ◌++◌, length, get_or, set, get_or-set_same, get_or-set_other, sym, ap, ◌∙◌, refl, subst, length-set, both_ways, cases_Bool, eq-eqb, eqb-true, IfSome, MatchOption, None, Option, Some, is_some, component_mesh, FaceList, HasGenus, Homotopic, IsWalk, AreWalkPair, Turns, words_decide, HasSphereSplit, IsLabelledByCut}
-use Rattle.labellings.specs.Labellings.{LabellingView}
-use Rattle.polygon_cut.proofs.SphereLemmas.{all_homotopic}
+use Rattle.component_deciding.proofs.Common.{◌≡◌, ◌≢◌, ◌↔◌, inl, inr, ℕ, zero, suc, ◌<◌, eqb, List, [], ◌∷◌, ◌++◌, length, get_or, set, get_or-set_same, get_or-set_other, sym, ap, ◌∙◌, refl, subst, length-set, both_ways, cases_Bool, eq-eqb, eqb-true, Box, IfSome, MatchOption, None, Option, Some, component_mesh, FaceList, HasGenus, Homotopic, IsWalk, AreWalkPair, Answer, DoDecide, IsFoundOn, IsWordFound, IsWordUnder, LabelledView}
 use Rattle.turn_words.specs.declared.word.Word.{Word}
-use Rattle.component_deciding.specs.ComponentWords.{AreLabelledApart, DoDecide, IsLabelledMore, IsLabelledSurface, IsOwnLabelled, IsWordAmong, IsWordAt, IsWordFound, IsWordUnder, LabelledView, SeveralView, labelled_at}
+use Rattle.turn_words.specs.declared.word.Word.TheVariants.{Turns}
+use Rattle.walk_translate.proofs.DecidingLemmas.{under_decide}
+use Rattle.surf_model.specs.declared.decisions.Answer.TheVariants as answers
+use Rattle.component_deciding.specs.ComponentWords.{AreLabelledApart, IsOwnLabelled, IsWordAmong, IsWordAt, SeveralView, labelled_at, unboxed}
 use Rattle.component_deciding.specs.OwnVertices.{IsApart, IsOwnWalk, own_mesh, own_walk}
 use Rattle.component_deciding.specs.declared.apart.Apart.{Apart}
 use Rattle.component_deciding.proofs.ComponentLemmas.{IsNumbered}
 use Rattle.component_deciding.proofs.OwnSurfaces.{own_homotopic, own_walks, walk_back}
 use Rattle.component_deciding.proofs.SphereLemmas.{homotopic_on_sphere}
 
--- ---- a connected surface
-
-labels_decide : (surface : OrientedMesh) (labels : Option LabellingView) (first second : List ℕ) (one other : Word)
-    → IsOrientedSurface surface → MatchOption labels (HasSphereSplit surface) (IsLabelledByCut surface)
-    → AreWalkPair surface.mesh first second → MatchOption labels (one ≡ Turns []) (λ labelling. IsWordOf surface.mesh labelling first one)
-    → MatchOption labels (other ≡ Turns []) (λ labelling. IsWordOf surface.mesh labelling second other)
-    → Homotopic surface.mesh first second ↔ (one ≡ other)
-labels_decide surface None first second one other o sphere walks here there = (
-  λ _. here ∙ sym there,
-  λ _. all_homotopic surface sphere.split first second o sphere.is_split sphere.none walks.first_walk walks.second_walk walks.ends,
-)
-labels_decide surface (Some labelling) first second one other o cut walks here there =
-    words_decide surface labelling first second one other o cut walks.first_walk walks.second_walk walks.ends here there
-
-pub under_decide : (labelled : LabelledView) → IsLabelledSurface labelled → DoDecide labelled.surface.mesh (IsWordUnder labelled)
-under_decide labelled h = λ first second one other walks here there.
-    labels_decide labelled.surface labelled.labels first second one other h.oriented h.labels walks here there
+-- where words decide, the answer is whether they are one
+pub words_answer : (mesh : FaceList) (IsWord : List ℕ → Word → Type 0) (first second : List ℕ) (one other : Word) (answer : Answer)
+    → DoDecide mesh IsWord → AreWalkPair mesh first second → IsWord first one → IsWord second other
+    → ((answer ≡ answers.Homotopic) ↔ (one ≡ other)) → IsFoundOn mesh first second (Some answer)
+words_answer mesh IsWord first second one other answer decide pair here there is =
+    let told : Homotopic mesh first second ↔ (one ≡ other) = decide first second one other pair here there in
+    (pair, ((λ e. told.1 (is.0 e)), (λ leads. is.1 (told.0 leads))))
 
 -- ---- several components
 
@@ -70,6 +61,13 @@ among_decide several h = λ first second one other walks here there.
 
 -- ---- one component more is labelled
 
+-- only the component at a place has got labels
+pub record IsLabelledMore (place : ℕ) (several next : SeveralView) : Type 0 where
+  pub labelled : AreLabelledApart next
+  pub same : next.apart ≡ several.apart
+  pub stay : (labelled : LabelledView) → labelled_at several place ≡ Some labelled → labelled_at next place ≡ Some labelled
+  pub others : (k : ℕ) → k ≢ place → labelled_at next k ≡ labelled_at several k
+
 -- the word of a walk in a component with these labels, or with none
 abbrev HasWord : Apart → Option LabelledView → ℕ → List ℕ → Word → Type 0
 HasWord apart found k walk word =
@@ -108,7 +106,7 @@ words_stay several next place walk word more not is =
     (sym more.same) there
 
 -- the labels of a component are those of its own mesh
-own_labels : (several : SeveralView) (k : ℕ) (labelled : LabelledView) → AreLabelledApart several
+pub own_labels : (several : SeveralView) (k : ℕ) (labelled : LabelledView) → AreLabelledApart several
     → k < length several.apart.parts.components → labelled_at several k ≡ Some labelled → IsOwnLabelled several.apart k labelled
 own_labels several k labelled is l there =
     subst (λ (o : Option LabelledView). IfSome o (IsOwnLabelled several.apart k)) there (is.labelled k l)
@@ -171,17 +169,17 @@ none_more {X} (x ∷ xs) none zero = none zero
 none_more {X} (x ∷ xs) none (suc k) = none_more xs (λ j. none (suc j)) k
 
 -- the component at a place has labels now, which had none
-pub labelled_more : (apart : Apart) (labelled : List (Option LabelledView)) (place : ℕ) (one : LabelledView)
+pub labelled_more : (apart : Apart) (labelled : List (Option (Box LabelledView))) (place : ℕ) (one : Box LabelledView)
     → AreLabelledApart (record { apart = apart; labelled = labelled }) → place < length apart.parts.components
-    → get_or labelled place None ≡ None → IsOwnLabelled apart place one
+    → get_or labelled place None ≡ None → IsOwnLabelled apart place one.value
     → IsLabelledMore place (record { apart = apart; labelled = labelled })
     (record { apart = apart; labelled = set labelled place (Some one) })
 labelled_more apart labelled place one is l none own =
-    let next : List (Option LabelledView) = set labelled place (Some one) in
+    let next : List (Option (Box LabelledView)) = set labelled place (Some one) in
     let inside : place < length labelled = subst (λ (n : ℕ). place < n) (sym is.each) l in
-    let here : get_or next place None ≡ Some one = get_or-set_same labelled place (Some one) None inside in
-    let others : (k : ℕ) → k ≢ place → get_or next k None ≡ get_or labelled k None =
-    λ k differ. get_or-set_other labelled place k (Some one) None differ in
+    let here : unboxed (get_or next place None) ≡ Some one.value = ap unboxed (get_or-set_same labelled place (Some one) None inside) in
+    let others : (k : ℕ) → k ≢ place → unboxed (get_or next k None) ≡ unboxed (get_or labelled k None) =
+    λ k differ. ap unboxed (get_or-set_other labelled place k (Some one) None differ) in
     record {
       labelled = record {
         apart = is.apart;
@@ -189,7 +187,7 @@ labelled_more apart labelled place one is l none own =
         labelled = λ k few. elim (cases_Bool (eqb k place)) [
           | inl same ↦
               (let at : k ≡ place = eqb-true k place same in
-              subst (λ (p : ℕ). IfSome (get_or next p None) (IsOwnLabelled apart p)) (sym at)
+              subst (λ (p : ℕ). IfSome (unboxed (get_or next p None)) (IsOwnLabelled apart p)) (sym at)
               (subst (λ (o : Option LabelledView). IfSome o (IsOwnLabelled apart place)) (sym here) own))
           | inr differ ↦
               subst (λ (o : Option LabelledView). IfSome o (IsOwnLabelled apart k))
@@ -197,10 +195,6 @@ labelled_more apart labelled place one is l none own =
         ];
       };
       same = refl;
-      stay = λ labels e. absurd (let wrong : None ≡ Some labels = sym none ∙ e in cc);
+      stay = λ labels e. absurd (let wrong : None ≡ Some labels = sym (ap unboxed none) ∙ e in cc);
       others = others;
     }
-
-pub not_there : {X : Type 0} (x : Option X) → false ≡ is_some x → x ≡ None
-not_there {X} None e = refl
-not_there {X} (Some y) e = absurd cc

@@ -1,6 +1,5 @@
 -- A mesh over the vertices that it uses, and the numbers of vertices in their components.
-use Rattle.std.specs.Prelude.{◌≡◌, ℕ, ◌<◌, List, length, map, slice_index, slice_index_or, All, IsTrue, Option, IfSome}
-use Rattle.std.specs.Global.{Box}
+use Rattle.std.specs.Prelude.{◌≡◌, ℕ, ◌<◌, List, length, map, slice_index, All, IsTrue}
 use Rattle.surf_model.specs.FaceLists.{FaceList, IsFaceList, HasFileSize, is_used}
 use Rattle.surf_model.specs.Numbers.{count_below}
 use Rattle.surf_model.specs.ComponentParts.{PartsView, AreParts, component_mesh}
@@ -41,11 +40,6 @@ pub record IsApart (apart : Apart) : Type 0 where
 -- the component at a place, as a mesh over its own vertices
 abbrev pub IsLabelled : Apart → ℕ × FaceList → Type 0
 IsLabelled apart labelled = labelled.1 ≡ own_mesh (component_mesh apart.mesh.faces apart.parts labelled.0)
-
--- what waits in a slot is the component with that place, as a mesh over its own vertices
-abbrev pub AreWaiting : Apart → List (Option (Box FaceList)) → Type 0
-AreWaiting apart waiting = (k : ℕ) (d : Option (Box FaceList)) → k < length waiting
-    → IfSome (slice_index_or waiting k d) (λ labelled. IsLabelled apart (k, labelled.value))
 
 -- all entries of the walk are vertices of the component at that place, and by their own numbers they are the other walk
 pub record IsOwnWalk (apart : Apart) (place : ℕ) (walk own : List ℕ) : Type 0 where

@@ -2,7 +2,8 @@
 use Rattle.std.specs.Prelude.{ℕ, List}
 use Rattle.surf_model.specs.FaceLists.{FaceList}
 use Rattle.turn_words.specs.declared.word.Word.{Word}
-use Rattle.component_deciding.specs.ComponentWords.{IsWordUnder, IsWordAmong}
+use Rattle.walk_translate.specs.LabelledSurfaces.{IsWordUnder}
+use Rattle.component_deciding.specs.ComponentWords.{IsWordAmong}
 use Rattle.component_deciding.specs.declared.word_finder.WordFinder.{WordFinder}
 use Rattle.component_deciding.specs.declared.word_finder.WordFinder.TheVariants.{Whole, Several}
 

@@ -7,7 +7,7 @@ ghost use Rattle.surf_model.specs.Genera.{HasGenus};
 ghost use Rattle.surf_model.specs.Walks.{IsWalk};
 ghost use Rattle.turn_words.specs.declared.word.Word.TheVariants.{Turns};
 ghost use Rattle.component_deciding.specs.OwnVertices.{IsApart};
-ghost use Rattle.component_deciding.specs.PairDeciders.{IsFoundOn};
+ghost use Rattle.walk_translate.specs.Found.{IsFoundOn};
 
 use crate::own_numbers::{OwnNumbers, number_vertices};
 use closed_surfaces::{SignedMesh, genera_of};
@@ -15,7 +15,7 @@ use manifold_check::Parts;
 use std::alloc::{AllocError, Global};
 use surf_model::{Answer, VertexName, Walk};
 use turn_words::{TurnWord, Word};
-use walk_translate::are_pair;
+use walk_translate::{are_pair, is_walk};
 
 /// From how many darts for each edge of the mesh on the spokes of all darts of a component are kept: to find them takes the time of
 /// looking up two or three darts an edge.
@@ -96,13 +96,14 @@ impl Apart {
         }
         Some(Answer::Homotopic)
     }
+
     /// The word of a walk on a component that is a sphere, or none where this is no walk of the surface.
     pub(crate) fn word_on_sphere(&self, walk: &Walk) -> Option<Word>
         requires { IsApart self.now }
         ensures { MatchOption result (IsWalk self.now.mesh.faces walk.now → ⊥)
             (λ word. IsWalk self.now.mesh.faces walk.now × (word ≡ Turns [])) }
     {
-        if !are_pair(&self.mesh.faces, &self.mesh.sides, walk, walk) {
+        if !is_walk(&self.mesh.faces, &self.mesh.sides, walk) {
             return None;
         }
         Some(Word::Turns(TurnWord::new(self.alloc)))

@@ -3,6 +3,7 @@ ghost use Rattle.std.specs.Prelude.{◌≡◌, ◌<◌, All, length, map, slice_
 ghost use Rattle.surf_model.specs.Vertices.{numbers};
 ghost use Rattle.surf_model.specs.Walks.{IsWalk};
 ghost use Rattle.surf_model.specs.ComponentParts.{component_at, component_mesh};
+ghost use Rattle.walk_translate.specs.LabelledSurfaces.{IsLabelledSurface};
 ghost use Rattle.component_deciding.specs.OwnVertices.{IsApart, IsOwnWalk, own_mesh};
 
 use crate::apart::Apart;
@@ -10,9 +11,22 @@ use crate::own_numbers::OwnNumbers;
 use halfedge_map::Surface;
 use std::alloc::AllocError;
 use surf_model::{FaceName, Faces, Sides, VertexName, Walk};
+use walk_translate::Labelled;
+
+/// A component by its place, over its own vertices, with its labels.
+pub(crate) fn own_labelled(apart: &Apart, place: u32) -> Result<Labelled, AllocError>
+    requires apart { IsApart apart.now }
+    requires place { place < length apart.now.parts.components }
+    ensures labels { IfOk result IsLabelledSurface }
+    ensures mesh { IfOk result (λ labelled. labelled.surface.mesh
+        ≡ own_mesh (component_mesh apart.now.mesh.faces apart.now.parts place)) }
+{
+    let alone = own_surface(apart, place)?;
+    Labelled::of(apart.alloc, alone, apart.keeps_spokes)
+}
 
 /// A component by its place, over its own vertices.
-pub(crate) fn own_surface(apart: &Apart, place: u32) -> Result<Surface, AllocError>
+fn own_surface(apart: &Apart, place: u32) -> Result<Surface, AllocError>
     requires apart { IsApart apart.now }
     requires place { place < length apart.now.parts.components }
     ensures { IfOk result (λ alone. alone.mesh ≡ own_mesh (component_mesh apart.now.mesh.faces apart.now.parts place)) }

@@ -1,8 +1,9 @@
 //! Deciding on many pairs of walks of a surface.
 ghost use Rattle.std.specs.Prelude.{◌≡◌, IfOk};
 ghost use Rattle.closed_surfaces.specs.SignedSurfaces.{IsSigned};
-ghost use Rattle.component_deciding.specs.PairDeciders.{IsFoundOn, mesh_of};
+ghost use Rattle.component_deciding.specs.PairDeciders.{mesh_of};
 ghost use Rattle.surf_model.specs.Edges.{IsTableOf};
+ghost use Rattle.walk_translate.specs.Found.{IsFoundOn};
 
 use crate::several::Several;
 use closed_surfaces::{SignedMesh, connected};
@@ -26,27 +27,6 @@ impl PairDecider {
         requires { IsSigned mesh }
         ensures { IfOk result (λ decider. mesh_of decider ≡ mesh.faces) }
     {
-        PairDecider::keeping(alloc, mesh, darts, false)
-    }
-
-    /// The same, for pairs that are asked as they come: no component is labelled twice, whatever their order.
-    pub fn lasting(alloc: Global, mesh: SignedMesh) -> Result<PairDecider, AllocError>
-        requires { IsSigned mesh }
-        ensures { IfOk result (λ decider. mesh_of decider ≡ mesh.faces) }
-    {
-        PairDecider::keeping(alloc, mesh, u64::MAX, true)
-    }
-
-    /// The surface that a mesh is. The labels of all components are kept, or those of the last one alone.
-    fn keeping(
-        alloc: Global,
-        mesh: SignedMesh,
-        darts: u64,
-        all: bool,
-    ) -> Result<PairDecider, AllocError>
-        requires { IsSigned mesh }
-        ensures { IfOk result (λ decider. mesh_of decider ≡ mesh.faces) }
-    {
         let parts = Parts::build(alloc, &mesh.faces, &mesh.sides)?;
         if parts.len() == 1 {
             // Its memory is for the surface.
@@ -54,8 +34,7 @@ impl PairDecider {
             let surface = connected(alloc, mesh)?;
             return Ok(PairDecider::Whole(Decider::for_darts(alloc, surface, darts)?));
         }
-        let slots = if all { parts.len() as usize } else { 0 };
-        Ok(PairDecider::Several(Several::of(alloc, mesh, parts, darts, slots)?))
+        Ok(PairDecider::Several(Several::of(alloc, mesh, parts, darts)?))
     }
 
     /// The edge table of the surface.

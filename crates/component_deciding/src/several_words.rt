@@ -1,28 +1,31 @@
 //! The words of walks on a surface of several components.
-ghost use Rattle.std.specs.Prelude.{◌≡◌, ◌<◌, ℕ, List, length, slice_index_or, IfOk, OnOk, IsSome, None};
+ghost use Rattle.std.specs.Prelude.{◌≡◌, ◌↔◌, ℕ, List, length, slice_index_or, IfOk, None};
 ghost use Rattle.closed_surfaces.specs.SignedSurfaces.{IsSigned};
-ghost use Rattle.component_deciding.specs.ComponentWords.{AreLabelledApart, DoDecide, IsLabelledMore, IsWordAmong, IsWordFound};
-ghost use Rattle.surf_model.specs.ComponentParts.{AreParts, component_mesh};
+ghost use Rattle.closed_walks.specs.FreeHomotopy.{FreelyHomotopic, IsClosedWalk};
+ghost use Rattle.component_deciding.specs.ComponentWords.{IsWordAmong};
+ghost use Rattle.surf_model.specs.ComponentParts.{AreParts};
 ghost use Rattle.surf_model.specs.Edges.{IsTableOf};
-ghost use Rattle.surf_model.specs.Genera.{HasGenus};
 ghost use Rattle.turn_words.specs.declared.word.Word.{Word};
+ghost use Rattle.walk_translate.specs.Found.{DoDecide, IsWordFound};
 
 use crate::apart::Apart;
-use crate::labelled::Labelled;
-use crate::own_mesh::{own_surface, own_walk};
+use crate::free::decide_free_on;
+use crate::own_mesh::{own_labelled, own_walk};
 use closed_surfaces::SignedMesh;
+use free_loops::FreeAnswer;
 use manifold_check::Parts;
 use std::alloc::{AllocError, Global};
 use std::marker::Model;
 use surf_model::{Sides, Walk};
 use turn_words::Word;
+use walk_translate::Labelled;
 
 /// A surface of several components, of which each is labelled where it is asked about. Contracts see the components and their labels.
 #[derive(Drop)]
 pub struct SeveralWords {
     apart: Apart,
-    /// For each component its labels, from the first walk there on; a sphere gets none.
-    labelled: Vec<Option<Labelled>>,
+    /// For each component its labels, from the first walk there on; a sphere gets none. A slot takes 8 bytes.
+    labelled: Vec<Option<Box<Labelled>>>,
 }
 
 impl Model for SeveralWords {
@@ -77,16 +80,55 @@ impl SeveralWords {
         let Some(own) = own_walk(&self.apart, place, walk)? else {
             return Ok(None);
         };
-        label(&self.apart, &mut self.labelled, place)?;
-        let Some(labelled) = &self.labelled[place as usize] else {
+        if let Some(labelled) = &self.labelled[place as usize] {
+            return labelled.word_if_walk(&own);
+        }
+        let labelled = own_labelled(&self.apart, place)?;
+        let found = labelled.word_if_walk(&own);
+        let kept = Box::new(self.apart.alloc, labelled)?;
+        self.labelled[place as usize] = Some(kept);
+        found
+    }
+
+    /// Whether two closed walks are freely homotopic. Walks of two components are not, and those of one that is a sphere are; another
+    /// component is labelled, if it has no labels yet.
+    pub(crate) fn decide_free(
+        &mut self,
+        first: &Walk,
+        second: &Walk,
+    ) -> Result<FreeAnswer, AllocError>
+        requires first { IsClosedWalk self.old.apart.mesh.faces first.now }
+        requires second { IsClosedWalk self.old.apart.mesh.faces second.now }
+        ensures same { self.new.apart ≡ self.old.apart }
+        ensures answer { IfOk result (λ answer. (answer ≡ FreeAnswer.Freely)
+            ↔ FreelyHomotopic self.old.apart.mesh.faces first.now second.now) }
+    {
+        let place = self.apart.parts.part_of(first.at(0));
+        if self.apart.parts.part_of(second.at(0)) != place {
+            return Ok(FreeAnswer::NotFreely);
+        }
+        if self.apart.is_sphere(place) {
+            return Ok(FreeAnswer::Freely);
+        }
+        let Some(one) = own_walk(&self.apart, place, first)? else {
             unreachable!()
         };
-        labelled.word_if_walk(&own)
+        let Some(other) = own_walk(&self.apart, place, second)? else {
+            unreachable!()
+        };
+        if let Some(labelled) = &self.labelled[place as usize] {
+            return decide_free_on(labelled, &one, &other);
+        }
+        let labelled = own_labelled(&self.apart, place)?;
+        let answer = decide_free_on(&labelled, &one, &other);
+        let kept = Box::new(self.apart.alloc, labelled)?;
+        self.labelled[place as usize] = Some(kept);
+        answer
     }
 }
 
 /// No labels for so many components.
-fn none_labelled(alloc: Global, count: u32) -> Result<Vec<Option<Labelled>>, AllocError>
+fn none_labelled(alloc: Global, count: u32) -> Result<Vec<Option<Box<Labelled>>>, AllocError>
     ensures each { IfOk result (λ labelled. length labelled.items ≡ count) }
     ensures none { IfOk result (λ labelled. (k : ℕ) → slice_index_or labelled.items k None ≡ None) }
 {
@@ -95,21 +137,4 @@ fn none_labelled(alloc: Global, count: u32) -> Result<Vec<Option<Labelled>>, All
         labelled.push(None)?;
     }
     Ok(labelled)
-}
-
-/// Labels the component at a place, which is no sphere, unless it has labels.
-fn label(apart: &Apart, labelled: &mut Vec<Option<Labelled>>, place: u32) -> Result<(), AllocError>
-    requires labelled { AreLabelledApart (record { apart = apart.now; labelled = labelled.old.items }) }
-    requires place { place < length apart.now.parts.components }
-    requires no_sphere { HasGenus (component_mesh apart.now.mesh.faces apart.now.parts place) 0 → ⊥ }
-    ensures more { IsLabelledMore place (record { apart = apart.now; labelled = labelled.old.items })
-        (record { apart = apart.now; labelled = labelled.new.items }) }
-    ensures there { OnOk result (IsSome (slice_index_or labelled.new.items place None)) }
-{
-    if labelled[place as usize].is_some() {
-        return Ok(());
-    }
-    let alone = own_surface(apart, place)?;
-    labelled[place as usize] = Some(Labelled::of(apart.alloc, alone, apart.keeps_spokes)?);
-    Ok(())
 }

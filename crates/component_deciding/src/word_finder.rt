@@ -1,21 +1,26 @@
-//! The words of the walks of a surface, of which two with common ends are one exactly where the walks are homotopic.
-ghost use Rattle.std.specs.Prelude.{◌≡◌, ℕ, List, IfOk};
+//! The words of the walks of a surface, of which two with common ends are one exactly where the walks are homotopic; and whether closed
+//! walks are freely homotopic.
+ghost use Rattle.std.specs.Prelude.{◌≡◌, ◌↔◌, ℕ, List, IfOk};
 ghost use Rattle.closed_surfaces.specs.SignedSurfaces.{IsSigned};
-ghost use Rattle.component_deciding.specs.ComponentWords.{DoDecide, IsWordFound};
+ghost use Rattle.closed_walks.specs.FreeHomotopy.{FreelyHomotopic, IsClosedWalk};
 ghost use Rattle.component_deciding.specs.WordFinders.{IsWordIn, mesh_of_finder};
 ghost use Rattle.surf_model.specs.Edges.{IsTableOf};
 ghost use Rattle.turn_words.specs.declared.word.Word.{Word};
+ghost use Rattle.walk_translate.specs.Found.{DoDecide, IsFoundOn, IsWordFound};
 
-use crate::labelled::Labelled;
+use crate::free::decide_free_on;
 use crate::several_words::SeveralWords;
 use closed_surfaces::{SignedMesh, connected};
+use free_loops::FreeAnswer;
+use labellings::are_same_words;
 use manifold_check::Parts;
 use std::alloc::{AllocError, Global};
-use surf_model::{Sides, Walk};
+use surf_model::{Answer, Sides, Walk};
 use turn_words::Word;
+use walk_translate::{Labelled, have_common_ends};
 
-/// A surface of which the words of walks may be asked, each under the labels of its component. Contracts see its mesh, and which words
-/// its walks have.
+/// A surface of which the words of walks may be asked, each under the labels of its component, and whether closed walks are freely
+/// homotopic. Contracts see its mesh, and which words its walks have.
 #[derive(Drop)]
 pub enum WordFinder {
     /// A connected surface with its labels.
@@ -35,9 +40,8 @@ impl WordFinder {
         if parts.len() == 1 {
             // Its memory is for the surface.
             drop(parts);
-            let keeps_spokes = darts >= u64::from(mesh.sides.len());
             let surface = connected(alloc, mesh)?;
-            return Ok(WordFinder::Whole(Labelled::of(alloc, surface, keeps_spokes)?));
+            return Ok(WordFinder::Whole(Labelled::for_darts(alloc, surface, darts)?));
         }
         Ok(WordFinder::Several(SeveralWords::of(alloc, mesh, parts, darts)?))
     }
@@ -63,6 +67,47 @@ impl WordFinder {
         match self {
             WordFinder::Whole(labelled) => labelled.word_if_walk(walk),
             WordFinder::Several(several) => several.word_if_walk(walk),
+        }
+    }
+
+    /// Decides by their words whether two walks are homotopic, or tells by `None` that they are no walks of the surface with common ends.
+    pub fn answer_if_pair(
+        &mut self,
+        first: &Walk,
+        second: &Walk,
+    ) -> Result<Option<Answer>, AllocError>
+        ensures same { mesh_of_finder self.new ≡ mesh_of_finder self.old }
+        ensures answer { IfOk result (IsFoundOn (mesh_of_finder self.old) first.now second.now) }
+    {
+        if !have_common_ends(first, second) {
+            return Ok(None);
+        }
+        let Some(one) = self.word_if_walk(first)? else {
+            return Ok(None);
+        };
+        let Some(other) = self.word_if_walk(second)? else {
+            return Ok(None);
+        };
+        // The proof reads what holds of every word.
+        let _ = self.sides();
+        if are_same_words(&one, &other) {
+            Ok(Some(Answer::Homotopic))
+        } else {
+            Ok(Some(Answer::Different))
+        }
+    }
+
+    /// Whether two closed walks are freely homotopic.
+    pub fn decide_free(&mut self, first: &Walk, second: &Walk) -> Result<FreeAnswer, AllocError>
+        requires first { IsClosedWalk (mesh_of_finder self.old) first.now }
+        requires second { IsClosedWalk (mesh_of_finder self.old) second.now }
+        ensures same { mesh_of_finder self.new ≡ mesh_of_finder self.old }
+        ensures answer { IfOk result (λ answer. (answer ≡ FreeAnswer.Freely)
+            ↔ FreelyHomotopic (mesh_of_finder self.old) first.now second.now) }
+    {
+        match self {
+            WordFinder::Whole(labelled) => decide_free_on(labelled, first, second),
+            WordFinder::Several(several) => several.decide_free(first, second),
         }
     }
 }

@@ -1,7 +1,7 @@
 //! Deciding free homotopy.
-ghost use Rattle.std.specs.Prelude.{◌≡◌, ◌≤◌, ◌↔◌, IfOk, IsTrue};
+ghost use Rattle.std.specs.Prelude.{◌≡◌, ◌≤◌, ◌↔◌, IfOk, IsTrue, MatchOption};
 ghost use Rattle.closed_walks.specs.FreeHomotopy.{IsClosedWalk, FreelyHomotopic};
-ghost use Rattle.walk_translate.specs.SurfaceLabels.{IsLabelledByCut};
+ghost use Rattle.walk_translate.specs.SurfaceLabels.{HasSphereSplit, IsLabelledByCut};
 
 use crate::form::cyclic_form_of;
 use halfedge_map::Surface;
@@ -34,15 +34,35 @@ pub fn decide_free(
     requires second { IsClosedWalk surface.now.mesh second.now }
     ensures { IfOk result (λ answer. (answer ≡ FreeAnswer.Freely) ↔ FreelyHomotopic surface.now.mesh first.now second.now) }
 {
+    let labels = label_by_cut(alloc, surface)?;
+    let answer = decide_labelled(alloc, surface, &labels, first, second);
+    // By a call, which is proved once, and not here again.
+    drop(labels);
+    answer
+}
+
+/// The same on a surface that is labelled already; a sphere has no labels.
+pub fn decide_labelled(
+    alloc: Global,
+    surface: &Surface,
+    labels: &Option<GoodLabelling>,
+    first: &Walk,
+    second: &Walk,
+) -> Result<FreeAnswer, AllocError>
+    requires labels { MatchOption labels.now (HasSphereSplit surface.now) (IsLabelledByCut surface.now) }
+    requires first { IsClosedWalk surface.now.mesh first.now }
+    requires second { IsClosedWalk surface.now.mesh second.now }
+    ensures { IfOk result (λ answer. (answer ≡ FreeAnswer.Freely) ↔ FreelyHomotopic surface.now.mesh first.now second.now) }
+{
     // The proof reads what holds of every surface.
     let _ = surface.faces();
-    let Some(good) = label_by_cut(alloc, surface)? else {
+    let Some(good) = labels else {
         return Ok(FreeAnswer::Freely);
     };
     let same = if good.labelling().degree() == 4 {
-        have_one_sum(alloc, surface, &good, first, second)?
+        have_one_sum(alloc, surface, good, first, second)?
     } else {
-        have_one_form(alloc, surface, &good, first, second)?
+        have_one_form(alloc, surface, good, first, second)?
     };
     if same {
         Ok(FreeAnswer::Freely)

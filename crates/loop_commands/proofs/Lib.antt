@@ -1,5 +1,4 @@
 pub mod Common
-pub mod ComponentLoops
 pub mod LoopChecks
 pub mod LoopAnswers
 pub mod LoopOutcomes

@@ -4,7 +4,7 @@ pub use Rattle.commands.specs.Answers.{Answer}
 pub use Rattle.commands.specs.Checks.{Check, End, Holds, IsTold, Pass, Passes, Refuse, file, meant, ◌>>=◌}
 pub use Rattle.commands.specs.declared.status.Status.TheVariants.{No, Yes}
 pub use Rattle.component_deciding.proofs.OrderLemmas.{HoldsUpTo, all_hold, as_many, holds_next, pair_within}
-pub use Rattle.component_deciding.specs.PairDeciders.{IsFoundOn, mesh_of}
+pub use Rattle.component_deciding.specs.PairDeciders.{mesh_of}
 pub use Rattle.std.proofs.Common.{List, ap, arith, codes, false, get_or, inl, inr, length, refl, subst, suc, sym, true, zero, ℕ, [], ◌*◌, ◌+◌, ◌/◌, ◌<◌, ◌↔◌, ◌∙◌, ◌∷◌, ◌≡◌}
 pub use Rattle.std.proofs.lemmas.Result.{err_from_is_err_and}
 pub use Rattle.std.specs.Prelude.{All, None, Option, Result, Some, slice_get}
@@ -13,3 +13,4 @@ pub use Rattle.surf_model.specs.FaceLists.{FaceList}
 pub use Rattle.surf_model.specs.Walks.{AreWalkPair, HaveCommonEnds, IsWalk}
 pub use Rattle.walk_files.specs.PairLists.{ArePairs, WalkPair, are_paired, in_pairs, pairs_fault}
 pub use Rattle.walk_files.specs.WalkLists.{WalkText}
+pub use Rattle.walk_translate.specs.Found.{IsFoundOn}

@@ -1,5 +1,5 @@
 -- Decisions on pairs: one more, all of them, and what they are worth.
-use Rattle.pair_commands.proofs.Common.{IsSound, Answer, End, Refuse, Pass, Yes, No, IsFoundOn, ◌≡◌, ◌↔◌, ℕ, zero, suc, ◌+◌, ◌*◌, ◌/◌, ◌<◌, true, List, [], ◌∷◌, length, get_or, refl, sym, ap, ◌∙◌, subst, arith, All, Option, Some, slice_get, Files, FaceList, IsWalk, HaveCommonEnds, AreWalkPair, WalkPair, ArePairs, are_paired, in_pairs, WalkText}
+use Rattle.pair_commands.proofs.Common.{IsSound, Answer, End, Refuse, Pass, Yes, No, ◌≡◌, ◌↔◌, ℕ, zero, suc, ◌+◌, ◌*◌, ◌/◌, ◌<◌, true, List, [], ◌∷◌, length, get_or, refl, sym, ap, ◌∙◌, subst, arith, All, Option, Some, slice_get, Files, FaceList, IsWalk, HaveCommonEnds, AreWalkPair, WalkPair, ArePairs, are_paired, in_pairs, WalkText, IsFoundOn}
 use Rattle.commands.proofs.Deciding.{differs, one_decision}
 use Rattle.commands.specs.Certificates.{decisions_status}
 use Rattle.std.proofs.lemmas.Bool.Decides.{nat_tests}

@@ -12,7 +12,8 @@ pub use Rattle.labellings.specs.WalkWords.{IsWordOf}
 pub use Rattle.polygon_cut.specs.Polygons.{IsCutFrom, PolygonView}
 pub use Rattle.quad_system.proofs.FlatWordLemmas.{one_sum}
 pub use Rattle.quad_system.specs.PolygonLabellings.{IsFull, face_labels, labelling_from}
-pub use Rattle.std.proofs.Common.{Bool, List, add-one, ap, arith, false, get_or, inl, inr, length, refl, subst, suc, sym, take, true, zero, ℕ, [], ◌*◌, ◌++◌, ◌+◌, ◌<◌, ◌∙◌, ◌∷◌, ◌≡◌, ◌≤◌, ◌⊎◌}
+pub use Rattle.std.proofs.Common.{Bool, List, add-one, ap, ap₂, arith, false, get_or, inl, inr, length, of_z, refl, subst, suc, sym, take, to_z, true, w64, zero, ℕ, [], ◌*◌, ◌++◌, ◌+◌, ◌<◌, ◌∙◌, ◌∷◌, ◌≡◌, ◌≤◌, ◌⊎◌}
+pub use Rattle.std.proofs.lemmas.Int.{ints}
 pub use Rattle.std.proofs.lemmas.List.{append-nil, get_or_append_left, get_or_default, length-append, length-map, same_lists, take_all}
 pub use Rattle.std.specs.Prelude.{All, IfSome, IsTrue, MatchOption, None, Option, Some, pos, ℤ, ◌+ℤ◌, ◌-ℤ◌, ◌↔◌}
 pub use Rattle.surf_model.proofs.EdgeLemmas.{edge_swap, head_used}
@@ -23,4 +24,5 @@ pub use Rattle.surf_model.specs.Moves.{Homotopic}
 pub use Rattle.surf_model.specs.Walks.{AreWalkPair, HaveCommonEnds, IsWalk, darts}
 pub use Rattle.tree_cotree.specs.Splits.{IsSplit, SplitView}
 pub use Rattle.turn_words.specs.FormLaws.{led}
+pub use Rattle.turn_words.specs.HyperStates.{BelongsTo, HyperState, IsEven, IsHyperWheel, empty_state, hyper_next}
 pub use Rattle.turn_words.specs.declared.word.Word.TheVariants.{Flat, Turns}

@@ -1,9 +1,11 @@
 -- Equal words mean homotopic walks, on the surface from which the polygon of the labelling was cut.
-use Rattle.walk_translate.proofs.Common.{flat_next, Vector, origin, OrientedMesh, IsOrientedSurface, quad_path_leads_to_sum, LabellingView, quad_path, IsWordOf, PolygonView, IsCutFrom, one_sum, labelling_from, ◌≡◌, ℕ, ◌≤◌, List, ap, sym, ◌∙◌, subst, arith, ◌↔◌, ℤ, Homotopic, IsWalk, HaveCommonEnds, SplitView, IsSplit, led, Turns, Flat}
+use Rattle.walk_translate.proofs.Common.{flat_next, Vector, origin, OrientedMesh, IsOrientedSurface, quad_path_leads_to_sum, LabellingView, quad_path, IsWordOf, PolygonView, IsCutFrom, one_sum, labelling_from, ◌≡◌, ℕ, ◌≤◌, List, ap, sym, ◌∙◌, subst, arith, [], ◌↔◌, ℤ, Option, Some, None, MatchOption, Homotopic, IsWalk, HaveCommonEnds, AreWalkPair, SplitView, IsSplit, led, Turns, Flat}
 use Rattle.polygon_cut.proofs.SphereLemmas.{all_homotopic}
 use Rattle.quad_system.proofs.EqualWordLemmas.{one_word}
 use Rattle.surf_model.specs.declared.decisions.Answer.{Answer}
 use Rattle.turn_words.specs.declared.word.Word.{Word}
+use Rattle.walk_translate.specs.Found.{DoDecide}
+use Rattle.walk_translate.specs.LabelledSurfaces.{LabelledView, IsLabelledSurface, IsWordUnder}
 use Rattle.walk_translate.specs.SurfaceLabels.{HasSphereSplit, IsLabelledByCut}
 use Rattle.surf_model.specs.declared.decisions.Answer.TheVariants as answers
 
@@ -52,12 +54,22 @@ words_decide surface labelling first second one other o h w z ends f g =
     from_polygon surface h.split h.polygon first second one other o h.is_split h.is_cut w z ends
     (subst (λ l. IsWordOf surface.mesh l first one) h.labelling_is f) (subst (λ l. IsWordOf surface.mesh l second other) h.labelling_is g)
 
--- on a sphere the answer is always the same
-pub sphere_decides : (surface : OrientedMesh) (first second : List ℕ) (answer : Answer) → IsOrientedSurface surface → HasSphereSplit surface
-    → IsWalk surface.mesh first → IsWalk surface.mesh second → HaveCommonEnds first second → answer ≡ answers.Homotopic
-    → (answer ≡ answers.Homotopic) ↔ Homotopic surface.mesh first second
-sphere_decides surface first second answer o h w z ends e =
-    ((λ _. all_homotopic surface h.split first second o h.is_split h.none w z ends), (λ _. e))
+-- the words under the labels of a cut decide, also on a sphere, which has none
+pub labels_decide : (surface : OrientedMesh) (labels : Option LabellingView) (first second : List ℕ) (one other : Word)
+    → IsOrientedSurface surface → MatchOption labels (HasSphereSplit surface) (IsLabelledByCut surface)
+    → AreWalkPair surface.mesh first second → MatchOption labels (one ≡ Turns []) (λ labelling. IsWordOf surface.mesh labelling first one)
+    → MatchOption labels (other ≡ Turns []) (λ labelling. IsWordOf surface.mesh labelling second other)
+    → Homotopic surface.mesh first second ↔ (one ≡ other)
+labels_decide surface None first second one other o sphere walks here there = (
+  λ _. here ∙ sym there,
+  λ _. all_homotopic surface sphere.split first second o sphere.is_split sphere.none walks.first_walk walks.second_walk walks.ends,
+)
+labels_decide surface (Some labelling) first second one other o cut walks here there =
+    words_decide surface labelling first second one other o cut walks.first_walk walks.second_walk walks.ends here there
+
+pub under_decide : (labelled : LabelledView) → IsLabelledSurface labelled → DoDecide labelled.surface.mesh (IsWordUnder labelled)
+under_decide labelled h = λ first second one other walks here there.
+    labels_decide labelled.surface labelled.labels first second one other h.oriented h.labels walks here there
 
 -- two words that are one, and two that are not
 pub equal_decides : {P Q : Type 0} (answer : Answer) → P ↔ Q → Q → answer ≡ answers.Homotopic → (answer ≡ answers.Homotopic) ↔ P

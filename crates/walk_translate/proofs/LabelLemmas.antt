@@ -1,9 +1,8 @@
 -- The labelling of a polygon, and the genus of the surface.
-use Rattle.walk_translate.proofs.Common.{OrientedMesh, IsOrientedSurface, IsGood, FaceLabels, LabellingView, signs_of, PolygonView, labelling_from, face_labels, IsFull, ◌≡◌, ℕ, ◌+◌, ◌*◌, Bool, false, List, length, refl, ap, sym, ◌∙◌, subst, arith, length-map, same_lists, get_or_default, Option, Some, None, MatchOption, ℤ, pos, ◌+ℤ◌, ◌-ℤ◌, is_used, SplitView, IsSplit}
+use Rattle.walk_translate.proofs.Common.{OrientedMesh, IsOrientedSurface, IsGood, FaceLabels, LabellingView, signs_of, PolygonView, labelling_from, face_labels, IsFull, ◌≡◌, ℕ, ◌+◌, ◌*◌, Bool, false, List, length, refl, ap, sym, ◌∙◌, subst, arith, ints, length-map, same_lists, get_or_default, Option, Some, None, MatchOption, ℤ, pos, ◌+ℤ◌, ◌-ℤ◌, is_used, SplitView, IsSplit}
 use Rattle.halfedge_map.specs.DartMaps.{used_vertices}
 use Rattle.quad_system.proofs.FullLemmas.{polygon_full}
 use Rattle.quad_system.proofs.PolygonLabelLemmas.{polygon_good, flips_are}
-use Rattle.std.proofs.lemmas.Int.{ints}
 use Rattle.std.proofs.lemmas.List.FromFn.{length-enumerate_from}
 use Rattle.std.specs.List.{enumerate_from}
 use Rattle.surf_model.specs.Genera.{HasGenus}

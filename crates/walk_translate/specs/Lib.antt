@@ -1,3 +1,5 @@
 pub mod SurfaceLabels
 pub mod DartSpokes
 pub mod Spoked
+pub mod LabelledSurfaces
+pub mod Found

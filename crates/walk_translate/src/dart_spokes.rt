@@ -22,7 +22,7 @@ const APART_FACTOR: u32 = 0x85EB_CA77;
 /// The spokes of all darts of a mesh. Contracts see them in the order of the edges, two darts an edge: the one from its lower
 /// vertex to its higher one, and the one back.
 #[derive(Debug, Drop)]
-pub struct DartSpokes {
+pub(crate) struct DartSpokes {
     spokes: Vec<Option<(Spoke, Spoke)>>,
     /// Under the number that is made of the ends of an edge, that edge, or another with the same number.
     guesses: Vec<EdgeName>,
@@ -39,7 +39,7 @@ impl Model for DartSpokes {
 
 impl DartSpokes {
     /// The spokes of all darts under a good labelling.
-    pub fn build(
+    pub(crate) fn build(
         alloc: Global,
         faces: &Faces,
         sides: &Sides,

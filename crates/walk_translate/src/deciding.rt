@@ -1,7 +1,9 @@
 //! Deciding homotopy.
 ghost use Rattle.std.specs.Prelude.{◌≡◌, ◌↔◌, IfOk, MatchOption};
+ghost use Rattle.halfedge_map.specs.OrientedMeshes.{IsOrientedSurface};
 ghost use Rattle.surf_model.specs.Walks.{IsWalk, HaveCommonEnds};
 ghost use Rattle.surf_model.specs.Moves.{Homotopic};
+ghost use Rattle.walk_translate.specs.LabelledSurfaces.{IsWordUnder};
 ghost use Rattle.walk_translate.specs.SurfaceLabels.{HasSphereSplit, IsLabelledByCut};
 
 use crate::labels::label_by_cut;
@@ -10,6 +12,7 @@ use labellings::{are_same_words, word_of};
 use quad_system::GoodLabelling;
 use std::alloc::{AllocError, Global};
 use surf_model::{Answer, Walk};
+use turn_words::{TurnWord, Word};
 
 /// Decides whether two walks of a surface with common ends are homotopic.
 ///
@@ -30,7 +33,7 @@ pub fn decide(
     answer_by(alloc, surface, &labels, first, second)
 }
 
-/// Decides by the labelling of a polygon into which the surface is cut; a sphere has none.
+/// Decides by the labels of a cut; a sphere has none.
 pub(crate) fn answer_by(
     alloc: Global,
     surface: &Surface,
@@ -44,16 +47,32 @@ pub(crate) fn answer_by(
     requires ends { HaveCommonEnds first.now second.now }
     ensures { IfOk result (λ answer. (answer ≡ Answer.Homotopic) ↔ Homotopic surface.now.mesh first.now second.now) }
 {
-    let faces = surface.faces();
-    let sides = surface.sides();
-    let Some(good) = labels else {
-        return Ok(Answer::Homotopic);
-    };
-    let one = word_of(alloc, faces, sides, good, first)?;
-    let other = word_of(alloc, faces, sides, good, second)?;
+    let one = word_by(alloc, surface, labels, first)?;
+    let other = word_by(alloc, surface, labels, second)?;
     if are_same_words(&one, &other) {
         Ok(Answer::Homotopic)
     } else {
         Ok(Answer::Different)
     }
+}
+
+/// The word of a walk under the labels of a cut; on a sphere, which has none, that of no turns.
+pub(crate) fn word_by(
+    alloc: Global,
+    surface: &Surface,
+    labels: &Option<GoodLabelling>,
+    walk: &Walk,
+) -> Result<Word, AllocError>
+    requires labels { MatchOption labels.now (HasSphereSplit surface.now) (IsLabelledByCut surface.now) }
+    requires walk { IsWalk surface.now.mesh walk.now }
+    ensures word { IfOk result (IsWordUnder (record { surface = surface.now; labels = labels.now }) walk.now) }
+    // What holds of every surface.
+    ensures oriented { IsOrientedSurface surface.now }
+{
+    let faces = surface.faces();
+    let sides = surface.sides();
+    let Some(good) = labels else {
+        return Ok(Word::Turns(TurnWord::new(alloc)));
+    };
+    word_of(alloc, faces, sides, good, walk)
 }

@@ -14,7 +14,7 @@ pub fn are_pair(faces: &Faces, sides: &Sides, first: &Walk, second: &Walk) -> bo
 }
 
 /// Whether the vertices are a walk of the mesh.
-fn is_walk(faces: &Faces, sides: &Sides, walk: &Walk) -> bool
+pub fn is_walk(faces: &Faces, sides: &Sides, walk: &Walk) -> bool
     requires { IsTableOf faces.now sides.now }
     ensures { IsTrue result ↔ IsWalk faces.now walk.now }
 {
@@ -30,7 +30,7 @@ fn is_walk(faces: &Faces, sides: &Sides, walk: &Walk) -> bool
 }
 
 /// Whether two walks start together and end together.
-pub(crate) fn have_common_ends(first: &Walk, second: &Walk) -> bool
+pub fn have_common_ends(first: &Walk, second: &Walk) -> bool
     ensures { IsTrue result ↔ HaveCommonEnds first.now second.now }
 {
     first.at(0) == second.at(0) && first.at(first.darts()) == second.at(second.darts())

@@ -1,20 +1,17 @@
-use Rattle.loop_commands.proofs.Common.{err_from_is_err_and}
+use Rattle.loop_commands.proofs.Common.{IsClosedWalk, sym, subst, err_from_is_err_and, FaceList}
 use Rattle.loop_commands.proofs.loops.decide_on.Goals as goal
 
-pub of_walk-requires-clause-signed : goal.of_walk-requires-clause-signed
-of_walk-requires-clause-signed c = c.requires.signed
+pub decide_free-answer-requires-clause-first : goal.decide_free-answer-requires-clause-first
+decide_free-answer-requires-clause-first c =
+    subst (λ (m : FaceList). IsClosedWalk m c.args.first.now) (sym c.in_ok-finder.ensures) c.requires.first
 
-pub of_walk-requires-clause-walk : goal.of_walk-requires-clause-walk
-of_walk-requires-clause-walk c = c.requires.first.is_walk
+pub decide_free-answer-requires-clause-second : goal.decide_free-answer-requires-clause-second
+decide_free-answer-requires-clause-second c =
+    subst (λ (m : FaceList). IsClosedWalk m c.args.second.now) (sym c.in_ok-finder.ensures) c.requires.second
 
-pub decide_within-answer-requires : goal.decide_within-answer-requires
-decide_within-answer-requires c =
-    (c.args.surface.faces, c.in_ok-component.ensures, c.requires.signed.valid, c.requires.first, c.requires.second)
-
-pub returns-in_err-component : goal.returns-in_err-component
-returns-in_err-component c =
+pub returns-in_err-finder : goal.returns-in_err-finder
+returns-in_err-finder c =
     let p = err_from_is_err_and c.from_residual.result c.from_residual.ensures.1 in rw p.1 tt
 
 pub returns : goal.returns
-returns c =
-    c.decide_within-answer.ensures c.args.surface.faces c.in_ok-component.ensures c.requires.first c.requires.second
+returns c = rw c.in_ok-finder.ensures at c.decide_free-answer.ensures.answer

@@ -1,4 +1,4 @@
-use Rattle.pair_commands.proofs.Common.{all_hold, as_many, holds_next, pair_within, IsFoundOn, mesh_of, ◌≡◌, ◌/◌, ◌<◌, ℕ, true, List, length, get_or, sym, ◌∙◌, subst, arith, err_from_is_err_and, Some, FaceList, AreWalkPair, are_paired}
+use Rattle.pair_commands.proofs.Common.{all_hold, as_many, holds_next, pair_within, mesh_of, ◌≡◌, ◌/◌, ◌<◌, ℕ, true, List, length, get_or, sym, ◌∙◌, subst, arith, err_from_is_err_and, Some, FaceList, AreWalkPair, are_paired, IsFoundOn}
 use Rattle.component_deciding.specs.declared.order.Placed.{Placed}
 use Rattle.std.proofs.lemmas.List.{get_or_read, length-set}
 use Rattle.surf_model.specs.Edges.{IsTableOf}

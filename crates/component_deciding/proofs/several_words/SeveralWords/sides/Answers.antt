@@ -1,5 +1,5 @@
-use Rattle.component_deciding.proofs.Common.{subst}
-use Rattle.component_deciding.specs.ComponentWords.{DoDecide, IsWordAmong, SeveralView}
+use Rattle.component_deciding.proofs.Common.{subst, DoDecide}
+use Rattle.component_deciding.specs.ComponentWords.{IsWordAmong, SeveralView}
 use Rattle.component_deciding.proofs.WordLemmas.{among_decide}
 use Rattle.component_deciding.proofs.several_words.SeveralWords.sides.Goals as goal
 

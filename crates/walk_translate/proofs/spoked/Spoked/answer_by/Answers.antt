@@ -7,7 +7,7 @@ pub fold-requires-clause-room : goal.fold-requires-clause-room
 fold-requires-clause-room g c =
     let none : g.F.Form.size (g.F.Form.state c.args.one.now) ≡ 0 =
     ap g.F.Form.size c.requires.one ∙ g.met.F.Form.starts.size_zero in
-    omega (arith, none, c.darts.ensures.few, c.darts.ensures.count, c.requires.room)
+    omega (arith, none, c.requires.room)
 
 pub fold-requires-else-not-branch-clause-belongs : goal.fold-requires-else-not-branch-clause-belongs
 fold-requires-else-not-branch-clause-belongs g c =
@@ -18,7 +18,7 @@ pub fold-requires-else-not-branch-clause-room : goal.fold-requires-else-not-bran
 fold-requires-else-not-branch-clause-room g c =
     let none : g.F.Form.size (g.F.Form.state c.args.other.now) ≡ 0 =
     ap g.F.Form.size c.requires.other ∙ g.met.F.Form.starts.size_zero in
-    omega (arith, none, c.darts-2.ensures.few, c.darts-2.ensures.count, c.requires.room)
+    omega (arith, none, c.requires.room)
 
 -- both are walks of the surface, with common ends
 walks : (g : _) (c : After-same g) → AreWalkPair c.args.self.now.surface.now.mesh c.args.first.now c.args.second.now

@@ -1,8 +1,0 @@
-use Rattle.component_deciding.proofs.Common.{cut_is_good, IsLabelledByCut}
-use Rattle.component_deciding.proofs.labelled.spokes_for.Goals as goal
-
-pub build-requires-clause-good : goal.build-requires-clause-good
-build-requires-clause-good c =
-    let surface = c.args.surface.now in
-    let labelled : IsLabelledByCut surface c.in-Some.good = rw c.in-Some.is at c.requires in
-    rw c.faces-faces.ensures.mesh (cut_is_good surface c.in-Some.good c.faces-faces.ensures.valid labelled)
