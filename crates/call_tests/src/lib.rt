@@ -7,6 +7,8 @@
 #[cfg(test)]
 mod certificates;
 #[cfg(test)]
+mod compact;
+#[cfg(test)]
 mod decisions;
 #[cfg(test)]
 mod homologies;

@@ -1,0 +1,4 @@
+pub mod Common
+pub mod ClosedLemmas
+pub mod FaultLemmas
+pub mod FoundLemmas

@@ -1,0 +1,5 @@
+pub mod CompactSurfaces
+pub mod Faults
+pub mod Kept
+pub mod Manifolds
+pub mod Examples

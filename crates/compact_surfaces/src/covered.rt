@@ -1,0 +1,115 @@
+//! Closed manifolds without coherent signs, asked by way of their cover.
+ghost use Rattle.std.specs.Prelude.{◌≡◌, ◌⊎◌, IfOk, IfErr, OnOk};
+ghost use Rattle.surf_model.specs.Edges.{IsTableOf};
+ghost use Rattle.surf_model.specs.Surfaces.{IsClosedManifold, IsOrientable};
+ghost use Rattle.closed_surfaces.specs.SignedSurfaces.{no_memory};
+ghost use Rattle.walk_translate.specs.Found.{IsFoundOn};
+ghost use Rattle.component_deciding.specs.WordFinders.{mesh_of_finder};
+ghost use Rattle.doubling.specs.DoubleFaults.{IsTooLarge};
+ghost use Rattle.doubling.specs.declared.fault.DoubleFault.{DoubleFault};
+ghost use Rattle.orientation_cover.specs.Turns.{cover_by};
+ghost use Rattle.orientation_cover.specs.Ways.{AreWays};
+ghost use Rattle.surf_model.specs.FaceLists.{HasFileSize};
+ghost use Rattle.compact_surfaces.specs.Faults.{IsCoverBeyond};
+
+use closed_surfaces::{NoSurface, SignedMesh};
+use component_deciding::WordFinder;
+use doubling::DoubleFault;
+use orientation_cover::{WaysRound, cover, lift, ways_round};
+use std::alloc::{AllocError, Global};
+use std::marker::Model;
+use surf_model::{Answer, Faces, Sides, Walk};
+use walk_translate::are_pair;
+
+/// A closed manifold without coherent signs, and the words of its cover. Contracts see its mesh.
+#[derive(Drop)]
+pub struct Covered {
+    alloc: Global,
+    faces: Faces,
+    sides: Sides,
+    ways: WaysRound,
+    finder: WordFinder,
+}
+
+impl Model for Covered {
+    ghost use Rattle.surf_model.specs.FaceLists.{FaceList};
+    ghost use Rattle.component_deciding.specs.WordFinders.{mesh_of_finder};
+    ghost use Rattle.compact_surfaces.specs.Kept.{IsCoverKept};
+
+    ghost Value = { FaceList };
+
+    ghost view = { λ a. a.faces };
+
+    ghost invariant = { λ a. IsCoverKept a.faces a.sides a.ways (mesh_of_finder a.finder) };
+}
+
+impl Covered {
+    /// Makes the cover; or there is none, as it would be beyond this limit.
+    pub(crate) fn of(alloc: Global, faces: Faces, sides: Sides) -> Result<Covered, DoubleFault>
+        requires table { IsTableOf faces sides }
+        requires manifold { IsClosedManifold faces }
+        requires twisted { IsOrientable faces → ⊥ }
+        ensures mesh { IfOk result (λ covered. covered ≡ faces) }
+        ensures fault { IfErr result (λ fault. (fault ≡ DoubleFault.OutOfMemory) ⊎ IsCoverBeyond faces fault) }
+        ensures fits { OnOk result ((fault : DoubleFault) → IsCoverBeyond faces fault → ⊥) }
+    {
+        let ways = ways_round(alloc, &faces, &sides)?;
+        let finder = finder_above(alloc, &faces, &ways)?;
+        Ok(Covered {
+            alloc,
+            faces,
+            sides,
+            ways,
+            finder,
+        })
+    }
+
+    /// Decides whether two walks are homotopic, or tells by `None` that they are no walks of the manifold with common ends.
+    pub(crate) fn answer_if_pair(
+        &mut self,
+        first: &Walk,
+        second: &Walk,
+    ) -> Result<Option<Answer>, AllocError>
+        ensures same { self.new ≡ self.old }
+        ensures answer { IfOk result (IsFoundOn self.old first.now second.now) }
+    {
+        let alloc = self.alloc;
+        // The proof reads what holds of every face list.
+        let _ = self.faces.len();
+        if !are_pair(&self.faces, &self.sides, first, second) {
+            return Ok(None);
+        }
+        let one = lift(alloc, &self.faces, &self.sides, &self.ways, first)?;
+        let other = lift(alloc, &self.faces, &self.sides, &self.ways, second)?;
+        match self.finder.answer_if_pair(&one, &other)? {
+            Some(answer) => Ok(Some(answer)),
+            // The lifts begin together, and end on two sheets.
+            None => Ok(Some(Answer::Different)),
+        }
+    }
+}
+
+/// The words of the cover by ways round the vertices; or the limit that this is beyond.
+fn finder_above(alloc: Global, faces: &Faces, ways: &WaysRound) -> Result<WordFinder, DoubleFault>
+    requires ways { AreWays faces.now ways.now }
+    requires manifold { IsClosedManifold faces.now }
+    ensures cover { IfOk result (λ finder. mesh_of_finder finder ≡ cover_by faces.now ways.now) }
+    ensures fault { IfErr result (λ fault. (fault ≡ DoubleFault.OutOfMemory) ⊎ IsTooLarge (cover_by faces.now ways.now) fault) }
+    ensures fits { OnOk result (HasFileSize (cover_by faces.now ways.now)) }
+{
+    let cover = cover(alloc, faces, ways)?;
+    // The proof reads what holds of every face list.
+    let _ = (faces.len(), cover.len());
+    match SignedMesh::of(alloc, cover) {
+        Ok(mesh) => Ok(WordFinder::of(alloc, mesh, u64::MAX)?),
+        Err(refusal) => Err(wanting(refusal)),
+    }
+}
+
+/// What is told of the cover, an orientable closed surface, where it is refused: that can be for want of memory alone.
+fn wanting(_refusal: NoSurface) -> DoubleFault
+    requires { _refusal ≡ no_memory }
+    ensures { result ≡ DoubleFault.OutOfMemory }
+{
+    DoubleFault::OutOfMemory
+}

@@ -1,0 +1,23 @@
+//! Homotopy of walks on compact surfaces: in any number of pieces, closed or with boundary, orientable or not.
+//!
+//! `CompactSurface::of` makes such a surface of a mesh, or says why it is none. Where some edge has one side, the double answers for the
+//! mesh, and where that has no coherent signs, its cover, on which the lifts of walks are asked about. Proved: a mesh becomes a surface
+//! exactly where it is a compact one, whose double and cover are no larger than a mesh may be, and else the first condition that fails is
+//! named; and each answer is exact for the mesh that was given. The time is meant to be linear in the mesh, and for each pair in its walks;
+//! no clause says so.
+//!
+//!     let mut surface = CompactSurface::of(alloc, faces)?;
+//!     let answer = surface.answer_if_pair(&first, &second)?;
+#![tactic(auto)]
+
+mod check;
+mod covered;
+mod fault;
+pub mod laws;
+mod manifold;
+mod surface;
+
+pub use covered::Covered;
+pub use fault::CompactFault;
+pub use manifold::ClosedManifold;
+pub use surface::CompactSurface;
