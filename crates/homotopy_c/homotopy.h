@@ -4,8 +4,14 @@
  * `corners` the corners of all faces, face after face, each the number of a vertex, in order round its face. A triangle mesh has sizes
  * 3, 3, .. A mesh has at most 1,000,000 vertices and 4,000,000 corners. No coordinates are asked for.
  *
+ * A SURFACE is a mesh that is a surface, in one piece or in several: no edge is in more than two sides of faces, and the corners at each
+ * vertex make one ring, or one fan where the vertex is on the boundary. `homotopy_decide_any` takes any surface, closed or with boundary,
+ * orientable or not. The other questions take orientable closed ones: each edge is in two sides, and the faces can be turned so that each
+ * edge is run both ways. `homotopy_verify` takes any mesh.
+ *
  * A WALK is an array of the numbers of the vertices that it passes, one after another joined by edges. A walk of one vertex stays there.
- * Two walks with the same first and the same last vertex are homotopic where one can be moved over the surface to the other.
+ * Two walks with the same first and the same last vertex are homotopic where one can be moved over the surface to the other. A closed walk
+ * ends where it starts; two of them are freely homotopic where one can be moved to the other with no vertex held fast.
  *
  * A DART is an edge with a direction, one step of a walk: a walk of n vertices has n - 1 darts. A SPUR is a dart and the same edge
  * straight back. A MOVE puts a spur into a walk, takes one out, or goes round a face the other way. The PEAK of a list of moves is the
@@ -46,6 +52,8 @@ enum homotopy_code {
     HOMOTOPY_SHORT_ROOM = 4,        /* the caller's array is too short [the length that is wanted; the answer] */
     HOMOTOPY_NO_MEMORY = 5,         /* memory was wanting; this says nothing of the mesh or of the walks */
     HOMOTOPY_NO_MESH = 6,           /* the handle holds no mesh */
+    HOMOTOPY_FREELY_HOMOTOPIC = 7,     /* the walks are freely homotopic */
+    HOMOTOPY_NOT_FREELY_HOMOTOPIC = 8, /* they are two closed walks of the surface, and are not freely homotopic */
 
     HOMOTOPY_MANY_VERTICES = 10,    /* more than 1,000,000 vertices */
     HOMOTOPY_CORNER_COUNT = 11,     /* the sizes of the faces together are not the number of the corners */
@@ -55,9 +63,14 @@ enum homotopy_code {
     HOMOTOPY_EQUAL_NEIGHBOURS = 15, /* two neighbours round a face are one vertex [face] */
 
     HOMOTOPY_NO_FACE = 20,          /* the mesh has no face */
-    HOMOTOPY_EDGE_SIDES = 21,       /* an edge is not in exactly two sides of faces [lower vertex, higher vertex, sides] */
-    HOMOTOPY_PINCHED = 22,          /* the corners at a vertex do not make one ring [vertex] */
+    HOMOTOPY_EDGE_SIDES = 21,       /* an edge is not in exactly two sides of faces, or, where boundary is taken, in three or more
+                                     * [lower vertex, higher vertex, sides] */
+    HOMOTOPY_PINCHED = 22,          /* the corners at a vertex do not make one ring, nor, where boundary is taken, one fan [vertex] */
     HOMOTOPY_NOT_ORIENTABLE = 23,   /* the faces cannot be turned so that each edge is run both ways */
+    HOMOTOPY_DOUBLE_VERTICES = 24,  /* there is boundary, and the double that answers has more than 1,000,000 vertices */
+    HOMOTOPY_DOUBLE_SIDES = 25,     /* there is boundary, and the double that answers has more than 4,000,000 corners */
+    HOMOTOPY_COVER_VERTICES = 26,   /* not orientable, and the cover that answers has more than 1,000,000 vertices */
+    HOMOTOPY_COVER_SIDES = 27,      /* not orientable, and the cover that answers has more than 4,000,000 corners */
 
     HOMOTOPY_WALK_COUNT = 30,       /* the sizes of the walks are not the number of their vertices, or of an odd number of walks */
     HOMOTOPY_EMPTY_WALK = 31,       /* a walk has no vertex [walk] */
@@ -66,6 +79,7 @@ enum homotopy_code {
     HOMOTOPY_NO_EDGE = 34,          /* an entry and the next one form no edge [walk, place] */
     HOMOTOPY_STARTS_DIFFER = 35,    /* the walks start at different vertices */
     HOMOTOPY_ENDS_DIFFER = 36,      /* the walks end at different vertices */
+    HOMOTOPY_OPEN_WALK = 37,        /* a walk does not end where it starts [walk] */
 
     /* the text is no certificate; lines are counted from 1, blank ones too */
     HOMOTOPY_LONG_CERTIFICATE = 40, /* it has more than 268,435,456 bytes */
@@ -131,6 +145,17 @@ void homotopy_decide(
     const uint32_t *walk_sizes, size_t walk_count, const uint32_t *walk_vertices, size_t walk_vertex_count,
     uint8_t *answers, size_t answer_room, homotopy_outcome *outcome);
 
+/* What `homotopy_decide` tells, on a surface of any kind, closed or with boundary, orientable or not. It is handed the same, and answers the
+ * same, for the mesh that it is handed. Of the mesh it tells NO_FACE, EDGE_SIDES for an edge that is in three sides or more, PINCHED, or
+ * that it is too large: a mesh with boundary is asked by way of its double, which has twice the vertices, twice the faces, and a face of
+ * four corners for each edge on the boundary; and one that is not orientable, or whose double is not, by way of a cover, which has twice
+ * the vertices and the faces. Each is made once, and is to be no larger than a mesh may be: DOUBLE_VERTICES, DOUBLE_SIDES, COVER_VERTICES or
+ * COVER_SIDES. (What is said of time is not proved.) */
+void homotopy_decide_any(
+    uint32_t vertices, const uint32_t *sizes, size_t face_count, const uint32_t *corners, size_t corner_count,
+    const uint32_t *walk_sizes, size_t walk_count, const uint32_t *walk_vertices, size_t walk_vertex_count,
+    uint8_t *answers, size_t answer_room, homotopy_outcome *outcome);
+
 /* A handle, which holds a mesh from call to call, so that questions about its walks can be asked as they come. It begins as
  * HOMOTOPY_EMPTY_MESH, which holds none, and is changed by the calls below alone: what is in it is the library's own. It is one call's at a
  * time. Any thread may make that call; a lock, or the start or the end of a thread, has to lie between the calls of two. A handle may be
@@ -152,6 +177,15 @@ void homotopy_mesh_new(
  * mesh is not read again, and where it is in one piece the time is that of the walks. Where it is in several, each piece is made a surface
  * of its own when a walk first lies in it, and stays one. (What is said of time is not proved.) */
 void homotopy_mesh_decide(
+    homotopy_mesh *mesh,
+    const uint32_t *walk_sizes, size_t walk_count, const uint32_t *walk_vertices, size_t walk_vertex_count,
+    uint8_t *answers, size_t answer_room, homotopy_outcome *outcome);
+
+/* Whether the closed walks of each pair are freely homotopic on the mesh that the handle holds, which may be in several pieces: walks of two
+ * pieces are not. What is handed over and what comes back is as in `homotopy_mesh_decide`. The byte of a pair is FREELY_HOMOTOPIC,
+ * NOT_FREELY_HOMOTOPIC, or the code of what is first wrong with its walks, which need have no vertex in common: EMPTY_WALK, LONG_WALK,
+ * NO_VERTEX, NO_EDGE or OPEN_WALK; all entries are looked at before any edge, and all edges before any end. */
+void homotopy_mesh_loops(
     homotopy_mesh *mesh,
     const uint32_t *walk_sizes, size_t walk_count, const uint32_t *walk_vertices, size_t walk_vertex_count,
     uint8_t *answers, size_t answer_room, homotopy_outcome *outcome);
@@ -201,6 +235,8 @@ void homotopy_verify(
     ROW(SHORT_ROOM, "", "the array for the answer is too short: {0} are wanted") \
     ROW(NO_MEMORY, "", "memory was wanting") \
     ROW(NO_MESH, "", "the handle holds no mesh") \
+    ROW(FREELY_HOMOTOPIC, "freely homotopic", "the walks are freely homotopic") \
+    ROW(NOT_FREELY_HOMOTOPIC, "not freely homotopic", "the walks are not freely homotopic") \
     ROW(MANY_VERTICES, "", "the mesh has more than 1,000,000 vertices") \
     ROW(CORNER_COUNT, "", "the sizes of the faces together are not the number of corners") \
     ROW(MANY_SIDES, "", "the mesh has more than 4,000,000 corners") \
@@ -211,6 +247,10 @@ void homotopy_verify(
     ROW(EDGE_SIDES, "refused: edge {0} {1} sides {2}", "the edge {0} {1} should be in two sides of faces, and is in {2}") \
     ROW(PINCHED, "refused: vertex {0} pinched", "vertex {0} is pinched: its corners do not make one ring") \
     ROW(NOT_ORIENTABLE, "refused: not orientable", "the mesh is not orientable") \
+    ROW(DOUBLE_VERTICES, "refused: double vertices", "the mesh has boundary, and its double has more than 1,000,000 vertices") \
+    ROW(DOUBLE_SIDES, "refused: double sides", "the mesh has boundary, and its double has more than 4,000,000 corners") \
+    ROW(COVER_VERTICES, "refused: cover vertices", "the mesh is not orientable, and its cover has more than 1,000,000 vertices") \
+    ROW(COVER_SIDES, "refused: cover sides", "the mesh is not orientable, and its cover has more than 4,000,000 corners") \
     ROW(WALK_COUNT, "", "the sizes of the walks do not fit their vertices, or a walk has no partner") \
     ROW(EMPTY_WALK, "", "walk {0} has no vertex") \
     ROW(LONG_WALK, "", "walk {0} has more than 2,147,483,648 vertices") \
@@ -218,6 +258,7 @@ void homotopy_verify(
     ROW(NO_EDGE, "refused: walk {0} place {1} edge", "walk {0} has no edge from place {1} to the next") \
     ROW(STARTS_DIFFER, "refused: walks start", "the walks start at different vertices") \
     ROW(ENDS_DIFFER, "refused: walks end", "the walks end at different vertices") \
+    ROW(OPEN_WALK, "refused: walk {0} open", "walk {0} does not end where it starts") \
     ROW(LONG_CERTIFICATE, "refused: certificate too large", "the certificate has more than 268,435,456 bytes") \
     ROW(NO_HEAD, "refused: certificate no head", "the certificate has no line with words") \
     ROW(BAD_LINE, "refused: certificate line {0} bad", "line {0} of the certificate is not of the form that its place asks for") \

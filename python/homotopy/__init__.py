@@ -25,7 +25,7 @@ except ImportError:
     numpy = None
 
 __version__ = "1.1.0"
-__all__ = ["Answer", "Faces", "Mesh", "Refused", "Surface", "Verdict", "certify", "decide", "surface", "verify"]
+__all__ = ["Answer", "Faces", "Mesh", "Refused", "Surface", "Verdict", "certify", "decide", "decide_any", "surface", "verify"]
 
 _SHORT_ROOM, _NO_MEMORY, _ACCEPTED = 4, 5, 3
 _REJECTED = range(50, 70)
@@ -41,16 +41,19 @@ characteristic, and the genus of each piece, in the order of their least vertice
 
 
 class Answer(enum.IntEnum):
-    """What is answered of a pair of walks: one of the first two, or what is first wrong with them."""
+    """What is answered of a pair of walks: one of the first two, or of the next two of closed walks, or what is first wrong with them."""
 
     HOMOTOPIC = 1
     DIFFERENT = 2
+    FREELY_HOMOTOPIC = 7
+    NOT_FREELY_HOMOTOPIC = 8
     EMPTY_WALK = 31
     LONG_WALK = 32
     NO_VERTEX = 33
     NO_EDGE = 34
     STARTS_DIFFER = 35
     ENDS_DIFFER = 36
+    OPEN_WALK = 37
 
     def __str__(self):
         return self.name.lower().replace("_", " ")
@@ -234,6 +237,16 @@ def decide(vertices, faces, pairs):
     return _decided(pairs, lambda *words: call("homotopy_decide", *mesh, *words))
 
 
+def decide_any(vertices, faces, pairs):
+    """The `Answer` on each pair of walks, in order, on a surface of any kind, closed or with boundary, orientable or not.
+
+    Refused where an edge is in three sides or more, or a vertex is pinched; and where the double of a mesh with boundary, or the cover of
+    one that is not orientable, would have more than 1,000,000 vertices or 4,000,000 corners.
+    """
+    mesh, _kept = _mesh(vertices, faces)
+    return _decided(pairs, lambda *words: call("homotopy_decide_any", *mesh, *words))
+
+
 class Mesh:
     """An orientable closed surface that is kept, so that walks can be asked about as they come. Refused where the mesh is none.
 
@@ -251,6 +264,11 @@ class Mesh:
         """The `Answer` on each pair of walks, in order, as the function `decide` gives it. Refused where the mesh was given back."""
         with self._asking:
             return _decided(pairs, lambda *words: call("homotopy_mesh_decide", self._handle, *words))
+
+    def loops(self, pairs):
+        """The `Answer` on each pair of closed walks, in order: whether one can be moved to the other with no vertex held fast."""
+        with self._asking:
+            return _decided(pairs, lambda *words: call("homotopy_mesh_loops", self._handle, *words))
 
     def classes(self, walks):
         """For each walk the place of the first one with the same ends that is homotopic to it, counted from 0.

@@ -26,8 +26,10 @@ _ENDING = [ctypes.POINTER(Outcome)]
 _ARGUMENTS = {
     "homotopy_surface": [ctypes.c_uint32] + 2 * _ARRAY + [ctypes.POINTER(Numbers)] + _ARRAY + _ENDING,
     "homotopy_decide": [ctypes.c_uint32] + 5 * _ARRAY + _ENDING,
+    "homotopy_decide_any": [ctypes.c_uint32] + 5 * _ARRAY + _ENDING,
     "homotopy_mesh_new": [ctypes.c_uint32] + 2 * _ARRAY + [ctypes.POINTER(Handle)] + _ENDING,
     "homotopy_mesh_decide": [ctypes.POINTER(Handle)] + 3 * _ARRAY + _ENDING,
+    "homotopy_mesh_loops": [ctypes.POINTER(Handle)] + 3 * _ARRAY + _ENDING,
     "homotopy_mesh_classes": [ctypes.POINTER(Handle)] + 3 * _ARRAY + _ENDING,
     "homotopy_mesh_free": [ctypes.POINTER(Handle)],
     "homotopy_certify": [ctypes.c_uint32] + 5 * _ARRAY + _ENDING,

@@ -195,6 +195,102 @@ static void components(void) {
     drop(it);
 }
 
+/* What `homotopy_decide_any` tells of one pair of walks: the byte, or the outcome with 100 added to its code. */
+static int any_of(mesh it, const uint32_t *first, uint32_t firsts, const uint32_t *second, uint32_t seconds, homotopy_outcome *outcome) {
+    uint32_t sizes[] = {firsts, seconds}, *vertices = malloc(4 * (firsts + seconds) + 4);
+    uint8_t answers[2] = {7, 7};
+    memcpy(vertices, first, 4 * firsts);
+    memcpy(vertices + firsts, second, 4 * seconds);
+    homotopy_decide_any(it.vertices, it.size, it.faces, it.corner, it.corners, sizes, 2, vertices, firsts + seconds, answers, 1, outcome);
+    free(vertices);
+    EXPECT(answers[1] == 7 && (outcome->code == HOMOTOPY_DONE || answers[0] == 7));
+    return outcome->code == HOMOTOPY_DONE ? answers[0] : 100 + (int)outcome->code;
+}
+
+#define ANY(it, first, second) any_of(it, first, COUNT(first), second, COUNT(second), &outcome)
+
+static const uint32_t HERE[] = {0};
+/* An annulus of six triangles round a hole; a band of five; and the projective plane of six vertices. */
+static const uint32_t ANNULUS[] = {0, 1, 3, 1, 4, 3, 1, 2, 4, 2, 5, 4, 2, 0, 5, 0, 3, 5};
+static const uint32_t BAND[] = {0, 1, 2, 1, 2, 3, 2, 3, 4, 3, 4, 0, 4, 0, 1};
+static const uint32_t PLANE[] = {0, 1, 2, 0, 2, 3, 0, 3, 4, 0, 4, 5, 0, 5, 1, 1, 2, 4, 2, 3, 5, 3, 4, 1, 4, 5, 2, 5, 1, 3};
+
+/* Walks on surfaces with boundary, and on such as are not orientable. */
+static void any_surfaces(void) {
+    homotopy_outcome outcome;
+    mesh annulus = triangles(6, 6, ANNULUS), band = triangles(5, 5, BAND), plane = triangles(6, 10, PLANE);
+    const uint32_t inner[] = {0, 1, 2, 0}, outer[] = {0, 3, 4, 5, 3, 0}, back[] = {0, 2, 1, 0};
+    EXPECT(ANY(annulus, inner, outer) == HOMOTOPY_HOMOTOPIC);
+    EXPECT(ANY(annulus, inner, HERE) == HOMOTOPY_DIFFERENT);
+    EXPECT(ANY(annulus, inner, back) == HOMOTOPY_DIFFERENT);
+    const uint32_t core[] = {0, 1, 2, 3, 4, 0}, twice[] = {0, 1, 2, 3, 4, 0, 1, 2, 3, 4, 0}, rim[] = {0, 2, 4, 1, 3, 0};
+    EXPECT(ANY(band, rim, twice) == HOMOTOPY_HOMOTOPIC);
+    EXPECT(ANY(band, rim, core) == HOMOTOPY_DIFFERENT);
+    EXPECT(ANY(band, core, HERE) == HOMOTOPY_DIFFERENT);
+    const uint32_t line[] = {0, 1, 3, 0}, line_twice[] = {0, 1, 3, 0, 1, 3, 0}, face[] = {0, 1, 2, 0};
+    EXPECT(ANY(plane, line, HERE) == HOMOTOPY_DIFFERENT);
+    EXPECT(ANY(plane, line_twice, HERE) == HOMOTOPY_HOMOTOPIC);
+    EXPECT(ANY(plane, face, HERE) == HOMOTOPY_HOMOTOPIC);
+
+    /* What is wrong with walks is told of the mesh, and not of its double or cover, which have the vertices behind. */
+    const uint32_t mirrored[] = {0, 6, 0}, apart[] = {0, 4, 0}, away[] = {1}, gone[] = {0, 1};
+    EXPECT(ANY(annulus, HERE, mirrored) == HOMOTOPY_NO_VERTEX && ANY(plane, HERE, mirrored) == HOMOTOPY_NO_VERTEX);
+    EXPECT(ANY(annulus, HERE, apart) == HOMOTOPY_NO_EDGE);
+    EXPECT(ANY(annulus, away, HERE) == HOMOTOPY_STARTS_DIFFER && ANY(annulus, gone, HERE) == HOMOTOPY_ENDS_DIFFER);
+    EXPECT(any_of(band, HERE, 0, HERE, 1, &outcome) == HOMOTOPY_EMPTY_WALK);
+
+    /* The room is looked at first, then the mesh, and then how many walks there are. */
+    const uint32_t sizes[] = {1, 1, 1};
+    uint8_t answers[1] = {7};
+    homotopy_decide_any(5, band.size, 5, band.corner, 15, sizes, 2, HERE, 1, answers, 0, &outcome);
+    EXPECT(is(outcome, HOMOTOPY_SHORT_ROOM, 1, 0, 0));
+    homotopy_decide_any(5, band.size, 5, band.corner, 15, sizes, 3, core, 3, answers, 1, &outcome);
+    EXPECT(is(outcome, HOMOTOPY_WALK_COUNT, 0, 0, 0) && answers[0] == 7);
+    homotopy_decide_any(5, band.size, 4, band.corner, 15, sizes, 3, core, 3, answers, 1, &outcome);
+    EXPECT(is(outcome, HOMOTOPY_CORNER_COUNT, 0, 0, 0) && answers[0] == 7);
+    drop(annulus), drop(band), drop(plane);
+}
+
+/* A grid of triangles, n times n squares, open; or closed to a Klein bottle. */
+static mesh grid(uint32_t n, int closed) {
+    uint32_t side = closed ? n : n + 1, *corner = malloc(24 * n * n), filled = 0;
+    for (uint32_t i = 0; i < n; i++)
+        for (uint32_t j = 0; j < n; j++) {
+            uint32_t turned = closed && i + 1 == n, next = closed ? (j + 1) % n : j + 1, right = (i + 1) % side;
+            uint32_t a = side * i + j, b = side * right + (turned ? (n - j) % n : j), d = side * i + next;
+            uint32_t c = side * right + (turned ? (n - next) % n : next), faces[] = {a, b, c, a, c, d};
+            memcpy(corner + filled, faces, sizeof faces);
+            filled += 6;
+        }
+    mesh it = triangles(side * side, 2 * n * n, corner);
+    free(corner);
+    return it;
+}
+
+static void any_faults(void) {
+    homotopy_outcome outcome;
+    const uint32_t three[] = {0, 1, 2, 0, 1, 3, 0, 1, 4}, fans[] = {0, 1, 2, 0, 3, 4};
+    mesh crowded = triangles(5, 3, three), pinched = triangles(5, 2, fans), band = triangles(5, 5, BAND), plane = triangles(6, 10, PLANE);
+    EXPECT(ANY(crowded, HERE, HERE) == 100 + HOMOTOPY_EDGE_SIDES && is(outcome, HOMOTOPY_EDGE_SIDES, 0, 1, 3));
+    EXPECT(ANY(pinched, HERE, HERE) == 100 + HOMOTOPY_PINCHED && is(outcome, HOMOTOPY_PINCHED, 0, 0, 0));
+    pinched.faces = 0, pinched.corners = 0;
+    EXPECT(ANY(pinched, HERE, HERE) == 100 + HOMOTOPY_NO_FACE);
+    band.vertices = 500001;
+    EXPECT(ANY(band, HERE, HERE) == 100 + HOMOTOPY_DOUBLE_VERTICES && is(outcome, HOMOTOPY_DOUBLE_VERTICES, 0, 0, 0));
+    band.vertices = 250001;
+    EXPECT(ANY(band, HERE, HERE) == 100 + HOMOTOPY_COVER_VERTICES && is(outcome, HOMOTOPY_COVER_VERTICES, 0, 0, 0));
+    band.vertices = 250000;
+    EXPECT(ANY(band, HERE, HERE) == HOMOTOPY_HOMOTOPIC);
+    plane.vertices = 500001;
+    EXPECT(ANY(plane, HERE, HERE) == 100 + HOMOTOPY_COVER_VERTICES);
+    drop(crowded), drop(pinched), drop(band), drop(plane);
+    for (int closed = 0; closed < 2; closed++) {
+        mesh large = grid(592, closed);
+        EXPECT(ANY(large, HERE, HERE) == 100 + (closed ? HOMOTOPY_COVER_SIDES : HOMOTOPY_DOUBLE_SIDES));
+        drop(large);
+    }
+}
+
 int main(void) {
     for (uint32_t i = 0; i < 7; i++) {
         const uint32_t faces[] = {i, (i + 1) % 7, (i + 3) % 7, i, (i + 3) % 7, (i + 2) % 7};
@@ -204,6 +300,8 @@ int main(void) {
     faults();
     decisions();
     components();
+    any_surfaces();
+    any_faults();
     if (!failures) printf("calls.c: all as wanted\n");
     return failures != 0;
 }

@@ -1,5 +1,6 @@
 /* Meshes that are kept: what is told of them is what `homotopy_decide` tells of their arrays, on tori, on spheres and on several pieces,
- * with random walks. Classes of walks, on surfaces of genus 0 to 4 and on several pieces, beside the answers on all pairs of them. And what
+ * with random walks. Classes of walks, on surfaces of genus 0 to 4 and on several pieces, beside the answers on all pairs of them. Pairs of
+ * closed walks, on two pieces. And what
  * becomes of handles that hold nothing, of meshes and walks that are refused, and of two handles at once.
  *
  * Its malloc, realloc and free (the linker's --wrap) count the blocks that are not given back, and refuse one request. */
@@ -443,6 +444,49 @@ static void refused_walks(void) {
     homotopy_mesh_free(&handle);
 }
 
+/* Pairs of closed walks on a torus of 4 by 4 squares and on a tetrahedron beside it; the bytes were worked out by hand. What is first wrong
+ * is told, the handle first, then the room, and the sizes; and each request for memory fails in turn. */
+static void closed_walks(void) {
+    static mesh it;
+    static const uint32_t size[20] = {5, 5, 5, 5, 5, 1, 4, 3, 1, 1, 2, 1, 1, 2, 0, 1, 3, 1, 1, 3};
+    static const uint32_t vertex[50] = {
+        0, 1, 2, 3, 0, 6, 7, 4, 5, 6, /* round the torus, and the same one row up */
+        0, 1, 2, 3, 0, 0, 4, 8, 12, 0, /* round it, and through the hole */
+        0, 1, 5, 4, 0, 9, /* round a square, and nowhere */
+        16, 17, 18, 16, 19, 17, 19, /* on the tetrahedron */
+        0, 16, /* in two pieces */
+        0, 1, 0, 0, 0, 0, 0, /* the first walk is open; the second has no edge; the first has no vertex */
+        0, 20, 2, 0, 0, 0, 1, 2, /* no vertex, which is told before an edge; the second is open */
+    };
+    static const uint8_t wanted[11] = {HOMOTOPY_FREELY_HOMOTOPIC, HOMOTOPY_NOT_FREELY_HOMOTOPIC, HOMOTOPY_FREELY_HOMOTOPIC,
+                                       HOMOTOPY_FREELY_HOMOTOPIC, HOMOTOPY_NOT_FREELY_HOMOTOPIC, HOMOTOPY_OPEN_WALK, HOMOTOPY_NO_EDGE,
+                                       HOMOTOPY_EMPTY_WALK, HOMOTOPY_NO_VERTEX, HOMOTOPY_OPEN_WALK, 7};
+    uint8_t answers[11], untouched[11];
+    size_t filled = 0, request = 0;
+    homotopy_mesh handle = HOMOTOPY_EMPTY_MESH;
+    homotopy_outcome outcome;
+    memset(&it, 0, sizeof it), memset(untouched, 7, sizeof untouched);
+    add_torus(&it, 4, 4), add_tetrahedron(&it);
+    for (int walk = 0; walk < 20; walk++) filled += size[walk];
+#define LOOPS(count, vertices, room) \
+    (memset(answers, 7, sizeof answers), homotopy_mesh_loops(&handle, size, count, vertex, vertices, answers, room, &outcome), outcome)
+    EXPECT(is(LOOPS(20, filled, 10), HOMOTOPY_NO_MESH, 0, 0, 0) && !memcmp(answers, untouched, 11));
+    do {
+        EXPECT(is(keep(&it, &handle), HOMOTOPY_DONE, 0, 0, 0));
+        EXPECT(is(LOOPS(20, filled, 9), HOMOTOPY_SHORT_ROOM, 10, 0, 0) && !memcmp(answers, untouched, 11));
+        EXPECT(is(LOOPS(20, filled - 1, 10), HOMOTOPY_WALK_COUNT, 0, 0, 0) && !memcmp(answers, untouched, 11));
+        EXPECT(is(LOOPS(19, filled - 3, 10), HOMOTOPY_WALK_COUNT, 0, 0, 0) && !memcmp(answers, untouched, 11));
+        requests = 0, refused_request = ++request;
+        outcome = LOOPS(20, filled, 10);
+        refused_request = 0;
+        if (outcome.code == HOMOTOPY_NO_MEMORY) EXPECT(!memcmp(answers, untouched, 11));
+        EXPECT(is(LOOPS(20, filled, 10), HOMOTOPY_DONE, 0, 0, 0) && !memcmp(answers, wanted, 11));
+        EXPECT(is(LOOPS(0, 0, 0), HOMOTOPY_DONE, 0, 0, 0));
+        homotopy_mesh_free(&handle);
+        EXPECT(blocks == 0);
+    } while (request < 200);
+}
+
 /* Each request for memory fails in turn while walks are sorted. */
 static void little_memory_for_classes(int pieces) {
     static mesh it;
@@ -481,6 +525,7 @@ int main(void) {
     EXPECT(blocks == 0);
     refused_walks();
     EXPECT(blocks == 0);
+    closed_walks();
     little_memory_for_classes(1);
     little_memory_for_classes(3);
     empty_handles();

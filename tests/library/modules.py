@@ -47,6 +47,9 @@ def take():
     wanted = [Answer.HOMOTOPIC, Answer.ENDS_DIFFER, Answer.EMPTY_WALK, Answer.NO_VERTEX, Answer.NO_EDGE, Answer.STARTS_DIFFER]
     expect(decide(5, TETRA, pairs), wanted, "pairs")
     expect(decide(4, TETRA, []), [], "no pairs")
+    expect(homotopy.decide_any(5, TETRA, pairs), wanted, "pairs on a surface of any kind")
+    expect(homotopy.decide_any(4, TETRA[:3], [([1, 2, 3, 1], [1]), ([0, 4], [0])]), [Answer.HOMOTOPIC, Answer.NO_VERTEX], "on a disc")
+    refuse(homotopy.Refused, "the edge 0 1 should be in two sides of faces, and is in 3", homotopy.decide_any, 4, [TETRA[0]] * 3, [])
     expect(certify(4, TETRA, [0, 1, 2], [0, 2])[0], Answer.HOMOTOPIC, "certify")
     for text in (LIST, bytearray(LIST), memoryview(LIST)):
         expect(bool(verify(4, TETRA, [0, 1, 2], [0, 2], text)), True, "a list that leads")
@@ -73,9 +76,14 @@ def keep():
         refuse(TypeError, "walk 2: place 1 has 0.9", kept.classes, [[0], [0, 0.9]])
         refuse(TypeError, "walk 1 is of the type int", kept.classes, [0, 1])
         refuse(TypeError, "walk 1 is of the type str", kept.classes, "01")
+        loops = [([0, 1, 2, 0], [3]), ([0, 1], [0]), ([], [0]), ([0, 4], [0]), ([0, 0], [0])]
+        wanted = [Answer.FREELY_HOMOTOPIC, Answer.OPEN_WALK, Answer.EMPTY_WALK, Answer.NO_VERTEX, Answer.NO_EDGE]
+        expect(kept.loops(loops), wanted, "closed walks")
+        expect(kept.loops([]), [], "no closed walks")
         expect(kept.decide(pairs), decide(5, TETRA, pairs), "a mesh that is kept, behind an error")
     refuse(homotopy.Refused, "the handle holds no mesh", kept.decide, pairs)
     refuse(homotopy.Refused, "the handle holds no mesh", kept.classes, [[0]])
+    refuse(homotopy.Refused, "the handle holds no mesh", kept.loops, loops)
     kept.close()
     refuse(homotopy.Refused, "the edge 1 2 should be in two sides of faces, and is in 1", Mesh, 4, TETRA[:3])
     refuse(TypeError, "face 0 is of the type int", Mesh, 4, [0, 1, 2])

@@ -56,6 +56,15 @@ static void *decide(void *unused) {
     return outcome.code == HOMOTOPY_DONE && answers[0] == HOMOTOPY_HOMOTOPIC && answers[1] == HOMOTOPY_DIFFERENT ? unused : NULL;
 }
 
+/* A surface with boundary: a face is missing. */
+static void *decide_any(void *unused) {
+    homotopy_outcome outcome;
+    uint8_t answers[2];
+    fill_walks();
+    homotopy_decide_any(ALL, sizes + 1, faces - 1, corners + 4, 4 * faces - 4, walk_sizes, 4, vertices, 5 * GRID + 4, answers, 2, &outcome);
+    return outcome.code == HOMOTOPY_DONE && answers[0] == HOMOTOPY_DIFFERENT && answers[1] == HOMOTOPY_DIFFERENT ? unused : NULL;
+}
+
 static void *keep(void *unused) {
     homotopy_mesh mesh = HOMOTOPY_EMPTY_MESH;
     homotopy_outcome outcome;
@@ -65,6 +74,8 @@ static void *keep(void *unused) {
     homotopy_mesh_new(ALL, sizes, faces, corners, 4 * faces, &mesh, &outcome);
     homotopy_mesh_decide(&mesh, walk_sizes, 4, vertices, 5 * GRID + 4, answers, 2, &outcome);
     if (outcome.code != HOMOTOPY_DONE || answers[0] != HOMOTOPY_HOMOTOPIC || answers[1] != HOMOTOPY_DIFFERENT) return NULL;
+    homotopy_mesh_loops(&mesh, walk_sizes, 4, vertices, 5 * GRID + 4, answers, 2, &outcome);
+    if (outcome.code != HOMOTOPY_DONE) return NULL;
     homotopy_mesh_classes(&mesh, walk_sizes, 4, vertices, 5 * GRID + 4, classes, 4, &outcome);
     homotopy_mesh_free(&mesh);
     return outcome.code == HOMOTOPY_DONE && classes[0] == classes[1] && classes[2] != classes[3] ? unused : NULL;
@@ -105,14 +116,14 @@ static size_t depth_of(void *(*body)(void *)) {
 }
 
 int main(int argc, char **argv) {
-    static void *(*const bodies[])(void *) = {surface, decide, keep, certify, deny};
-    static const char *const names[] = {"surface", "decide", "keep and decide", "certify and verify", "deny and verify"};
+    static void *(*const bodies[])(void *) = {surface, decide, decide_any, keep, certify, deny};
+    static const char *const names[] = {"surface", "decide", "decide any", "keep and decide", "certify and verify", "deny and verify"};
     const size_t empty = depth_of(nothing);
     int wrong = 0;
     (void)argv;
     make();
     for (int pieces = 1; pieces <= 2; pieces++, faces = ALL)
-        for (int k = 0; k < 5; k++) {
+        for (int k = 0; k < 6; k++) {
             const size_t depth = depth_of(bodies[k]);
             if (argc > 1) printf("%d pieces, %s: %zu bytes\n", pieces, names[k], depth - empty);
             if (depth == 0 || depth - empty > MOST) printf("stack.c: %s takes %zu bytes\n", names[k], depth - empty), wrong = 1;

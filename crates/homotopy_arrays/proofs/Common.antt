@@ -2,7 +2,8 @@
 pub use Rattle.closed_surfaces.proofs.Components.{signed_surface}
 pub use Rattle.closed_surfaces.specs.SignedSurfaces.{IsNoSurface, IsSigned}
 pub use Rattle.closed_surfaces.specs.declared.signed_mesh.SignedMesh.{SignedMesh}
-pub use Rattle.component_deciding.specs.WordFinders.{IsWordIn, mesh_of_finder}
+pub use Rattle.closed_walks.specs.FreeHomotopy.{FreelyHomotopic, IsClosedWalk}
+pub use Rattle.component_deciding.specs.WordFinders.{mesh_of_finder}
 pub use Rattle.move_checker.specs.Verdicts.{verdict_of}
 pub use Rattle.off_reader.proofs.RingLemmas.{DifferTo, all_below, differ_all, differ_at, differ_more, equal_found}
 pub use Rattle.std.proofs.Common.{Bool, List, ap, append-nil, append_assoc, ap₂, arith, cond, drop, eqb, false, get_or, inl, inr, length, length-take-le, ltb, map, not, refl, subst, suc, sum, sym, take, true, zero, ℕ, [], ◌%◌, ◌*◌, ◌++◌, ◌+◌, ◌-◌, ◌<◌, ◌↔◌, ◌∙◌, ◌∷◌, ◌≡◌, ◌≢◌, ◌≤◌, ◌⊎◌}
@@ -15,7 +16,7 @@ pub use Rattle.std.specs.List.{list_all}
 pub use Rattle.std.specs.Prelude.{All, Err, MatchOption, MatchResult, None, Ok, Option, Result, Some, flat_map, if◌then◌else◌, is_some, nat_lt, option_map, slice_get, sum_by}
 pub use Rattle.surf_model.specs.FaceLists.{FaceList, IsFace, PendingFace, total_sides}
 pub use Rattle.surf_model.specs.OrientableSurfaces.{IsOrientableSurface}
-pub use Rattle.surf_model.specs.Walks.{AreWalkPair, HaveCommonEnds, IsWalk}
+pub use Rattle.surf_model.specs.Walks.{HaveCommonEnds, IsWalk}
 pub use Rattle.surf_model.specs.declared.decisions.Answer.TheVariants.{Different, Homotopic}
 pub use Rattle.surf_model.specs.declared.limits.TheConstants.{MOST_SIDES, MOST_VERTICES}
 pub use Rattle.surf_model.specs.declared.moves.Move.{Move}
@@ -25,8 +26,10 @@ pub use Rattle.walk_classes.specs.Faults.{IsClassFault, IsFirstNoWalk}
 pub use Rattle.walk_classes.specs.WalkClasses.{AreClasses}
 pub use Rattle.walk_files.proofs.EachLemmas.{before_ok}
 pub use Rattle.walk_files.specs.Certificates.{answer_of, first_head, fits, fitting_head, head_among, head_in, head_of, head_of_text, moves_of_text, within_peak}
+pub use Rattle.walk_files.specs.ClosedPairs.{IsClosedPair, loops_fault}
 pub use Rattle.walk_files.specs.Denials.{denial_of_lines}
 pub use Rattle.walk_files.specs.Pairs.{IsPair, pair_fault}
 pub use Rattle.walk_files.specs.Readers.{Certificate, after_answer, answer_first, count_in, denial_left, lines_to_come, moves_left, moves_to_come, next_answer, next_of, started, unless_refused}
 pub use Rattle.walk_files.specs.declared.certificate.CertHead.{CertHead}
 pub use Rattle.walk_files.specs.declared.fault.CertFault.{CertFault}
+pub use Rattle.walk_translate.specs.Found.{IsFoundOn}

@@ -1,7 +1,11 @@
 -- How questions end.
 use Rattle.homotopy_arrays.proofs.Common.{signed_surface, IsNoSurface, SignedMesh, ◌≡◌, ◌⊎◌, sym, ap, subst, ◌∙◌, inl, inr, refl, Result, Ok, Err, FaceList, IsOrientableSurface}
 use Rattle.closed_surfaces.specs.declared.signed_mesh.NoSurface.{NoSurface}
+use Rattle.compact_surfaces.specs.Faults.{IsFirstFault}
+use Rattle.compact_surfaces.specs.declared.fault.CompactFault.{CompactFault}
 use Rattle.closed_surfaces.specs.declared.signed_mesh.NoSurface.TheVariants as nones
+use Rattle.compact_surfaces.specs.declared.fault.CompactFault.TheVariants as compact
+use Rattle.homotopy_arrays.specs.Compact.{IsCompactFault, IsCompactKept, of_compact_fault}
 use Rattle.homotopy_arrays.specs.Decisions.{IsKept}
 use Rattle.homotopy_arrays.specs.Surfaces.{EndsOn, IsSurfaceFault, IsSurfaceOf, OfMesh, of_no_surface, of_surface_fault}
 use Rattle.homotopy_arrays.specs.declared.fault.Fault.{Fault}
@@ -33,15 +37,35 @@ none_ends read mesh none fault was h e =
       | inr first ↦ inr (inr (record { mesh = mesh; is = sym was; holds = subst (IsSurfaceFault mesh) (sym e) first }))
     ]
 
+-- the same about a mesh that is no compact surface
+pub compact_ends : (read : Result FaceList Fault) (mesh : FaceList) (first : CompactFault) (fault : Fault) → Ok mesh ≡ read
+    → (first ≡ compact.OutOfMemory) ⊎ IsFirstFault mesh first → fault ≡ of_compact_fault first
+    → (fault ≡ OutOfMemory) ⊎ ((read ≡ Err fault) ⊎ OfMesh read (λ m. IsCompactFault m fault))
+compact_ends read mesh first fault was h e =
+    elim h [
+      | inl wanting ↦ inl (e ∙ ap of_compact_fault wanting)
+      | inr is ↦ inr (inr (record { mesh = mesh; is = sym was; holds = (first, is, e) }))
+    ]
+
 -- ---- meshes that are kept
 
 -- how a question about a mesh that is kept ends, one about the arrays that it was made of does
+of_same : {T : Type 0} (read : Result FaceList Fault) (kept mesh : FaceList) (Gives : FaceList → T → Type 0)
+    (Refuses : FaceList → Fault → Type 0) (end : Result T Fault) → read ≡ Ok mesh → kept ≡ mesh
+    → EndsOn (Ok kept) Gives Refuses end → EndsOn read Gives Refuses end
+of_same read kept mesh Gives Refuses end is same ends =
+    let all : read ≡ Ok kept = is ∙ ap (λ (m : FaceList). Ok m) (sym same) in
+    subst (λ (r : Result FaceList Fault). EndsOn r Gives Refuses end) (sym all) ends
+
 pub of_kept : {T : Type 0} (read : Result FaceList Fault) (kept : FaceList) (Gives : FaceList → T → Type 0)
     (Refuses : FaceList → Fault → Type 0) (end : Result T Fault) → OfMesh read (λ mesh. IsKept mesh kept)
     → EndsOn (Ok kept) Gives Refuses end → EndsOn read Gives Refuses end
-of_kept read kept Gives Refuses end of ends =
-    let same : read ≡ Ok kept = of.is ∙ ap (λ (m : FaceList). Ok m) (sym of.holds.same) in
-    subst (λ (r : Result FaceList Fault). EndsOn r Gives Refuses end) (sym same) ends
+of_kept read kept Gives Refuses end of ends = of_same read kept of.mesh Gives Refuses end of.is of.holds.same ends
+
+pub of_compact : {T : Type 0} (read : Result FaceList Fault) (kept : FaceList) (Gives : FaceList → T → Type 0)
+    (Refuses : FaceList → Fault → Type 0) (end : Result T Fault) → OfMesh read (λ mesh. IsCompactKept mesh kept)
+    → EndsOn (Ok kept) Gives Refuses end → EndsOn read Gives Refuses end
+of_compact read kept Gives Refuses end of ends = of_same read kept of.mesh Gives Refuses end of.is of.holds.same ends
 
 -- a surface that was read is kept
 pub kept_surface : (read : Result FaceList Fault) (surface : SignedMesh) (kept : FaceList)

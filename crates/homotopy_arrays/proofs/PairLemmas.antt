@@ -1,17 +1,16 @@
 -- Pairs of walks, cut from arrays.
-use Rattle.homotopy_arrays.proofs.Common.{◌≡◌, ◌≢◌, ℕ, Bool, true, false, cond, eqb, ltb, ◌+◌, ◌-◌, ◌*◌, ◌<◌, ◌≤◌, List, [], ◌∷◌, ◌++◌, length, take, drop, get_or, refl, sym, ap, ap₂, subst, ◌∙◌, inl, inr, arith, ◌↔◌, cases_lt, ne_eqb, eqb-false, le-ltb, ltb-false, take_more, get_or_append_left, length_push, sum_by-append, sum_by-take-drop, sum_by-cons, none-some, Some, None, option_map, sum_by, Option, MatchOption, FaceList, AreWalkPair, IsWalk, HaveCommonEnds, Homotopic, IsPair, pair_fault}
-use Rattle.component_deciding.specs.ComponentWords.{DoDecide}
-use Rattle.component_deciding.specs.PairDeciders.{IsFoundOn}
+use Rattle.homotopy_arrays.proofs.Common.{IsClosedWalk, ◌≡◌, ◌≢◌, ℕ, Bool, true, false, cond, eqb, ltb, ◌+◌, ◌-◌, ◌*◌, ◌<◌, ◌≤◌, List, [], ◌∷◌, ◌++◌, length, take, drop, get_or, refl, sym, ap, ap₂, subst, ◌∙◌, inl, inr, arith, ◌↔◌, cases_lt, ne_eqb, eqb-false, le-ltb, ltb-false, take_more, get_or_append_left, length_push, sum_by-append, sum_by-take-drop, sum_by-cons, none-some, Some, None, sum_by, Option, MatchOption, option_map, FaceList, IsWalk, HaveCommonEnds, Homotopic, IsClosedPair, loops_fault, IsPair, pair_fault, IsFoundOn}
 use Rattle.std.proofs.Math.Seq.{get_or-append_seam}
+use Rattle.std.specs.Option.{option_or}
 use Rattle.std.specs.Prelude.{sum}
-use Rattle.turn_words.specs.declared.word.Word.{Word}
+use Rattle.walk_files.specs.declared.loops.LoopFault.{LoopFault}
 use Rattle.walk_files.specs.declared.pair.PairFault.{PairFault}
 use Rattle.surf_model.specs.Moves as moves
 use Rattle.surf_model.specs.declared.decisions.Answer as deciding
-use Rattle.homotopy_arrays.specs.Pairs.{AreWalks, IsAnswer, length_fault, walk_at, walks_fault}
-use Rattle.homotopy_arrays.specs.declared.decide.PairAnswer.{PairAnswer}
+use Rattle.homotopy_arrays.specs.Loops.{AreLoops, closed_fault}
+use Rattle.homotopy_arrays.specs.Pairs.{AreWalks, length_fault, walk_at, walks_fault}
 use Rattle.homotopy_arrays.specs.declared.pair.WalkFault.{WalkFault}
-use Rattle.homotopy_arrays.specs.declared.pair.WalkFault.TheVariants.{Empty, Long, Pair}
+use Rattle.homotopy_arrays.specs.declared.pair.WalkFault.TheVariants.{Empty, Long, Pair, Loops}
 use Rattle.homotopy_arrays.specs.declared.pair.TheConstants.{MOST_WALK}
 
 -- ---- the lengths
@@ -60,13 +59,18 @@ pair_of_walks mesh first second are =
 
 -- ---- what is first wrong
 
-pub first_length : (mesh : FaceList) (first second : List ℕ) (fault : WalkFault) → length_fault 1 first ≡ Some fault
-    → (walks_fault mesh first second ≡ Some fault) × (AreWalks mesh first second → ⊥)
-first_length mesh first second fault e = (rw e refl, λ are. length_bad 1 first fault e are.first_walk.starts are.few.0)
+-- one of the lengths
+pub lengths_bad : (first second : List ℕ) (fault : WalkFault) → option_or (length_fault 1 first) (length_fault 2 second) ≡ Some fault
+    → 0 < length first → 0 < length second → (length first ≤ MOST_WALK) × (length second ≤ MOST_WALK) → ⊥
+lengths_bad first second fault e some others few =
+    none-some fault (sym (ap₂ option_or (length_fits 1 first some few.0) (length_fits 2 second others few.1)) ∙ e)
 
-pub second_length : (mesh : FaceList) (first second : List ℕ) (fault : WalkFault) → length_fault 1 first ≡ None
-    → length_fault 2 second ≡ Some fault → (walks_fault mesh first second ≡ Some fault) × (AreWalks mesh first second → ⊥)
-second_length mesh first second fault one e = (rw (one, e) refl, λ are. length_bad 2 second fault e are.second_walk.starts are.few.1)
+-- is told before all else
+pub told_first : (one other rest : Option WalkFault) (fault : WalkFault) → option_or one other ≡ Some fault
+    → option_or one (option_or other rest) ≡ Some fault
+told_first None None rest fault e = absurd cc
+told_first None (Some other) rest fault e = e
+told_first (Some one) other rest fault e = e
 
 pub no_pair : (mesh : FaceList) (first second : List ℕ) (fault : PairFault) → length_fault 1 first ≡ None → length_fault 2 second ≡ None
     → Some fault ≡ pair_fault mesh (first ∷ second ∷ []) → (IsPair mesh (first ∷ second ∷ []) → ⊥)
@@ -74,6 +78,34 @@ pub no_pair : (mesh : FaceList) (first second : List ℕ) (fault : PairFault) �
 no_pair mesh first second fault one other e none =
     let found : option_map Pair (pair_fault mesh (first ∷ second ∷ [])) ≡ Some (Pair fault) = ap (option_map Pair) (sym e) in
     (rw (one, other) found, λ are. none (pair_of_walks mesh first second are))
+
+-- ---- closed walks
+
+pub loops_of_pair : (mesh : FaceList) (first second : List ℕ) → IsClosedPair mesh (first ∷ second ∷ [])
+    → (length first ≤ MOST_WALK) × (length second ≤ MOST_WALK) → AreLoops mesh first second
+loops_of_pair mesh first second is few =
+    let one : is.first ≡ first = cc is.two in
+    let other : is.second ≡ second = cc is.two in
+    record {
+      first_closed = subst (IsClosedWalk mesh) one is.first_closed;
+      second_closed = subst (IsClosedWalk mesh) other is.second_closed;
+      few = few;
+    }
+
+pub no_loops : (mesh : FaceList) (first second : List ℕ) (fault : LoopFault) → length_fault 1 first ≡ None → length_fault 2 second ≡ None
+    → Some fault ≡ loops_fault mesh (first ∷ second ∷ []) → (IsClosedPair mesh (first ∷ second ∷ []) → ⊥)
+    → (closed_fault mesh first second ≡ Some (Loops fault)) × (AreLoops mesh first second → ⊥)
+no_loops mesh first second fault one other e none =
+    let found : option_map Loops (loops_fault mesh (first ∷ second ∷ [])) ≡ Some (Loops fault) = ap (option_map Loops) (sym e) in (
+      rw (one, other) found,
+      λ are. none (record {
+        first = first;
+        second = second;
+        two = refl;
+        first_closed = are.first_closed;
+        second_closed = are.second_closed;
+      }),
+    )
 
 -- ---- the walks that sizes cut from vertices
 
@@ -124,14 +156,6 @@ one_more Holds xs k x many so_far is j none below =
 
 -- ---- the answers on pairs
 
--- where words decide, the answer is whether they are one
-pub words_answer : (mesh : FaceList) (IsWord : List ℕ → Word → Type 0) (first second : List ℕ) (one other : Word)
-    (answer : deciding.Answer) → DoDecide mesh IsWord → AreWalkPair mesh first second → IsWord first one → IsWord second other
-    → ((answer ≡ Homotopic) ↔ (one ≡ other)) → IsFoundOn mesh first second (Some answer)
-words_answer mesh IsWord first second one other answer decide pair here there is =
-    let told : moves.Homotopic mesh first second ↔ (one ≡ other) = decide first second one other pair here there in
-    (pair, ((λ e. told.1 (is.0 e)), (λ leads. is.1 (told.0 leads))))
-
 -- what is found of two walks is found of their vertices, of which there are not too many
 found_few : (mesh : FaceList) (first second : List ℕ) (found : Option deciding.Answer)
     → (length first ≤ MOST_WALK) × (length second ≤ MOST_WALK) → IsFoundOn mesh first second found
@@ -150,27 +174,28 @@ told_of_vertices mesh first second one other found e f few told =
     found_few mesh first second found few
     (subst (λ (w : List ℕ). IsFoundOn mesh first w found) f (subst (λ (w : List ℕ). IsFoundOn mesh w other found) e told))
 
--- the answer on pair k
-abbrev pub IsAnswerAt : FaceList → (sizes vertices : List ℕ) → ℕ → PairAnswer → Type 0
-IsAnswerAt mesh sizes vertices k answer = IsAnswer mesh (walk_at sizes vertices (2 * k)) (walk_at sizes vertices (2 * k + 1)) answer
+-- what is said of pair k
+abbrev pub IsAnswerAt : {A : Type 0} → ((first second : List ℕ) → A → Type 0) → (sizes vertices : List ℕ) → ℕ → A → Type 0
+IsAnswerAt Is sizes vertices k answer = Is (walk_at sizes vertices (2 * k)) (walk_at sizes vertices (2 * k + 1)) answer
 
 -- a pair more
-pub more_answers : (mesh same : FaceList) (sizes vertices : List ℕ) (answers next : List PairAnswer) (k at : ℕ) (answer : PairAnswer)
+pub more_answers : {A : Type 0} (Is : FaceList → (first second : List ℕ) → A → Type 0) (mesh same : FaceList) (sizes vertices : List ℕ)
+    (answers next : List A) (k at : ℕ) (answer : A)
     → next ≡ answers ++ answer ∷ [] → length answers ≡ k → at ≡ sum (take (2 * k) sizes) → 2 * k + 1 < length sizes → mesh ≡ same
-    → IsAnswer mesh (take (at + get_or sizes (2 * k) 0 - at) (drop at vertices))
+    → Is mesh (take (at + get_or sizes (2 * k) 0 - at) (drop at vertices))
     (take (at + get_or sizes (2 * k) 0 + get_or sizes (2 * k + 1) 0 - (at + get_or sizes (2 * k) 0))
     (drop (at + get_or sizes (2 * k) 0) vertices)) answer
-    → ((j : ℕ) (none : PairAnswer) → j < length answers → IsAnswerAt same sizes vertices j (get_or answers j none))
-    → (j : ℕ) (none : PairAnswer) → j < length next → IsAnswerAt same sizes vertices j (get_or next j none)
-more_answers mesh same sizes vertices answers next k at answer grown each place below e told so_far =
+    → ((j : ℕ) (none : A) → j < length answers → IsAnswerAt (Is same) sizes vertices j (get_or answers j none))
+    → (j : ℕ) (none : A) → j < length next → IsAnswerAt (Is same) sizes vertices j (get_or next j none)
+more_answers {A} Is mesh same sizes vertices answers next k at answer grown each place below e told so_far =
     let middle : at + get_or sizes (2 * k) 0 ≡ sum (take (2 * k + 1) sizes) = next_place sizes (2 * k) at place (omega (arith, below)) in
     let second : List ℕ =
     take (at + get_or sizes (2 * k) 0 + get_or sizes (2 * k + 1) 0 - (at + get_or sizes (2 * k) 0))
     (drop (at + get_or sizes (2 * k) 0) vertices) in
-    let is : IsAnswerAt same sizes vertices k answer =
-    subst (λ (m : FaceList). IsAnswerAt m sizes vertices k answer) e
-    (subst (λ (w : List ℕ). IsAnswer mesh (walk_at sizes vertices (2 * k)) w answer)
+    let is : IsAnswerAt (Is same) sizes vertices k answer =
+    subst (λ (m : FaceList). IsAnswerAt (Is m) sizes vertices k answer) e
+    (subst (λ (w : List ℕ). Is mesh (walk_at sizes vertices (2 * k)) w answer)
     (walk_cut sizes vertices (2 * k + 1) (at + get_or sizes (2 * k) 0) middle)
-    (subst (λ (w : List ℕ). IsAnswer mesh w second answer) (walk_cut sizes vertices (2 * k) at place) told)) in
-    subst (λ (l : List PairAnswer). (j : ℕ) (none : PairAnswer) → j < length l → IsAnswerAt same sizes vertices j (get_or l j none))
-    (sym grown) (one_more (IsAnswerAt same sizes vertices) answers k answer each so_far is)
+    (subst (λ (w : List ℕ). Is mesh w second answer) (walk_cut sizes vertices (2 * k) at place) told)) in
+    subst (λ (l : List A). (j : ℕ) (none : A) → j < length l → IsAnswerAt (Is same) sizes vertices j (get_or l j none))
+    (sym grown) (one_more (IsAnswerAt (Is same) sizes vertices) answers k answer each so_far is)

@@ -3,6 +3,8 @@ pub mod Surfaces
 pub mod Pairs
 pub mod CheckedPairs
 pub mod Decisions
+pub mod Compact
+pub mod Loops
 pub mod Classes
 pub mod Judgements
 pub mod Certifications

@@ -50,8 +50,8 @@ walk_at sizes vertices k = take (slice_index sizes k) (drop (sum (take k sizes))
 abbrev pub are_pairs : (sizes vertices : List ℕ) → Bool
 are_pairs sizes vertices = sum sizes == length vertices && length sizes % 2 == 0
 
--- an answer for each pair
-pub record AreAnswers (mesh : FaceList) (sizes vertices : List ℕ) (answers : List PairAnswer) : Type 0 where
+-- an answer for each pair; `Is` says of which walks one is the answer
+pub record AreAnswers {A : Type 0} (Is : (first second : List ℕ) → A → Type 0) (sizes vertices : List ℕ) (answers : List A) : Type 0 where
   pub each_pair : 2 * length answers ≡ length sizes
-  pub answer : (k : ℕ) (none : PairAnswer) → k < length answers
-      → IsAnswer mesh (walk_at sizes vertices (2 * k)) (walk_at sizes vertices (2 * k + 1)) (slice_index_or answers k none)
+  pub answer : (k : ℕ) (none : A) → k < length answers
+      → Is (walk_at sizes vertices (2 * k)) (walk_at sizes vertices (2 * k + 1)) (slice_index_or answers k none)

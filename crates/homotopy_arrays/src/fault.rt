@@ -3,6 +3,8 @@ ghost use Rattle.std.specs.Prelude.{◌≡◌};
 ghost use Rattle.homotopy_arrays.specs.declared.fault.Fault.TheVariants.{OutOfMemory};
 
 use closed_surfaces::NoSurface;
+use compact_surfaces::CompactFault;
+use doubling::DoubleFault;
 use manifold_check::SurfaceFault;
 use std::alloc::AllocError;
 use surf_model::{FaceName, VertexName};
@@ -30,18 +32,27 @@ pub enum Fault {
     },
     /// The mesh has no face.
     NoFace,
-    /// The least edge, by its lower and then by its higher vertex, that is not in exactly two sides, and its number of sides.
+    /// The least edge, by its lower and then by its higher vertex, that is not in exactly two sides, or where the surface may have
+    /// boundary in three or more; and its number of sides.
     EdgeSides {
         low: VertexName,
         high: VertexName,
         sides: u32,
     },
-    /// The least used vertex whose corners do not make one ring.
+    /// The least used vertex whose corners do not make one ring, or where the surface may have boundary neither one ring nor one fan.
     Pinched {
         vertex: VertexName,
     },
     /// The faces cannot be turned round so that the two sides of every edge run oppositely.
     NotOrientable,
+    /// The mesh has boundary, and its double would have more vertices than a mesh may have.
+    DoubleVertices,
+    /// The same of its sides.
+    DoubleSides,
+    /// The cover of the mesh, or of its double, would have more vertices than a mesh may have.
+    CoverVertices,
+    /// The same of its sides.
+    CoverSides,
     /// The sizes of the walks together are not the number of their vertices, or the walks are not two for each pair.
     WalkCount,
     /// There is no memory for the answer.
@@ -70,6 +81,27 @@ impl From<NoSurface> for Fault {
             NoSurface::Fault(SurfaceFault::Pinched { vertex }) => Fault::Pinched { vertex },
             NoSurface::Fault(SurfaceFault::OutOfMemory) => Fault::OutOfMemory,
             NoSurface::NotOrientable(_) => Fault::NotOrientable,
+        }
+    }
+}
+
+impl From<CompactFault> for Fault {
+    ghost use Rattle.homotopy_arrays.specs.Compact.{of_compact_fault};
+
+    ghost from_gives = { λ first fault. fault ≡ of_compact_fault first };
+
+    fn from(fault: CompactFault) -> Fault {
+        match fault {
+            CompactFault::NoFace => Fault::NoFace,
+            CompactFault::EdgeSides { low, high, sides } => Fault::EdgeSides { low, high, sides },
+            CompactFault::Pinched { vertex } => Fault::Pinched { vertex },
+            CompactFault::Double(DoubleFault::TooManyVertices) => Fault::DoubleVertices,
+            CompactFault::Double(DoubleFault::TooManySides) => Fault::DoubleSides,
+            CompactFault::Cover(DoubleFault::TooManyVertices) => Fault::CoverVertices,
+            CompactFault::Cover(DoubleFault::TooManySides) => Fault::CoverSides,
+            CompactFault::Double(DoubleFault::OutOfMemory) => Fault::OutOfMemory,
+            CompactFault::Cover(DoubleFault::OutOfMemory) => Fault::OutOfMemory,
+            CompactFault::OutOfMemory => Fault::OutOfMemory,
         }
     }
 }

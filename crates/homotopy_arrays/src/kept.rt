@@ -1,14 +1,16 @@
 //! Meshes that are kept, of which questions are asked as they come.
 ghost use Rattle.std.specs.Prelude.{◌≡◌, MatchResult, Ok};
 ghost use Rattle.homotopy_arrays.specs.Classes.{AreClassed, IsNoClassesIn};
-ghost use Rattle.homotopy_arrays.specs.Decisions.{AreDecided, IsDecideFault, IsKept};
+ghost use Rattle.homotopy_arrays.specs.Decisions.{AreAnswered, AreDecided, IsDecideFault, IsKept};
+ghost use Rattle.homotopy_arrays.specs.Loops.{AreLoopsDecided};
 ghost use Rattle.homotopy_arrays.specs.MeshArrays.{mesh_in};
 ghost use Rattle.homotopy_arrays.specs.Surfaces.{EndsOn, IsSurfaceFault};
 
-use crate::answering::answer_all;
+use crate::answering::{WalkAnswer, answer_all};
 use crate::classes::{NoClasses, classes_in};
 use crate::decide::PairAnswer;
 use crate::fault::Fault;
+use crate::loops::LoopAnswer;
 use crate::mesh::{MeshArrays, add_up_to};
 use crate::pair::are_pairs;
 use crate::surface::surface_of_arrays;
@@ -58,6 +60,23 @@ impl KeptMesh {
         Ok(KeptMesh { alloc, finder })
     }
 
+    /// The answers on pairs of walks: to the question to which these are answers.
+    pub fn answers<A: WalkAnswer + Copy>(
+        &mut self,
+        walk_sizes: &[u32],
+        walk_vertices: &[u32],
+    ) -> Result<Vec<A>, Fault>
+        ensures same { self.new ≡ self.old }
+        ensures ends { EndsOn (Ok self.old) (λ mesh given. AreAnswered A.Is walk_sizes.now walk_vertices.now mesh given.items)
+            (IsDecideFault walk_sizes.now walk_vertices.now) result }
+    {
+        let alloc = self.alloc;
+        if !are_pairs(walk_sizes, walk_vertices) {
+            return Err(Fault::WalkCount);
+        }
+        Ok(answer_all(alloc, &mut self.finder, walk_sizes, walk_vertices)?)
+    }
+
     /// Whether the walks of each pair are homotopic, as `decide_arrays` tells of the arrays of this mesh.
     pub fn decide(
         &mut self,
@@ -68,11 +87,20 @@ impl KeptMesh {
         ensures ends { EndsOn (Ok self.old) (λ mesh given. AreDecided walk_sizes.now walk_vertices.now mesh given.items)
             (IsDecideFault walk_sizes.now walk_vertices.now) result }
     {
-        let alloc = self.alloc;
-        if !are_pairs(walk_sizes, walk_vertices) {
-            return Err(Fault::WalkCount);
-        }
-        Ok(answer_all(alloc, &mut self.finder, walk_sizes, walk_vertices)?)
+        self.answers(walk_sizes, walk_vertices)
+    }
+
+    /// Whether the closed walks of each pair are freely homotopic.
+    pub fn loops(
+        &mut self,
+        walk_sizes: &[u32],
+        walk_vertices: &[u32],
+    ) -> Result<Vec<LoopAnswer>, Fault>
+        ensures same { self.new ≡ self.old }
+        ensures ends { EndsOn (Ok self.old) (λ mesh given. AreLoopsDecided walk_sizes.now walk_vertices.now mesh given.items)
+            (IsDecideFault walk_sizes.now walk_vertices.now) result }
+    {
+        self.answers(walk_sizes, walk_vertices)
     }
 
     /// For each walk the number of its class: the least place of a walk with the same ends that is homotopic to it. Or the first list that

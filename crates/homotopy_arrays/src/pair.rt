@@ -3,19 +3,19 @@ ghost use Rattle.std.specs.Prelude.{◌≡◌, ◌≤◌, ◌<◌, length, sum, 
 ghost use Rattle.component_deciding.specs.WordFinders.{mesh_of_finder};
 ghost use Rattle.surf_model.specs.FaceLists.{FaceList};
 ghost use Rattle.surf_model.specs.Edges.{IsTableOf};
-ghost use Rattle.homotopy_arrays.specs.CheckedPairs.{IsChecked};
+ghost use Rattle.homotopy_arrays.specs.CheckedPairs.{AreCheckedLoops, AreListed, IsChecked};
 ghost use Rattle.homotopy_arrays.specs.Pairs.{AreWalks, are_pairs, length_fault, walk_at, walks_fault};
 
 use crate::mesh::add_up_to;
 use component_deciding::WordFinder;
 use std::alloc::{AllocError, Global};
 use surf_model::{Sides, VertexName, Walk};
-use walk_files::{PairFault, WalkList, check_pair};
+use walk_files::{LoopFault, PairFault, WalkList, check_loops, check_pair};
 
 /// The most vertices of a walk.
 pub const MOST_WALK: usize = 1 << 31;
 
-/// What is first wrong with two lists of vertices that are no two walks of a mesh with common ends. Walks are counted from 1.
+/// What is first wrong with two lists of vertices that are not the walks of a mesh that a question is about. Walks are counted from 1.
 #[derive(Clone, Copy, Debug, PartialEq, Eq)]
 pub enum WalkFault {
     /// The walk has no vertex.
@@ -24,12 +24,14 @@ pub enum WalkFault {
     Long { walk: u32 },
     /// The walks are no walks of the mesh, or have no common ends.
     Pair(PairFault),
+    /// The walks are no closed walks of the mesh.
+    Loops(LoopFault),
 }
 
 /// Two walks that were compared with a mesh.
 #[derive(Debug, Drop)]
 pub(crate) enum Checked {
-    /// Two walks of the mesh with common ends.
+    /// They are the two walks that were asked for.
     Pair(WalkList),
     /// What is first wrong with them.
     Faulty(WalkFault),
@@ -44,6 +46,39 @@ pub(crate) fn check_walks(
 ) -> Result<Checked, AllocError>
     ensures { IfOk result (λ checked. (mesh : FaceList) → IsTableOf mesh sides.now → IsChecked mesh first.now second.now checked) }
 {
+    let pair = match lists_of(alloc, first, second)? {
+        Checked::Pair(pair) => pair,
+        Checked::Faulty(fault) => return Ok(Checked::Faulty(fault)),
+    };
+    match check_pair(sides, &pair) {
+        Ok(()) => Ok(Checked::Pair(pair)),
+        Err(fault) => Ok(Checked::Faulty(WalkFault::Pair(fault))),
+    }
+}
+
+/// The same of two closed walks, which need have no vertex in common.
+pub(crate) fn check_closed(
+    alloc: Global,
+    sides: &Sides,
+    first: &[u32],
+    second: &[u32],
+) -> Result<Checked, AllocError>
+    ensures { IfOk result (λ checked. (mesh : FaceList) → IsTableOf mesh sides.now → AreCheckedLoops mesh first.now second.now checked) }
+{
+    let pair = match lists_of(alloc, first, second)? {
+        Checked::Pair(pair) => pair,
+        Checked::Faulty(fault) => return Ok(Checked::Faulty(fault)),
+    };
+    match check_loops(sides, &pair) {
+        Ok(()) => Ok(Checked::Pair(pair)),
+        Err(fault) => Ok(Checked::Faulty(WalkFault::Loops(fault))),
+    }
+}
+
+/// Two lists of vertices, where neither has none or too many.
+fn lists_of(alloc: Global, first: &[u32], second: &[u32]) -> Result<Checked, AllocError>
+    ensures { IfOk result (AreListed first.now second.now) }
+{
     if let Some(fault) = length_fault(1, first) {
         return Ok(Checked::Faulty(fault));
     }
@@ -52,11 +87,7 @@ pub(crate) fn check_walks(
     }
     let one = walk_of(alloc, first)?;
     let other = walk_of(alloc, second)?;
-    let pair = WalkList::pair(alloc, one, other)?;
-    match check_pair(sides, &pair) {
-        Ok(()) => Ok(Checked::Pair(pair)),
-        Err(fault) => Ok(Checked::Faulty(WalkFault::Pair(fault))),
-    }
+    Ok(Checked::Pair(WalkList::pair(alloc, one, other)?))
 }
 
 /// What is first wrong with two lists that are no two walks of a finder's surface with common ends.

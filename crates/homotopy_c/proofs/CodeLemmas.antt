@@ -1,10 +1,11 @@
 -- What is told of a fault is no answer.
 use Rattle.homotopy_c.proofs.Common.{CertifyFault, Fault, VerifyFault, ◌≡◌, ◌≢◌, ◌<◌, ℕ, true, false, sym, ◌∙◌, arith}
 use Rattle.homotopy_arrays.specs.declared.pair.WalkFault.{WalkFault}
-use Rattle.homotopy_arrays.specs.declared.pair.WalkFault.TheVariants.{Empty, Long, Pair}
+use Rattle.homotopy_arrays.specs.declared.pair.WalkFault.TheVariants.{Empty, Long, Pair, Loops}
 use Rattle.walk_files.specs.declared.fault.CertFault.{CertFault}
 use Rattle.walk_files.specs.declared.pair.PairFault.TheVariants.{NotTwo, NoVertex, NoEdge, EndsDiffer}
 use Rattle.walk_files.specs.declared.fault.CertFault.TheVariants as certificates
+use Rattle.walk_files.specs.declared.loops.LoopFault.TheVariants as loops
 use Rattle.commands.specs.declared.limits.OverLimit.TheVariants as limits
 use Rattle.homotopy_arrays.specs.declared.certify.CertifyFault.TheVariants as certify
 use Rattle.homotopy_arrays.specs.declared.fault.Fault.TheVariants as faults
@@ -14,7 +15,7 @@ use Rattle.homotopy_c.specs.Judged.{told_certificate, told_verify}
 use Rattle.homotopy_c.specs.Outcomes.{told, told_walks, walk_code}
 use Rattle.homotopy_c.specs.declared.codes.TheConstants as codes
 
--- the codes of answers are at most that of acceptance, and those of faults are greater
+-- the codes of answers that stand in an outcome are at most that of acceptance, and those of faults are greater
 pub fault_code : (fault : Fault) → codes.ACCEPTED < (told fault).code
 fault_code faults.ManyVertices = omega arith
 fault_code faults.CornerCount = omega arith
@@ -26,10 +27,15 @@ fault_code faults.NoFace = omega arith
 fault_code (faults.EdgeSides low high sides) = omega arith
 fault_code (faults.Pinched vertex) = omega arith
 fault_code faults.NotOrientable = omega arith
+fault_code faults.DoubleVertices = omega arith
+fault_code faults.DoubleSides = omega arith
+fault_code faults.CoverVertices = omega arith
+fault_code faults.CoverSides = omega arith
 fault_code faults.WalkCount = omega arith
 fault_code faults.OutOfMemory = omega arith
 
-pub byte_code : (fault : WalkFault) → codes.ACCEPTED < walk_code fault
+-- and so are they than those of all answers on pairs
+pub byte_code : (fault : WalkFault) → codes.NOT_FREELY_HOMOTOPIC < walk_code fault
 byte_code (Empty walk) = omega arith
 byte_code (Long walk) = omega arith
 byte_code (Pair (NotTwo count)) = omega arith
@@ -37,6 +43,10 @@ byte_code (Pair (NoVertex walk place)) = omega arith
 byte_code (Pair (NoEdge walk place)) = omega arith
 byte_code (Pair (EndsDiffer true)) = omega arith
 byte_code (Pair (EndsDiffer false)) = omega arith
+byte_code (Loops (loops.NotTwo count)) = omega arith
+byte_code (Loops (loops.NoVertex walk place)) = omega arith
+byte_code (Loops (loops.NoEdge walk place)) = omega arith
+byte_code (Loops (loops.NotClosed walk)) = omega arith
 
 pub walks_code : (fault : WalkFault) → codes.ACCEPTED < (told_walks fault).code
 walks_code (Empty walk) = omega arith
@@ -46,6 +56,10 @@ walks_code (Pair (NoVertex walk place)) = omega arith
 walks_code (Pair (NoEdge walk place)) = omega arith
 walks_code (Pair (EndsDiffer true)) = omega arith
 walks_code (Pair (EndsDiffer false)) = omega arith
+walks_code (Loops (loops.NotTwo count)) = omega arith
+walks_code (Loops (loops.NoVertex walk place)) = omega arith
+walks_code (Loops (loops.NoEdge walk place)) = omega arith
+walks_code (Loops (loops.NotClosed walk)) = omega arith
 
 pub certify_code : (fault : CertifyFault) → codes.ACCEPTED < (told_certify fault).code
 certify_code (certify.Mesh fault) = fault_code fault

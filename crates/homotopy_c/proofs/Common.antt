@@ -2,6 +2,8 @@
 pub use Rattle.core.proofs.alloc.Calls.{Al, Goes-blank, handle_tells}
 pub use Rattle.core.proofs.atomic.Steps.{fm}
 pub use Rattle.core.proofs.cell.Inside.{Good, one}
+pub use Rattle.homotopy_arrays.specs.Decisions.{AreAnsweredOn, IsDecideFault, IsKept}
+pub use Rattle.homotopy_arrays.specs.Loops.{IsLoopAnswer}
 pub use Rattle.homotopy_arrays.specs.Pairs.{AreWalks, IsAnswer, walk_at}
 pub use Rattle.homotopy_arrays.specs.contracts.kept.KeptMesh.{the_row}
 pub use Rattle.homotopy_arrays.specs.declared.certify.CertifyFault.{CertifyFault}

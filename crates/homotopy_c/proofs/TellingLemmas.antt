@@ -1,15 +1,16 @@
 -- What is told of surfaces and of pairs, and what it means.
-use Rattle.homotopy_c.proofs.Common.{AreWalks, IsAnswer, walk_at, Homotopic, Different, Faulty, Fault, ◌≡◌, ◌≢◌, ◌⊎◌, inl, inr, ℕ, ◌+◌, ◌*◌, ◌/◌, ◌<◌, ◌≤◌, List, ◌++◌, length, get_or, refl, sym, ap, ◌∙◌, subst, arith, cases_lt, get_or_append_left, get_or-map, length-map, Vec, Option, Result, Ok, Err, FaceList, IsOrientableSurface}
-use Rattle.homotopy_arrays.specs.Decisions.{AreDecided, IsDecideFault, IsKept}
+use Rattle.homotopy_c.proofs.Common.{AreAnsweredOn, IsDecideFault, IsKept, IsLoopAnswer, AreWalks, IsAnswer, walk_at, Homotopic, Different, Faulty, Fault, ◌≡◌, ◌≢◌, ◌⊎◌, inl, inr, ℕ, ◌+◌, ◌*◌, ◌/◌, ◌<◌, ◌≤◌, List, ◌++◌, length, get_or, refl, sym, ap, ◌∙◌, subst, arith, cases_lt, get_or_append_left, get_or-map, length-map, Vec, Option, Some, None, Result, Ok, Err, FaceList, IsOrientableSurface}
 use Rattle.homotopy_arrays.specs.Surfaces.{EndsOn, IsMeasured, IsSurfaceFault, OfMesh}
 use Rattle.homotopy_arrays.specs.declared.decide.PairAnswer.{PairAnswer}
+use Rattle.homotopy_arrays.specs.declared.loops.LoopAnswer.{LoopAnswer}
 use Rattle.homotopy_arrays.specs.declared.surface.Measured.{Measured}
 use Rattle.std.proofs.Common.{drop, map}
+use Rattle.homotopy_arrays.specs.declared.loops.LoopAnswer.TheVariants as free
 use Rattle.surf_model.specs.Moves as moves
-use Rattle.homotopy_c.specs.Kept.{IsMeshDecideCall, IsMeshNewCall, TellsKept}
-use Rattle.homotopy_c.specs.Meanings.{DoesAnswer, DoesMeasure}
-use Rattle.homotopy_c.specs.Outcomes.{byte_of, done, told}
-use Rattle.homotopy_c.specs.Told.{AreDecisionsTold, IsDecideCall, IsPut, IsSurfaceTold, TellsDecisions, TellsSurface, in_front}
+use Rattle.homotopy_c.specs.Kept.{IsMeshAnswersCall, IsMeshDecideCall, IsMeshNewCall, TellsKept}
+use Rattle.homotopy_c.specs.Meanings.{DoesAnswer, DoesAnswerLoops, DoesMeasure}
+use Rattle.homotopy_c.specs.Outcomes.{byte_of, done, loop_byte, told}
+use Rattle.homotopy_c.specs.Told.{IsBytesCall, IsDecideCall, IsPut, IsSurfaceTold, TellsBytes, TellsSurface, in_front}
 use Rattle.homotopy_c.specs.declared.codes.TheConstants as codes
 use Rattle.homotopy_c.specs.declared.outcome.Outcome.{Outcome}
 use Rattle.homotopy_c.specs.declared.surface.SurfaceNumbers.{SurfaceNumbers}
@@ -24,7 +25,7 @@ code_is outcome target e = ap (λ (o : Outcome). o.code) e
 
 -- ---- pairs
 
-byte_means : (mesh : FaceList) (first second : List ℕ) (answer : PairAnswer) → IsAnswer mesh first second answer
+pub byte_means : (mesh : FaceList) (first second : List ℕ) (answer : PairAnswer) → IsAnswer mesh first second answer
     → DoesAnswer mesh first second (byte_of answer)
 byte_means mesh first second Homotopic is = record {
   homotopic = ((λ _. is), (λ _. refl));
@@ -39,43 +40,85 @@ byte_means mesh first second (Faulty fault) is = record {
   different = ((λ e. absurd (omega (arith, e, byte_code fault))), (λ h. absurd (is.1 h.0)));
 }
 
-abbrev DoesDecide : FaceList → (sizes vertices answers : List ℕ) → Type 0
-DoesDecide mesh sizes vertices answers =
-    IsOrientableSurface mesh × ((k : ℕ) → k < length sizes / 2
-    → DoesAnswer mesh (walk_at sizes vertices (2 * k)) (walk_at sizes vertices (2 * k + 1)) (get_or answers k 0))
+pub loop_means : (mesh : FaceList) (first second : List ℕ) (answer : LoopAnswer) → IsLoopAnswer mesh first second answer
+    → DoesAnswerLoops mesh first second (loop_byte answer)
+loop_means mesh first second free.Freely is = record {
+  freely = ((λ _. is), (λ _. refl));
+  not_freely = ((λ e. absurd (omega (arith, e))), (λ h. absurd (h.1 is.1)));
+}
+loop_means mesh first second free.NotFreely is = record {
+  freely = ((λ e. absurd (omega (arith, e))), (λ h. absurd (is.1 h.1)));
+  not_freely = ((λ _. is), (λ _. refl));
+}
+loop_means mesh first second (free.Faulty fault) is = record {
+  freely = ((λ e. absurd (omega (arith, e, byte_code fault))), (λ h. absurd (is.1 h.0)));
+  not_freely = ((λ e. absurd (omega (arith, e, byte_code fault))), (λ h. absurd (is.1 h.0)));
+}
 
-decided : (mesh : FaceList) (sizes vertices old answers : List ℕ) (outcome : Outcome) (end : Result (Vec PairAnswer) Fault)
-    → EndsOn (Ok mesh) (λ m given. AreDecided sizes vertices m given.items) (IsDecideFault sizes vertices) end
-    → TellsDecisions end old answers outcome
-    → (outcome.code ≡ codes.DONE → DoesDecide mesh sizes vertices answers) × (outcome.code ≢ codes.DONE → answers ≡ old)
-decided mesh sizes vertices old answers outcome (Ok given) right tells = (
-  λ _. (let are : AreDecided sizes vertices mesh given.items = of_one mesh (λ m. AreDecided sizes vertices m given.items) right in (
-    are.surface,
-    λ k l.
-        let few : k < length given.items = omega (arith, l, are.answers.each_pair) in
-        let byte : get_or answers k 0 ≡ byte_of (get_or given.items k Different) =
-        ap (λ (xs : List ℕ). get_or xs k 0) tells.0
-        ∙ get_or_append_left (map byte_of given.items) (drop (length (map byte_of given.items)) old) 0 k
-        (omega (arith, few, length-map given.items byte_of))
-        ∙ get_or-map byte_of given.items k Different 0 few in
-        rw byte (byte_means mesh (walk_at sizes vertices (2 * k)) (walk_at sizes vertices (2 * k + 1)) (get_or given.items k Different)
-        (are.answers.answer k Different few)),
-  )),
-  λ differs. absurd (differs (code_is outcome done tells.1)),
-)
-decided mesh sizes vertices old answers outcome (Err fault) right tells =
-    ((λ e. absurd (omega (arith, e, code_is outcome (told fault) tells.1, fault_code fault))), (λ _. tells.0))
+-- answers of one kind on surfaces of one, and what their bytes mean
+module _ {A : Type 0} (IsSurface : FaceList → Type 0) (Refuses : (sizes vertices : List ℕ) → FaceList → Fault → Type 0)
+    (Is : FaceList → (first second : List ℕ) → A → Type 0) (byte : A → ℕ) (Means : FaceList → (first second : List ℕ) → ℕ → Type 0)
+    (means : (mesh : FaceList) (first second : List ℕ) (answer : A) → Is mesh first second answer → Means mesh first second (byte answer))
+    (some : A) where
+  abbrev DoTell : FaceList → (sizes vertices answers : List ℕ) → Type 0
+  DoTell mesh sizes vertices answers =
+      IsSurface mesh × ((k : ℕ) → k < length sizes / 2
+      → Means mesh (walk_at sizes vertices (2 * k)) (walk_at sizes vertices (2 * k + 1)) (get_or answers k 0))
 
-pub decide_means : (mesh : FaceList) (sizes vertices old answers : List ℕ) (outcome : Outcome)
-    → IsDecideCall (Ok mesh) sizes vertices old answers outcome
-    → (outcome.code ≡ codes.DONE → DoesDecide mesh sizes vertices answers) × (outcome.code ≢ codes.DONE → answers ≡ old)
-decide_means mesh sizes vertices old answers outcome h =
+  abbrev IsRight : FaceList → (sizes vertices : List ℕ) → Result (Vec A) Fault → Type 0
+  IsRight mesh sizes vertices end =
+      EndsOn (Ok mesh) (λ m given. AreAnsweredOn IsSurface Is sizes vertices m given.items) (Refuses sizes vertices) end
+
+  answered : (mesh : FaceList) (sizes vertices old answers : List ℕ) (outcome : Outcome) (end : Result (Vec A) Fault)
+      → IsRight mesh sizes vertices end → TellsBytes byte end old answers outcome → outcome.code ≡ codes.DONE
+      → DoTell mesh sizes vertices answers
+  answered mesh sizes vertices old answers outcome (Ok given) right tells _ =
+      let are : AreAnsweredOn IsSurface Is sizes vertices mesh given.items =
+      of_one mesh (λ m. AreAnsweredOn IsSurface Is sizes vertices m given.items) right in (
+        are.surface,
+        λ k l.
+            let few : k < length given.items = omega (arith, l, are.answers.each_pair) in
+            let here : get_or answers k 0 ≡ byte (get_or given.items k some) =
+            ap (λ (xs : List ℕ). get_or xs k 0) tells.0
+            ∙ get_or_append_left (map byte given.items) (drop (length (map byte given.items)) old) 0 k
+            (omega (arith, few, length-map given.items byte))
+            ∙ get_or-map byte given.items k some 0 few in
+            subst (Means mesh (walk_at sizes vertices (2 * k)) (walk_at sizes vertices (2 * k + 1))) (sym here)
+            (means mesh (walk_at sizes vertices (2 * k)) (walk_at sizes vertices (2 * k + 1)) (get_or given.items k some)
+            (are.answers.answer k some few)),
+      )
+  answered mesh sizes vertices old answers outcome (Err fault) right tells e =
+      absurd (omega (arith, e, code_is outcome (told fault) tells.1, fault_code fault))
+
+  pub answers_mean : (mesh : FaceList) (sizes vertices old answers : List ℕ) (outcome : Outcome)
+      → IsBytesCall byte (IsRight mesh sizes vertices) sizes old answers outcome → outcome.code ≡ codes.DONE
+      → DoTell mesh sizes vertices answers
+  answers_mean mesh sizes vertices old answers outcome h e =
+      elim (cases_lt (length old) (length sizes / 2)) [
+        | inl less ↦ absurd (omega (arith, e, code_is outcome _ (h.short less).1))
+        | inr room ↦
+            (let told_so = h.room room in
+            answered mesh sizes vertices old answers outcome told_so.end told_so.right told_so.tells e)
+      ]
+
+-- where a call does not answer, nothing is written
+pub else_same : {A : Type 0} (byte : A → ℕ) (IsRight : Result (Vec A) Fault → Type 0) (sizes old answers : List ℕ) (outcome : Outcome)
+    → IsBytesCall byte IsRight sizes old answers outcome → outcome.code ≢ codes.DONE → answers ≡ old
+else_same {A} byte IsRight sizes old answers outcome h differs =
     elim (cases_lt (length old) (length sizes / 2)) [
-      | inl less ↦
-          (let short = h.short less in
-          ((λ e. absurd (omega (arith, e, code_is outcome _ short.1))), (λ _. short.0)))
-      | inr room ↦ (let told_so = h.room room in decided mesh sizes vertices old answers outcome told_so.end told_so.right told_so.tells)
+      | inl less ↦ (h.short less).0
+      | inr room ↦ (let told_so = h.room room in by_end told_so.end told_so.tells)
     ]
+  where
+    by_end : (end : Result (Vec A) Fault) → TellsBytes byte end old answers outcome → answers ≡ old
+    by_end (Ok given) tells = absurd (differs (code_is outcome done tells.1))
+    by_end (Err fault) tells = tells.0
+
+pub held_else_same : {A : Type 0} (Is : FaceList → (first second : List ℕ) → A → Type 0) (byte : A → ℕ) (held : Option FaceList)
+    (sizes vertices old answers : List ℕ) (outcome : Outcome)
+    → IsMeshAnswersCall Is byte held sizes vertices old answers outcome → outcome.code ≢ codes.DONE → answers ≡ old
+held_else_same Is byte (Some mesh) sizes vertices old answers outcome h differs = else_same byte _ sizes old answers outcome h differs
+held_else_same Is byte None sizes vertices old answers outcome h differs = h.0
 
 -- ---- meshes that are kept
 

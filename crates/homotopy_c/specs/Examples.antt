@@ -7,17 +7,19 @@ use Rattle.labellings.specs.declared.verdict.DenialVerdict.TheVariants as denial
 use Rattle.move_checker.specs.declared.fault.MoveFault.TheVariants as moves
 use Rattle.move_checker.specs.declared.judge.Verdict.TheVariants as lists
 use Rattle.walk_files.specs.declared.fault.CertFault.TheVariants as texts
+use Rattle.walk_files.specs.declared.loops.LoopFault.TheVariants as loops
 use Rattle.walk_files.specs.declared.pair.PairFault.TheVariants.{NoVertex, NoEdge, EndsDiffer}
 use Rattle.commands.specs.declared.limits.OverLimit.TheVariants.{Sides, Darts}
 use Rattle.homotopy_arrays.specs.declared.certify.CertifyFault.TheVariants.{Over}
 use Rattle.homotopy_arrays.specs.declared.classes.NoClasses.TheVariants as none
 use Rattle.homotopy_arrays.specs.declared.decide.PairAnswer.TheVariants.{Homotopic, Different, Faulty}
 use Rattle.homotopy_arrays.specs.declared.fault.Fault.TheVariants as faults
-use Rattle.homotopy_arrays.specs.declared.pair.WalkFault.TheVariants.{Empty, Long, Pair}
+use Rattle.homotopy_arrays.specs.declared.loops.LoopAnswer.TheVariants as free
+use Rattle.homotopy_arrays.specs.declared.pair.WalkFault.TheVariants.{Empty, Long, Pair, Loops}
 use Rattle.homotopy_arrays.specs.declared.verify.VerifyFault.TheVariants as unjudged
 use Rattle.homotopy_c.specs.Certified.{told_certify}
 use Rattle.homotopy_c.specs.Judged.{judged_moves, judged_labels, judged_denial, told_certificate, told_verify}
-use Rattle.homotopy_c.specs.Outcomes.{byte_of, coded, done, no_mesh, short_room, told, told_no_classes, told_walks}
+use Rattle.homotopy_c.specs.Outcomes.{byte_of, coded, done, loop_byte, no_mesh, short_room, told, told_no_classes, told_walks}
 
 abbrev named : ℕ → VertexName
 named v = record { 0 = v }
@@ -38,7 +40,9 @@ arrays = (refl, refl, refl, refl, refl, refl, refl, refl, refl, refl)
 meshes :
     (told faults.NoFace ≡ coded 20 0 0 0) × (told (faults.EdgeSides (named 1) (named 2) 3) ≡ coded 21 1 2 3)
     × (told (faults.Pinched (named 4)) ≡ coded 22 4 0 0) × (told faults.NotOrientable ≡ coded 23 0 0 0)
-meshes = (refl, refl, refl, refl)
+    × (told faults.DoubleVertices ≡ coded 24 0 0 0) × (told faults.DoubleSides ≡ coded 25 0 0 0)
+    × (told faults.CoverVertices ≡ coded 26 0 0 0) × (told faults.CoverSides ≡ coded 27 0 0 0)
+meshes = (refl, refl, refl, refl, refl, refl, refl, refl)
 
 -- ---- walks
 
@@ -59,6 +63,12 @@ bytes :
     × (byte_of (Faulty (Pair (NoVertex 1 5))) ≡ 33) × (byte_of (Faulty (Pair (NoEdge 2 0))) ≡ 34)
     × (byte_of (Faulty (Pair (EndsDiffer true))) ≡ 35) × (byte_of (Faulty (Pair (EndsDiffer false))) ≡ 36)
 bytes = (refl, refl, refl, refl, refl, refl, refl, refl)
+
+loop_bytes :
+    (loop_byte free.Freely ≡ 7) × (loop_byte free.NotFreely ≡ 8) × (loop_byte (free.Faulty (Empty 2)) ≡ 31)
+    × (loop_byte (free.Faulty (Loops (loops.NoVertex 1 5))) ≡ 33) × (loop_byte (free.Faulty (Loops (loops.NoEdge 2 0))) ≡ 34)
+    × (loop_byte (free.Faulty (Loops (loops.NotClosed 2))) ≡ 37)
+loop_bytes = (refl, refl, refl, refl, refl, refl)
 
 -- ---- certificates
 

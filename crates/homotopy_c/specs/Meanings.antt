@@ -3,6 +3,7 @@ use Rattle.std.specs.Prelude.{◌≡◌, ◌↔◌, ℕ, ◌≤◌, ◌==◌, �
 use Rattle.std.specs.List.{list_any}
 use Rattle.surf_model.specs.FaceLists.{FaceList}
 use Rattle.surf_model.specs.Moves as moves
+use Rattle.closed_walks.specs.FreeHomotopy.{FreelyHomotopic}
 use Rattle.labellings.specs.Denials.{DenialHolds}
 use Rattle.move_checker.specs.Verdicts.{LeadsWithin}
 use Rattle.commands.specs.Certificates.{Convinces, certificate_text}
@@ -12,6 +13,7 @@ use Rattle.surf_model.specs.Genera.{AreNumbersOf}
 use Rattle.surf_model.specs.declared.numbers.SurfaceNumbers as counted
 use Rattle.commands.specs.declared.certificate.Certificate.{Certificate}
 use Rattle.commands.specs.declared.certificate.Certificate.TheVariants as shown
+use Rattle.homotopy_arrays.specs.Loops.{AreLoops}
 use Rattle.homotopy_arrays.specs.Pairs.{AreWalks}
 use Rattle.homotopy_c.specs.Outcomes.{coded}
 use Rattle.homotopy_c.specs.Told.{in_front}
@@ -30,9 +32,11 @@ are_distinct (code ∷ codes) = not (list_any (λ other. other == code) codes) &
 abbrev pub all_codes : List ℕ
 all_codes =
     codes.DONE ∷ codes.HOMOTOPIC ∷ codes.DIFFERENT ∷ codes.ACCEPTED ∷ codes.SHORT_ROOM ∷ codes.NO_MEMORY ∷ codes.NO_MESH
+    ∷ codes.FREELY_HOMOTOPIC ∷ codes.NOT_FREELY_HOMOTOPIC
     ∷ codes.MANY_VERTICES ∷ codes.CORNER_COUNT ∷ codes.MANY_SIDES ∷ codes.FEW_CORNERS ∷ codes.CORNER_RANGE ∷ codes.EQUAL_NEIGHBOURS
-    ∷ codes.NO_FACE ∷ codes.EDGE_SIDES ∷ codes.PINCHED ∷ codes.NOT_ORIENTABLE ∷ codes.WALK_COUNT ∷ codes.EMPTY_WALK ∷ codes.LONG_WALK
-    ∷ codes.NO_VERTEX ∷ codes.NO_EDGE ∷ codes.STARTS_DIFFER ∷ codes.ENDS_DIFFER ∷ codes.LONG_CERTIFICATE ∷ codes.NO_HEAD
+    ∷ codes.NO_FACE ∷ codes.EDGE_SIDES ∷ codes.PINCHED ∷ codes.NOT_ORIENTABLE ∷ codes.DOUBLE_VERTICES ∷ codes.DOUBLE_SIDES
+    ∷ codes.COVER_VERTICES ∷ codes.COVER_SIDES ∷ codes.WALK_COUNT ∷ codes.EMPTY_WALK ∷ codes.LONG_WALK
+    ∷ codes.NO_VERTEX ∷ codes.NO_EDGE ∷ codes.STARTS_DIFFER ∷ codes.ENDS_DIFFER ∷ codes.OPEN_WALK ∷ codes.LONG_CERTIFICATE ∷ codes.NO_HEAD
     ∷ codes.BAD_LINE ∷ codes.ENDED_EARLY ∷ codes.EXTRA_LINE ∷ codes.LARGE_PEAK ∷ codes.REJECTED_PEAK ∷ codes.REJECTED_MOVE_PLACE
     ∷ codes.REJECTED_MOVE_EDGE ∷ codes.REJECTED_MOVE_SPUR ∷ codes.REJECTED_MOVE_FACE ∷ codes.REJECTED_MOVE_PEAK ∷ codes.REJECTED_END
     ∷ codes.REJECTED_SHAPE ∷ codes.REJECTED_DEGREE ∷ codes.REJECTED_PLACE ∷ codes.REJECTED_EDGE ∷ codes.REJECTED_WORD
@@ -58,6 +62,11 @@ pub record DoesMeasure (mesh : FaceList) (numbers : SurfaceNumbers) (old genera 
 pub record DoesAnswer (mesh : FaceList) (first second : List ℕ) (byte : ℕ) : Type 0 where
   pub homotopic : (byte ≡ codes.HOMOTOPIC) ↔ (AreWalks mesh first second × moves.Homotopic mesh first second)
   pub different : (byte ≡ codes.DIFFERENT) ↔ (AreWalks mesh first second × (moves.Homotopic mesh first second → ⊥))
+
+-- the same of closed walks
+pub record DoesAnswerLoops (mesh : FaceList) (first second : List ℕ) (byte : ℕ) : Type 0 where
+  pub freely : (byte ≡ codes.FREELY_HOMOTOPIC) ↔ (AreLoops mesh first second × FreelyHomotopic mesh first second)
+  pub not_freely : (byte ≡ codes.NOT_FREELY_HOMOTOPIC) ↔ (AreLoops mesh first second × (FreelyHomotopic mesh first second → ⊥))
 
 -- the text of a certificate that convinces stands in front, and its length is told
 abbrev pub Shows : FaceList → (first second old text : List ℕ) → Outcome → Type 0

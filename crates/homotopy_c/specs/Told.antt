@@ -3,10 +3,11 @@ use Rattle.std.specs.Prelude.{◌≡◌, ℕ, ◌/◌, ◌<◌, ◌≤◌, List,
 use Rattle.std.specs.Global.{Vec}
 use Rattle.surf_model.specs.FaceLists.{FaceList}
 use Rattle.homotopy_arrays.specs.Classes.{AreClassed, IsNoClassesIn}
-use Rattle.homotopy_arrays.specs.Decisions.{AreDecided, IsDecideFault}
+use Rattle.homotopy_arrays.specs.Compact.{AreDecidedOnAny, IsDecideAnyFault}
+use Rattle.homotopy_arrays.specs.Decisions.{AreAnswered, IsDecideFault}
+use Rattle.homotopy_arrays.specs.Pairs.{IsAnswer}
 use Rattle.homotopy_arrays.specs.Surfaces.{EndsOn, IsMeasured, IsSurfaceFault}
 use Rattle.homotopy_arrays.specs.declared.classes.NoClasses.{NoClasses}
-use Rattle.homotopy_arrays.specs.declared.decide.PairAnswer.{PairAnswer}
 use Rattle.homotopy_arrays.specs.declared.fault.Fault.{Fault}
 use Rattle.homotopy_arrays.specs.declared.surface.Measured.{Measured}
 use Rattle.homotopy_c.specs.Outcomes.{byte_of, done, short_room, told, told_no_classes}
@@ -49,22 +50,42 @@ pub record IsSurfaceTold (read : Result FaceList Fault) (old_numbers numbers : S
   pub right : EndsOn read IsMeasured IsSurfaceFault end
   pub tells : TellsSurface end old_numbers numbers old_genera genera outcome
 
--- ---- decisions
+-- ---- answers on pairs, each of which is told by a byte
 
 -- how the question ended is told: a byte for each pair; or what is wrong, and nothing else is written
-abbrev pub TellsDecisions : Result (Vec PairAnswer) Fault → (old answers : List ℕ) → Outcome → Type 0
-TellsDecisions (Ok given) old answers outcome = (answers ≡ in_front (map byte_of given.items) old) × (outcome ≡ done)
-TellsDecisions (Err fault) old answers outcome = (answers ≡ old) × (outcome ≡ told fault)
+abbrev pub TellsBytes : {A : Type 0} → (A → ℕ) → Result (Vec A) Fault → (old answers : List ℕ) → Outcome → Type 0
+TellsBytes byte (Ok given) old answers outcome = (answers ≡ in_front (map byte given.items) old) × (outcome ≡ done)
+TellsBytes byte (Err fault) old answers outcome = (answers ≡ old) × (outcome ≡ told fault)
 
-pub record AreDecisionsTold (read : Result FaceList Fault) (sizes vertices old answers : List ℕ) (outcome : Outcome) : Type 0 where
-  pub end : Result (Vec PairAnswer) Fault
-  pub right : EndsOn read (λ mesh given. AreDecided sizes vertices mesh given.items) (IsDecideFault sizes vertices) end
-  pub tells : TellsDecisions end old answers outcome
+-- an end of the question that is right is told
+pub record AreAnswersTold {A : Type 0} (byte : A → ℕ) (IsRight : Result (Vec A) Fault → Type 0) (old answers : List ℕ)
+    (outcome : Outcome) : Type 0 where
+  pub end : Result (Vec A) Fault
+  pub right : IsRight end
+  pub tells : TellsBytes byte end old answers outcome
 
 -- where there is too little room for the answers nothing is looked at, and the length that is wanted is told
-pub record IsDecideCall (read : Result FaceList Fault) (sizes vertices old answers : List ℕ) (outcome : Outcome) : Type 0 where
-  pub room : length sizes / 2 ≤ length old → AreDecisionsTold read sizes vertices old answers outcome
+pub record IsBytesCall {A : Type 0} (byte : A → ℕ) (IsRight : Result (Vec A) Fault → Type 0) (sizes old answers : List ℕ)
+    (outcome : Outcome) : Type 0 where
+  pub room : length sizes / 2 ≤ length old → AreAnswersTold byte IsRight old answers outcome
   pub short : length old < length sizes / 2 → (answers ≡ old) × (outcome ≡ short_room (length sizes / 2))
+
+-- on an orientable closed surface; `read` is the mesh that the arrays are, or what is first wrong with them
+abbrev pub IsAnswersCall : {A : Type 0} → (FaceList → (first second : List ℕ) → A → Type 0) → (A → ℕ) → Result FaceList Fault
+    → (sizes vertices old answers : List ℕ) → Outcome → Type 0
+IsAnswersCall Is byte read sizes vertices old answers outcome =
+    IsBytesCall byte (EndsOn read (λ mesh given. AreAnswered Is sizes vertices mesh given.items) (IsDecideFault sizes vertices)) sizes old
+    answers outcome
+
+-- whether the walks are homotopic on a compact surface
+abbrev pub IsDecideAnyCall : Result FaceList Fault → (sizes vertices old answers : List ℕ) → Outcome → Type 0
+IsDecideAnyCall read sizes vertices old answers outcome =
+    IsBytesCall byte_of (EndsOn read (λ mesh given. AreDecidedOnAny sizes vertices mesh given.items) (IsDecideAnyFault sizes vertices))
+    sizes old answers outcome
+
+-- whether they are on an orientable closed surface
+abbrev pub IsDecideCall : Result FaceList Fault → (sizes vertices old answers : List ℕ) → Outcome → Type 0
+IsDecideCall read sizes vertices old answers outcome = IsAnswersCall IsAnswer byte_of read sizes vertices old answers outcome
 
 -- ---- classes
 

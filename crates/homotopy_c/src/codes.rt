@@ -21,6 +21,12 @@ pub const NO_MEMORY: u8 = 5;
 /// The handle holds no mesh.
 pub const NO_MESH: u8 = 6;
 
+/// The walks are two closed walks of the surface, and are freely homotopic.
+pub const FREELY_HOMOTOPIC: u8 = 7;
+
+/// The walks are two closed walks of the surface, and are not freely homotopic.
+pub const NOT_FREELY_HOMOTOPIC: u8 = 8;
+
 /// There are more vertices than a mesh may have.
 pub const MANY_VERTICES: u8 = 10;
 
@@ -42,14 +48,27 @@ pub const EQUAL_NEIGHBOURS: u8 = 15;
 /// The mesh has no face.
 pub const NO_FACE: u8 = 20;
 
-/// An edge has another number of sides than two: its lower and its higher vertex, and that number.
+/// An edge has another number of sides than two, or where the mesh may have boundary three or more: its lower and its higher vertex, and
+/// that number.
 pub const EDGE_SIDES: u8 = 21;
 
-/// The corners at the vertex make no ring.
+/// The corners at the vertex make no ring, nor a fan where the mesh may have boundary.
 pub const PINCHED: u8 = 22;
 
 /// The mesh is not orientable.
 pub const NOT_ORIENTABLE: u8 = 23;
+
+/// The mesh has boundary, and its double has more vertices than a mesh may have.
+pub const DOUBLE_VERTICES: u8 = 24;
+
+/// The mesh has boundary, and its double has more sides than a mesh may have.
+pub const DOUBLE_SIDES: u8 = 25;
+
+/// The mesh is not orientable, and the cover that answers for it has more vertices than a mesh may have.
+pub const COVER_VERTICES: u8 = 26;
+
+/// The mesh is not orientable, and the cover that answers for it has more sides than a mesh may have.
+pub const COVER_SIDES: u8 = 27;
 
 /// The sizes of the walks together are not the number of their vertices, or the walks are not two for each pair.
 pub const WALK_COUNT: u8 = 30;
@@ -71,6 +90,9 @@ pub const STARTS_DIFFER: u8 = 35;
 
 /// The walks end at different vertices.
 pub const ENDS_DIFFER: u8 = 36;
+
+/// The walk does not end where it starts.
+pub const OPEN_WALK: u8 = 37;
 
 /// The certificate has more bytes than are read.
 pub const LONG_CERTIFICATE: u8 = 40;

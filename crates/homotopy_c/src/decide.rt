@@ -1,13 +1,12 @@
 //! Whether walks are homotopic, pair by pair.
 ghost use Rattle.std.specs.Prelude.{◌≡◌, ◌≤◌, length, map, IfOk};
 ghost use Rattle.homotopy_arrays.specs.MeshArrays.{mesh_of};
-ghost use Rattle.homotopy_c.specs.Outcomes.{byte_of};
-ghost use Rattle.homotopy_c.specs.Told.{IsDecideCall, TellsDecisions, in_front};
+ghost use Rattle.homotopy_c.specs.Told.{IsDecideCall, TellsBytes, in_front};
 
 use crate::codes;
-use crate::outcome::{Outcome, byte_of, coded, told};
+use crate::outcome::{HasByte, Outcome, coded, told};
 use crate::room::short_room;
-use homotopy_arrays::{Fault, MeshArrays, PairAnswer, decide_arrays};
+use homotopy_arrays::{Fault, MeshArrays, decide_arrays};
 use std::alloc::Global;
 
 /// Whether the two walks of each pair are homotopic on the surface that the arrays are: a byte for each pair, which is the code of its
@@ -38,16 +37,19 @@ pub extern "C" fn homotopy_decide(
         sizes,
         corners,
     };
-    *outcome = put_decisions(
+    *outcome = put_bytes(
         decide_arrays(alloc, mesh, walk_sizes, walk_vertices),
         answers,
     );
 }
 
-/// Writes the bytes of decisions in front of an array, or tells what is wrong.
-pub(crate) fn put_decisions(decided: Result<Vec<PairAnswer>, Fault>, room: &mut [u8]) -> Outcome
+/// Writes the bytes of answers in front of an array, or tells what is wrong.
+pub(crate) fn put_bytes<A: HasByte + Copy>(
+    decided: Result<Vec<A>, Fault>,
+    room: &mut [u8],
+) -> Outcome
     requires { IfOk decided (λ given. length given.items ≤ length room.old) }
-    ensures { TellsDecisions decided room.old room.new result }
+    ensures { TellsBytes A.code decided room.old room.new result }
 {
     match decided {
         Ok(given) => {
@@ -59,11 +61,11 @@ pub(crate) fn put_decisions(decided: Result<Vec<PairAnswer>, Fault>, room: &mut 
 }
 
 /// Writes the bytes of answers in front of an array.
-fn put_answers(given: &[PairAnswer], room: &mut [u8])
+fn put_answers<A: HasByte + Copy>(given: &[A], room: &mut [u8])
     requires { length given.now ≤ length room.old }
-    ensures { room.new ≡ in_front (map byte_of given.now) room.old }
+    ensures { room.new ≡ in_front (map A.code given.now) room.old }
 {
     for k in 0..given.len() {
-        room[k] = byte_of(given[k]);
+        room[k] = given[k].byte();
     }
 }

@@ -1,22 +1,23 @@
 //! What the calls tell, said of their definitions. A call of one of these functions does nothing; its contract is the law. Each of
-//! `homotopy_surface`, `homotopy_decide`, `homotopy_mesh_new`, `homotopy_mesh_decide`, `homotopy_mesh_classes`, `homotopy_certify` and
-//! `homotopy_verify` ensures the record that its law takes as a premise; `Ok mesh` there says that the arrays are a mesh, and `Some mesh`
-//! that the handle holds it.
+//! `homotopy_surface`, `homotopy_decide`, `homotopy_decide_any`, `homotopy_mesh_new`, `homotopy_mesh_decide`, `homotopy_mesh_loops`,
+//! `homotopy_mesh_classes`, `homotopy_certify` and `homotopy_verify` ensures the record that its law takes as a premise; `Ok mesh` there
+//! says that the arrays are a mesh, and `Some mesh` that the handle holds it.
 ghost use Rattle.std.specs.Prelude.{◌≡◌, ◌≢◌, ◌⊎◌, ◌↔◌, ◌*◌, ◌+◌, ◌/◌, ◌<◌, ◌≤◌, ℕ, List, length, take, slice_index, IsTrue, Option, Some, Result, Ok};
 ghost use Rattle.surf_model.specs.FaceLists.{FaceList, IsFaceList, HasFileSize};
 ghost use Rattle.surf_model.specs.OrientableSurfaces.{IsOrientableSurface};
 ghost use Rattle.commands.specs.Inputs.{SpellsCertificate};
 ghost use Rattle.commands.specs.declared.certificate.Certificate.{Certificate};
 ghost use Rattle.commands.specs.declared.inputs.TheConstants.{MOST_BYTES};
+ghost use Rattle.compact_surfaces.specs.CompactSurfaces.{IsCompactSurface};
 ghost use Rattle.walk_classes.specs.WalkClasses.{AreClasses, AreInOneClass};
 ghost use Rattle.homotopy_arrays.specs.Classes.{walks_in};
 ghost use Rattle.homotopy_arrays.specs.Pairs.{AreWalks, walk_at};
 ghost use Rattle.homotopy_arrays.specs.declared.fault.Fault.{Fault};
 ghost use Rattle.homotopy_c.specs.Certified.{IsCertifyCall};
 ghost use Rattle.homotopy_c.specs.Judged.{IsVerifyCall};
-ghost use Rattle.homotopy_c.specs.Kept.{IsMeshClassesCall, IsMeshDecideCall, IsMeshNewCall};
-ghost use Rattle.homotopy_c.specs.Meanings.{DoesAnswer, DoesMeasure, IsAccepted, ShowsDifferent, ShowsHomotopic, are_distinct, all_codes};
-ghost use Rattle.homotopy_c.specs.Told.{IsDecideCall, IsSurfaceTold};
+ghost use Rattle.homotopy_c.specs.Kept.{IsMeshClassesCall, IsMeshDecideCall, IsMeshLoopsCall, IsMeshNewCall};
+ghost use Rattle.homotopy_c.specs.Meanings.{DoesAnswer, DoesAnswerLoops, DoesMeasure, IsAccepted, ShowsDifferent, ShowsHomotopic, are_distinct, all_codes};
+ghost use Rattle.homotopy_c.specs.Told.{IsDecideAnyCall, IsDecideCall, IsSurfaceTold};
 ghost use Rattle.homotopy_c.specs.declared.codes.TheConstants as codes;
 ghost use Rattle.homotopy_c.specs.declared.outcome.Outcome.{Outcome};
 ghost use Rattle.homotopy_c.specs.declared.surface.SurfaceNumbers.{SurfaceNumbers};
@@ -47,6 +48,18 @@ pub fn decide_tells_what_is_homotopic()
         → IsDecideCall (Ok mesh) sizes vertices old answers outcome → outcome.code ≢ codes.DONE → answers ≡ old }
 {}
 
+/// `homotopy_decide_any` answers of compact surfaces alone, in one piece or in several, closed or with boundary, orientable or not. The
+/// byte of a pair is `HOMOTOPIC` exactly where it is two walks of the mesh with common ends of which some list of moves leads from the
+/// first to the second, and `DIFFERENT` exactly where it is such walks and none does; where it does not answer, nothing is written.
+pub fn decide_any_tells_what_is_homotopic()
+    ensures answers { (mesh : FaceList) (sizes vertices old answers : List ℕ) (outcome : Outcome)
+        → IsDecideAnyCall (Ok mesh) sizes vertices old answers outcome → outcome.code ≡ codes.DONE
+        → IsCompactSurface mesh × ((k : ℕ) → k < length sizes / 2
+        → DoesAnswer mesh (walk_at sizes vertices (2 * k)) (walk_at sizes vertices (2 * k + 1)) (slice_index answers k)) }
+    ensures else_nothing { (mesh : FaceList) (sizes vertices old answers : List ℕ) (outcome : Outcome)
+        → IsDecideAnyCall (Ok mesh) sizes vertices old answers outcome → outcome.code ≢ codes.DONE → answers ≡ old }
+{}
+
 /// Of the mesh that a handle holds `homotopy_mesh_decide` tells what `homotopy_decide` tells of the arrays that `homotopy_mesh_new` was
 /// handed; where that call does not answer, the handle holds what it held.
 pub fn a_mesh_is_told_as_its_arrays()
@@ -55,6 +68,18 @@ pub fn a_mesh_is_told_as_its_arrays()
         → IsMeshDecideCall held sizes vertices before answers outcome → IsDecideCall read sizes vertices before answers outcome }
     ensures else_same { (read : Result FaceList Fault) (old held : Option FaceList) (made : Outcome) → IsMeshNewCall read old held made
         → made.code ≢ codes.DONE → held ≡ old }
+{}
+
+/// Of the mesh that a handle holds `homotopy_mesh_loops` writes a byte for each pair, which is `FREELY_HOMOTOPIC` exactly where it is two
+/// closed walks of the surface and moves and changes of the starting vertex lead from the first to the second, and `NOT_FREELY_HOMOTOPIC`
+/// exactly where it is such walks and none lead. Where it does not answer, nothing is written.
+pub fn loops_tell_what_is_freely_homotopic()
+    ensures answers { (mesh : FaceList) (sizes vertices old answers : List ℕ) (outcome : Outcome)
+        → IsMeshLoopsCall (Some mesh) sizes vertices old answers outcome → outcome.code ≡ codes.DONE
+        → IsOrientableSurface mesh × ((k : ℕ) → k < length sizes / 2
+        → DoesAnswerLoops mesh (walk_at sizes vertices (2 * k)) (walk_at sizes vertices (2 * k + 1)) (slice_index answers k)) }
+    ensures else_nothing { (held : Option FaceList) (sizes vertices old answers : List ℕ) (outcome : Outcome)
+        → IsMeshLoopsCall held sizes vertices old answers outcome → outcome.code ≢ codes.DONE → answers ≡ old }
 {}
 
 /// Of the mesh that a handle holds `homotopy_mesh_classes` writes a number for each walk, which are those of their classes: two are equal

@@ -3,15 +3,15 @@ ghost use Rattle.std.specs.Prelude.{◌≡◌, None, Ok, IfOk};
 ghost use Rattle.homotopy_arrays.specs.Decisions.{IsKept};
 ghost use Rattle.homotopy_arrays.specs.MeshArrays.{mesh_in, mesh_of};
 ghost use Rattle.homotopy_arrays.specs.Surfaces.{EndsOn, IsSurfaceFault};
-ghost use Rattle.homotopy_c.specs.Kept.{IsMeshDecideCall, IsMeshNewCall};
-ghost use Rattle.homotopy_c.specs.Told.{IsDecideCall};
+ghost use Rattle.homotopy_c.specs.Kept.{IsMeshAnswersCall, IsMeshDecideCall, IsMeshNewCall};
+ghost use Rattle.homotopy_c.specs.Told.{IsAnswersCall};
 
 use crate::codes;
-use crate::decide::put_decisions;
+use crate::decide::put_bytes;
 use crate::handle::MeshHandle;
-use crate::outcome::{Outcome, coded, told};
+use crate::outcome::{HasByte, Outcome, coded, told};
 use crate::room::short_room;
-use homotopy_arrays::{Fault, KeptMesh, MeshArrays};
+use homotopy_arrays::{Fault, KeptMesh, MeshArrays, PairAnswer, WalkAnswer};
 use std::alloc::{AllocError, Global};
 use std::mem::replace;
 
@@ -55,13 +55,7 @@ pub extern "C" fn homotopy_mesh_decide(
     ensures same { mesh.new.kept ≡ mesh.old.kept }
     ensures told { IsMeshDecideCall mesh.old.kept walk_sizes.now walk_vertices.now answers.old answers.new outcome.new }
 {
-    match replace(mesh, MeshHandle::none()).into_kept(alloc) {
-        None => *outcome = coded(codes::NO_MESH, 0, 0, 0),
-        Some(mut kept) => {
-            *outcome = decide_kept(&mut kept, walk_sizes, walk_vertices, answers);
-            *mesh = MeshHandle::of(kept);
-        }
-    }
+    *outcome = answer_held::<PairAnswer>(alloc, mesh, walk_sizes, walk_vertices, answers);
 }
 
 /// Gives back the mesh that the handle holds, if any. It holds none then.
@@ -87,19 +81,40 @@ fn on_heap(alloc: Global, kept: KeptMesh) -> Result<Box<KeptMesh>, AllocError>
     Ok(Box::new(alloc, kept)?)
 }
 
-/// Whether the two walks of each pair are homotopic on the mesh that is kept.
-fn decide_kept(
+/// The bytes of the answers on pairs of walks, on the mesh that the handle holds.
+pub(crate) fn answer_held<A: HasByte + WalkAnswer + Copy>(
+    alloc: Global,
+    mesh: &mut MeshHandle,
+    walk_sizes: &[u32],
+    walk_vertices: &[u32],
+    answers: &mut [u8],
+) -> Outcome
+    ensures same { mesh.new.kept ≡ mesh.old.kept }
+    ensures told { IsMeshAnswersCall A.Is A.code mesh.old.kept walk_sizes.now walk_vertices.now answers.old answers.new result }
+{
+    match replace(mesh, MeshHandle::none()).into_kept(alloc) {
+        None => coded(codes::NO_MESH, 0, 0, 0),
+        Some(mut kept) => {
+            let outcome = answer_kept::<A>(&mut kept, walk_sizes, walk_vertices, answers);
+            *mesh = MeshHandle::of(kept);
+            outcome
+        }
+    }
+}
+
+/// The bytes of the answers on pairs of walks, on the mesh that is kept.
+fn answer_kept<A: HasByte + WalkAnswer + Copy>(
     kept: &mut KeptMesh,
     walk_sizes: &[u32],
     walk_vertices: &[u32],
     answers: &mut [u8],
 ) -> Outcome
     ensures same { kept.new ≡ kept.old }
-    ensures told { IsDecideCall (Ok kept.old) walk_sizes.now walk_vertices.now answers.old answers.new result }
+    ensures told { IsAnswersCall A.Is A.code (Ok kept.old) walk_sizes.now walk_vertices.now answers.old answers.new result }
 {
     let wanted = walk_sizes.len() / 2;
     if answers.len() < wanted {
         return short_room(wanted);
     }
-    put_decisions(kept.decide(walk_sizes, walk_vertices), answers)
+    put_bytes(kept.answers::<A>(walk_sizes, walk_vertices), answers)
 }

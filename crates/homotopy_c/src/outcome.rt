@@ -1,10 +1,10 @@
 //! How a call ended, as C sees it.
-ghost use Rattle.std.specs.Prelude.{◌≡◌};
-ghost use Rattle.homotopy_c.specs.Outcomes.{byte_of, coded, told, told_walk, told_walks, walk_code};
+ghost use Rattle.std.specs.Prelude.{◌≡◌, ℕ};
+ghost use Rattle.homotopy_c.specs.Outcomes.{byte_of, coded, loop_byte, told, told_walk, told_walks, walk_code};
 
 use crate::codes;
-use homotopy_arrays::{Fault, PairAnswer, WalkFault};
-use walk_files::PairFault;
+use homotopy_arrays::{Fault, LoopAnswer, PairAnswer, WalkFault};
+use walk_files::{LoopFault, PairFault};
 
 /// A code, and the numbers that belong to it, 0 where there are fewer than three.
 #[repr(C)]
@@ -44,6 +44,10 @@ pub(crate) fn told(fault: Fault) -> Outcome
         ),
         Fault::Pinched { vertex } => coded(codes::PINCHED, u64::from(vertex.0), 0, 0),
         Fault::NotOrientable => coded(codes::NOT_ORIENTABLE, 0, 0, 0),
+        Fault::DoubleVertices => coded(codes::DOUBLE_VERTICES, 0, 0, 0),
+        Fault::DoubleSides => coded(codes::DOUBLE_SIDES, 0, 0, 0),
+        Fault::CoverVertices => coded(codes::COVER_VERTICES, 0, 0, 0),
+        Fault::CoverSides => coded(codes::COVER_SIDES, 0, 0, 0),
         Fault::WalkCount => coded(codes::WALK_COUNT, 0, 0, 0),
         Fault::OutOfMemory => coded(codes::NO_MEMORY, 0, 0, 0),
     }
@@ -62,6 +66,10 @@ pub(crate) fn walk_code(fault: WalkFault) -> u8
         WalkFault::Pair(PairFault::NoEdge { .. }) => codes::NO_EDGE,
         WalkFault::Pair(PairFault::EndsDiffer { at_start: true }) => codes::STARTS_DIFFER,
         WalkFault::Pair(PairFault::EndsDiffer { at_start: false }) => codes::ENDS_DIFFER,
+        WalkFault::Loops(LoopFault::NotTwo { .. }) => codes::WALK_COUNT,
+        WalkFault::Loops(LoopFault::NoVertex { .. }) => codes::NO_VERTEX,
+        WalkFault::Loops(LoopFault::NoEdge { .. }) => codes::NO_EDGE,
+        WalkFault::Loops(LoopFault::NotClosed { .. }) => codes::OPEN_WALK,
     }
 }
 
@@ -81,6 +89,14 @@ pub(crate) fn told_walks(fault: WalkFault) -> Outcome
         }
         WalkFault::Pair(PairFault::NotTwo { .. }) => coded(code, 0, 0, 0),
         WalkFault::Pair(PairFault::EndsDiffer { .. }) => coded(code, 0, 0, 0),
+        WalkFault::Loops(LoopFault::NotTwo { .. }) => coded(code, 0, 0, 0),
+        WalkFault::Loops(LoopFault::NoVertex { walk, place }) => {
+            coded(code, u64::from(walk), u64::from(place), 0)
+        }
+        WalkFault::Loops(LoopFault::NoEdge { walk, place }) => {
+            coded(code, u64::from(walk), u64::from(place), 0)
+        }
+        WalkFault::Loops(LoopFault::NotClosed { walk }) => coded(code, u64::from(walk), 0, 0),
     }
 }
 
@@ -95,13 +111,35 @@ pub(crate) fn told_walk(number: u64, fault: WalkFault) -> Outcome
     }
 }
 
-/// The byte of the answer on a pair.
-pub(crate) fn byte_of(answer: PairAnswer) -> u8
-    ensures { result ≡ byte_of answer }
-{
-    match answer {
-        PairAnswer::Homotopic => codes::HOMOTOPIC,
-        PairAnswer::Different => codes::DIFFERENT,
-        PairAnswer::Faulty(fault) => walk_code(fault),
+/// An answer on a pair, which is told by a byte.
+pub(crate) trait HasByte {
+    ghost code: { Self → ℕ };
+
+    /// The byte.
+    fn byte(self) -> u8
+        ensures { result ≡ code self };
+}
+
+impl HasByte for PairAnswer {
+    ghost code = { byte_of };
+
+    fn byte(self) -> u8 {
+        match self {
+            PairAnswer::Homotopic => codes::HOMOTOPIC,
+            PairAnswer::Different => codes::DIFFERENT,
+            PairAnswer::Faulty(fault) => walk_code(fault),
+        }
+    }
+}
+
+impl HasByte for LoopAnswer {
+    ghost code = { loop_byte };
+
+    fn byte(self) -> u8 {
+        match self {
+            LoopAnswer::Freely => codes::FREELY_HOMOTOPIC,
+            LoopAnswer::NotFreely => codes::NOT_FREELY_HOMOTOPIC,
+            LoopAnswer::Faulty(fault) => walk_code(fault),
+        }
     }
 }

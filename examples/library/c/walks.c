@@ -46,6 +46,16 @@ int main(void) {
     homotopy_mesh_classes(&kept, walk_sizes, 6, walk_vertices, 42, classes, 6, &outcome);
     if (outcome.code != HOMOTOPY_DONE) return 1;
     for (int walk = 0; walk < 6; walk++) printf("walk %d: class %zu\n", walk, classes[walk]);
+
+    /* A closed walk, beside the same from another vertex on, and beside one that goes round otherwise. */
+    static const uint32_t loop_sizes[4] = {8, 8, 8, 8};
+    static const uint32_t loop_vertices[32] = {
+        0, 1, 2, 3, 4, 5, 6, 0, 3, 4, 5, 6, 0, 1, 2, 3,
+        0, 1, 2, 3, 4, 5, 6, 0, 0, 3, 6, 2, 5, 1, 4, 0,
+    };
+    homotopy_mesh_loops(&kept, loop_sizes, 4, loop_vertices, 32, answers, 3, &outcome);
+    if (outcome.code != HOMOTOPY_DONE) return 1;
+    for (int pair = 0; pair < 2; pair++) puts(homotopy_line(answers[pair]));
     homotopy_mesh_free(&kept);
 
     /* A list of two moves leads from 0 1 3 to 0 2 3, each across a face; and no list does that ends early. */

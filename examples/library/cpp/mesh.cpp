@@ -53,11 +53,27 @@ int main() {
         std::cout << "dragged by " << j << ": " << (homotopic ? "homotopic" : "not") << '\n';
     }
 
+    // Closed walks with no point in common.
+    homotopy::Walk moved_ring;
+    for (std::uint32_t j = 0; j <= across; j++) moved_ring.push_back(at(5, j + 3));
+    std::cout << "loops";
+    for (const auto answer : kept.loops({{ring, moved_ring}, {ring, long_way}, {ring, {0, 1}}}))
+        std::cout << (answer == HOMOTOPY_FREELY_HOMOTOPIC ? " freely" : answer == HOMOTOPY_OPEN_WALK ? " open" : " not");
+    std::cout << '\n';
+
     // Loops at one point, sorted by their classes.
     homotopy::Walk twice = ring;
     twice.insert(twice.end(), ring.begin() + 1, ring.end());
     std::cout << "classes";
     for (const auto number : kept.classes({both, ring, other, long_way, {0, 1, 0}, {0}, twice})) std::cout << ' ' << number;
+    std::cout << '\n';
+
+    // A Moebius band of five triangles: its boundary goes round twice.
+    const homotopy::Mesh band{5, {3, 3, 3, 3, 3}, {0, 1, 2, 1, 2, 3, 2, 3, 4, 3, 4, 0, 4, 0, 1}};
+    const homotopy::Walk boundary = {0, 2, 4, 1, 3, 0}, core = {0, 1, 2, 3, 4, 0}, core_twice = {0, 1, 2, 3, 4, 0, 1, 2, 3, 4, 0};
+    std::cout << "band";
+    for (const auto answer : homotopy::decide_any(band, {{boundary, core_twice}, {boundary, core}, {{0}, {5}}}))
+        std::cout << (answer == HOMOTOPY_HOMOTOPIC ? " homotopic" : answer == HOMOTOPY_DIFFERENT ? " different" : " no pair");
     std::cout << '\n';
 
     const homotopy::Mesh tetrahedron{4, {3, 3, 3, 3}, {0, 1, 2, 0, 3, 1, 0, 2, 3, 1, 3, 2}};

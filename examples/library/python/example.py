@@ -22,6 +22,8 @@ with homotopy.Mesh(GRID * GRID, faces) as torus:
     for y in range(3):
         dragged = [at(0, k) for k in range(y)] + [at(x, y) for x in range(GRID + 1)] + [at(0, k) for k in reversed(range(y))]
         print("dragged by", y, torus.decide([(row, dragged)])[0])
+    higher = [at(x + 4, 7) for x in range(GRID + 1)]
+    print("loops", *torus.loops([(row, higher), (row, column), (row, [0, 1])]), sep=", ")
     print("classes", torus.classes([row + column[1:], row, column, column + row[1:], row + row[-2::-1], [0], row + row[1:]]))
 
 # One face crossed, and the same face the other way.
@@ -32,6 +34,11 @@ for certificate in (b"MOVES 1 2\nf 0 0 0 + 2\n", b"MOVES 1 2\nf 0 0 0 - 2\n"):
 answer, text = homotopy.certify(GRID * GRID, faces, row, column)
 if answer is homotopy.Answer.DIFFERENT and homotopy.verify(GRID * GRID, faces, row, column, text):
     print("a denial of", text.count(b"\n"), "lines, which is accepted")
+
+# A Moebius band of five triangles: its boundary goes round twice.
+band = [(k, (k + 1) % 5, (k + 2) % 5) for k in range(5)]
+core, boundary = [0, 1, 2, 3, 4, 0], [0, 2, 4, 1, 3, 0]
+print("band", *homotopy.decide_any(5, band, [(boundary, core + core[1:]), (boundary, core), (core, [0]), ([0], [5])]), sep=", ")
 
 for wrong in ([(0, 1, 2), (0, 3, 1), (0, 2, 3)], [(0, 1, 2), (0, 3.5, 1)]):
     try:

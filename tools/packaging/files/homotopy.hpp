@@ -16,7 +16,8 @@ namespace homotopy {
 
 using Walk = std::vector<std::uint32_t>;
 
-// The code of a pair: HOMOTOPY_HOMOTOPIC, HOMOTOPY_DIFFERENT, or 31 to 36 for what is first wrong with its walks.
+// The code of a pair: HOMOTOPY_HOMOTOPIC, HOMOTOPY_DIFFERENT, HOMOTOPY_FREELY_HOMOTOPIC or HOMOTOPY_NOT_FREELY_HOMOTOPIC, or 31 to 37 for
+// what is first wrong with its walks.
 using Answer = homotopy_code;
 
 // A mesh: a vertex count, the number of corners of each face, and the corners of all faces, face after face.
@@ -125,6 +126,16 @@ inline std::vector<Answer> decide(const Mesh &mesh, const std::vector<std::pair<
     return asked.told(outcome);
 }
 
+// The same on a surface of any kind, closed or with boundary, orientable or not.
+inline std::vector<Answer> decide_any(const Mesh &mesh, const std::vector<std::pair<Walk, Walk>> &pairs) {
+    detail::Asked asked(pairs);
+    homotopy_outcome outcome;
+    homotopy_decide_any(mesh.vertices, detail::of(mesh.sizes), mesh.sizes.size(), detail::of(mesh.corners), mesh.corners.size(),
+                        detail::of(asked.sizes), asked.sizes.size(), detail::of(asked.vertices), asked.vertices.size(),
+                        asked.answers.data(), pairs.size(), &outcome);
+    return asked.told(outcome);
+}
+
 // An orientable closed surface that is kept, so that questions can be asked as they come, by one thread at a time. It is moved, and not
 // copied; of one that was moved from, nothing is asked.
 class KeptMesh {
@@ -150,6 +161,15 @@ public:
         homotopy_outcome outcome;
         homotopy_mesh_decide(&held, detail::of(asked.sizes), asked.sizes.size(), detail::of(asked.vertices), asked.vertices.size(),
                              asked.answers.data(), pairs.size(), &outcome);
+        return asked.told(outcome);
+    }
+
+    // Whether the closed walks of each pair are freely homotopic.
+    std::vector<Answer> loops(const std::vector<std::pair<Walk, Walk>> &pairs) {
+        detail::Asked asked(pairs);
+        homotopy_outcome outcome;
+        homotopy_mesh_loops(&held, detail::of(asked.sizes), asked.sizes.size(), detail::of(asked.vertices), asked.vertices.size(),
+                            asked.answers.data(), pairs.size(), &outcome);
         return asked.told(outcome);
     }
 

@@ -33,6 +33,15 @@ pub enum Answer {
     NoPair(NoPair),
 }
 
+/// What is answered of a pair of closed walks.
+#[derive(Clone, Copy, Debug, PartialEq, Eq)]
+pub enum LoopAnswer {
+    Freely,
+    NotFreely,
+    /// They are no two closed walks of the surface: what is first wrong with them.
+    NoLoops(NoPair),
+}
+
 /// What is first wrong with two walks.
 #[derive(Clone, Copy, Debug, PartialEq, Eq)]
 pub enum NoPair {
@@ -42,6 +51,7 @@ pub enum NoPair {
     NoEdge,
     StartsDiffer,
     EndsDiffer,
+    OpenWalk,
 }
 
 /// What two walks are, with the text that shows it.
@@ -116,11 +126,21 @@ extern "C" {
         walk_sizes: *const u32, walk_count: usize, walk_vertices: *const u32, walk_vertex_count: usize,
         answers: *mut u8, answer_room: usize, outcome: *mut Outcome,
     );
+    fn homotopy_decide_any(
+        vertices: u32, sizes: *const u32, face_count: usize, corners: *const u32, corner_count: usize,
+        walk_sizes: *const u32, walk_count: usize, walk_vertices: *const u32, walk_vertex_count: usize,
+        answers: *mut u8, answer_room: usize, outcome: *mut Outcome,
+    );
     fn homotopy_mesh_new(
         vertices: u32, sizes: *const u32, face_count: usize, corners: *const u32, corner_count: usize,
         mesh: *mut Handle, outcome: *mut Outcome,
     );
     fn homotopy_mesh_decide(
+        mesh: *mut Handle,
+        walk_sizes: *const u32, walk_count: usize, walk_vertices: *const u32, walk_vertex_count: usize,
+        answers: *mut u8, answer_room: usize, outcome: *mut Outcome,
+    );
+    fn homotopy_mesh_loops(
         mesh: *mut Handle,
         walk_sizes: *const u32, walk_count: usize, walk_vertices: *const u32, walk_vertex_count: usize,
         answers: *mut u8, answer_room: usize, outcome: *mut Outcome,
@@ -194,7 +214,21 @@ impl Mesh<'_> {
                 asked.answers.as_mut_ptr(), asked.answers.len(), &mut asked.outcome,
             );
         }
-        asked.told()
+        asked.told(answer_of)
+    }
+
+    /// The answer on each pair of walks, on a surface of any kind, closed or with boundary, orientable or not.
+    pub fn decide_any(&self, pairs: &[(&[u32], &[u32])]) -> Result<Vec<Answer>, Refused> {
+        let mut asked = Asked::of(pairs);
+        // SAFETY: as above.
+        unsafe {
+            homotopy_decide_any(
+                self.vertices, self.sizes.as_ptr(), self.sizes.len(), self.corners.as_ptr(), self.corners.len(),
+                asked.sizes.as_ptr(), asked.sizes.len(), asked.vertices.as_ptr(), asked.vertices.len(),
+                asked.answers.as_mut_ptr(), asked.answers.len(), &mut asked.outcome,
+            );
+        }
+        asked.told(answer_of)
     }
 
     /// Keeps an orientable closed surface, so that questions can be asked as they come.
@@ -269,7 +303,20 @@ impl KeptMesh {
                 asked.answers.as_mut_ptr(), asked.answers.len(), &mut asked.outcome,
             );
         }
-        asked.told()
+        asked.told(answer_of)
+    }
+
+    /// Whether the closed walks of each pair are freely homotopic.
+    pub fn loops(&mut self, pairs: &[(&[u32], &[u32])]) -> Result<Vec<LoopAnswer>, Refused> {
+        let mut asked = Asked::of(pairs);
+        // SAFETY: as above.
+        unsafe {
+            homotopy_mesh_loops(
+                &mut self.0, asked.sizes.as_ptr(), asked.sizes.len(), asked.vertices.as_ptr(), asked.vertices.len(),
+                asked.answers.as_mut_ptr(), asked.answers.len(), &mut asked.outcome,
+            );
+        }
+        asked.told(loop_answer_of)
     }
 
     /// For each walk the place of the first one with the same ends that is homotopic to it.
@@ -322,7 +369,7 @@ impl Asked {
     }
 
     /// What is answered of each pair, where the question is.
-    fn told(self) -> Result<Vec<Answer>, Refused> {
+    fn told<T>(self, answer_of: impl Fn(u8) -> T) -> Result<Vec<T>, Refused> {
         match self.outcome.code {
             DONE => Ok(self.answers.into_iter().map(answer_of).collect()),
             _ => Err(self.outcome.refused()),
@@ -330,16 +377,33 @@ impl Asked {
     }
 }
 
-/// The answer that a byte is. Besides the first two there are the codes 31 to 36 alone.
+/// The answer that a byte is.
 fn answer_of(code: u8) -> Answer {
     match code {
         1 => Answer::Homotopic,
         2 => Answer::Different,
-        31 => Answer::NoPair(NoPair::EmptyWalk),
-        32 => Answer::NoPair(NoPair::LongWalk),
-        33 => Answer::NoPair(NoPair::NoVertex),
-        34 => Answer::NoPair(NoPair::NoEdge),
-        35 => Answer::NoPair(NoPair::StartsDiffer),
-        _ => Answer::NoPair(NoPair::EndsDiffer),
+        _ => Answer::NoPair(fault_of(code)),
+    }
+}
+
+/// The same of two closed walks.
+fn loop_answer_of(code: u8) -> LoopAnswer {
+    match code {
+        7 => LoopAnswer::Freely,
+        8 => LoopAnswer::NotFreely,
+        _ => LoopAnswer::NoLoops(fault_of(code)),
+    }
+}
+
+/// What is wrong, where a byte is no answer. There are the codes 31 to 37 alone.
+fn fault_of(code: u8) -> NoPair {
+    match code {
+        31 => NoPair::EmptyWalk,
+        32 => NoPair::LongWalk,
+        33 => NoPair::NoVertex,
+        34 => NoPair::NoEdge,
+        35 => NoPair::StartsDiffer,
+        36 => NoPair::EndsDiffer,
+        _ => NoPair::OpenWalk,
     }
 }

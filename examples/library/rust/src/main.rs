@@ -10,6 +10,7 @@ fn main() -> Result<(), homotopy::Refused> {
     for third in 2..4 {
         println!("{:?}", kept.decide(&[(&[0, 1, third], &[0, third])])?);
     }
+    println!("{:?}", kept.loops(&[(&[0, 1, 2, 0], &[3]), (&[0, 1], &[0])])?);
     println!("{:?}", kept.classes(&[&[0, 1], &[1, 0], &[0, 2, 1], &[0], &[0, 3, 1]])?);
     println!("{}", kept.classes(&[&[0, 1], &[0, 0]]).unwrap_err());
     match tetrahedron.certify(&[0, 1, 2], &[0, 2])? {
@@ -22,6 +23,11 @@ fn main() -> Result<(), homotopy::Refused> {
     let open = Mesh { vertices: 4, sizes: &[3; 3], corners: &corners[..9] };
     println!("{}", open.surface().unwrap_err());
     println!("{}", open.keep().err().unwrap());
+    // A Moebius band of five triangles, once and twice round, and its boundary.
+    let band = Mesh { vertices: 5, sizes: &[3; 5], corners: &[0, 1, 2, 1, 2, 3, 2, 3, 4, 3, 4, 0, 4, 0, 1] };
+    let (core, twice) = ([0, 1, 2, 3, 4, 0], [0, 1, 2, 3, 4, 0, 1, 2, 3, 4, 0]);
+    let boundary = [0, 2, 4, 1, 3, 0];
+    println!("{:?}", band.decide_any(&[(&boundary, &twice), (&boundary, &core), (&core, &[0]), (&[0], &[5])])?);
     let none = Mesh { vertices: 0, sizes: &[], corners: &[] };
     println!("{}", none.surface().unwrap_err());
     Ok(())

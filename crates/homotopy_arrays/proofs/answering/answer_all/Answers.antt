@@ -1,9 +1,9 @@
-use Rattle.homotopy_arrays.proofs.Common.{mesh_of_finder, ◌+◌, ◌*◌, ◌<◌, ◌%◌, eqb, List, ℕ, length, sum, ap, ◌∙◌, arith, and_parts, eqb-true, length_push}
+use Rattle.homotopy_arrays.proofs.Common.{◌+◌, ◌*◌, ◌<◌, ◌%◌, eqb, List, ℕ, length, sum, ap, ◌∙◌, arith, and_parts, eqb-true, length_push}
 use Rattle.homotopy_arrays.proofs.PairLemmas.{more_answers, next_place, pair_end, place_within}
 use Rattle.homotopy_arrays.proofs.answering.answer_all.Goals as goal
 
 pub slice_bounds-first-end : goal.slice_bounds-first-end
-slice_bounds-first-end c =
+slice_bounds-first-end g c =
     let sizes : List ℕ = c.args.sizes.now in
     let k : ℕ = c.loop-pair.pair in
     let all = and_parts (eqb (sum sizes) (length c.args.vertices.now)) (eqb (length sizes % 2) 0) c.requires in
@@ -14,7 +14,7 @@ slice_bounds-first-end c =
     )
 
 pub slice_bounds-second-end : goal.slice_bounds-second-end
-slice_bounds-second-end c =
+slice_bounds-second-end g c =
     let sizes : List ℕ = c.args.sizes.now in
     let k : ℕ = c.loop-pair.pair in
     let few : 2 * k + 1 < length sizes = omega (arith, c.loop-pair-test.true) in
@@ -26,7 +26,7 @@ slice_bounds-second-end c =
     )
 
 pub loop-pair-preserved : goal.loop-pair-preserved
-loop-pair-preserved c =
+loop-pair-preserved g c =
     let sizes : List ℕ = c.args.sizes.now in
     let k : ℕ = c.loop-pair.pair in
     let few : 2 * k + 1 < length sizes = omega (arith, c.loop-pair-test.true) in
@@ -36,14 +36,14 @@ loop-pair-preserved c =
       each = ap (λ xs. length xs) c.in_ok-push.ensures.items ∙ length_push c.loop-pair.answers.items c.in_ok-answer.answer
           ∙ omega (arith, c.loop-pair.invariant.each);
       answered =
-          more_answers (mesh_of_finder c.loop-pair.finder) (mesh_of_finder c.args.finder.now) sizes c.args.vertices.now
+          more_answers g.S.Asked.Answers (g.S.Asked.mesh c.loop-pair.asked) (g.S.Asked.mesh c.args.asked.now) sizes c.args.vertices.now
           c.loop-pair.answers.items c.push.new.self.items k c.loop-pair.at c.in_ok-answer.answer c.in_ok-push.ensures.items
           c.loop-pair.invariant.each c.loop-pair.invariant.place few c.loop-pair.invariant.same c.in_ok-answer.ensures.answer
           c.loop-pair.invariant.answered;
     }
 
 pub returns-clause-answers : goal.returns-clause-answers
-returns-clause-answers c =
+returns-clause-answers g c =
     let sizes : List ℕ = c.args.sizes.now in
     let all = and_parts (eqb (sum sizes) (length c.args.vertices.now)) (eqb (length sizes % 2) 0) c.requires in
     record {

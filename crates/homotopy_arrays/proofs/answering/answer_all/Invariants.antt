@@ -1,15 +1,14 @@
-use Rattle.homotopy_arrays.proofs.Common.{mesh_of_finder, ◌≡◌, ◌*◌, ◌<◌, ℕ, get_or, length, sum, take}
-use Rattle.homotopy_arrays.specs.declared.decide.PairAnswer.{PairAnswer}
+use Rattle.homotopy_arrays.proofs.Common.{◌≡◌, ◌*◌, ◌<◌, ℕ, get_or, length, sum, take}
 use Rattle.homotopy_arrays.proofs.PairLemmas.{IsAnswerAt}
 use Rattle.homotopy_arrays.proofs.answering.answer_all.Given as goal
 
 -- the answers so far
 abbrev pub invariant-loop-pair : goal.invariant-loop-pair
-invariant-loop-pair l =
+invariant-loop-pair g l =
     record {
-      same : mesh_of_finder l.finder ≡ mesh_of_finder l.fn.finder;
+      same : g.S.Asked.mesh l.asked ≡ g.S.Asked.mesh l.fn.asked;
       place : l.at ≡ sum (take (2 * l.pair) l.sizes);
       each : length l.answers.items ≡ l.pair;
-      answered : (k : ℕ) (none : PairAnswer) → k < length l.answers.items
-          → IsAnswerAt (mesh_of_finder l.fn.finder) l.sizes l.vertices k (get_or l.answers.items k none);
+      answered : (k : ℕ) (none : g.row.A.Denot) → k < length l.answers.items
+          → IsAnswerAt (g.S.Asked.Answers (g.S.Asked.mesh l.fn.asked)) l.sizes l.vertices k (get_or l.answers.items k none);
     }

@@ -1,41 +1,38 @@
-use Rattle.homotopy_arrays.proofs.Common.{◌≡◌, List, ℕ, [], ◌∷◌, refl, sym, ap, ap₂, subst, false, ◌∙◌, both_ways, IsPair, pair_fault}
-use Rattle.walk_files.specs.WalkLists.{WalkText}
-use Rattle.homotopy_arrays.proofs.PairLemmas.{first_length, second_length, no_pair, walks_of_pair, length_good}
+use Rattle.homotopy_arrays.proofs.Common.{List, ℕ, [], ◌∷◌, refl, sym, ap, subst, false, ◌∙◌, both_ways, option_map, IsPair, pair_fault}
+use Rattle.homotopy_arrays.specs.CheckedPairs.{AreListed}
+use Rattle.homotopy_arrays.specs.Pairs.{length_fault}
+use Rattle.homotopy_arrays.specs.declared.pair.WalkFault.TheVariants as faults
+use Rattle.homotopy_arrays.specs.declared.pair.Checked.TheVariants.{Pair, Faulty}
+use Rattle.homotopy_arrays.proofs.PairLemmas.{lengths_bad, length_good, no_pair, told_first, walks_of_pair}
 use Rattle.homotopy_arrays.proofs.pair.check_walks.Goals as goal
-use Rattle.homotopy_arrays.proofs.pair.check_walks.Goals.{In_ok-pair}
+use Rattle.homotopy_arrays.proofs.pair.check_walks.Goals.{In-Pair}
 
-pub returns-in-Some : goal.returns-in-Some
-returns-in-Some c =
-    λ mesh _. first_length mesh c.args.first.now c.args.second.now c.in-Some.fault (sym c.length_fault.ensures ∙ c.in-Some.is)
+listed : (c : In-Pair) → AreListed c.args.first.now c.args.second.now (Pair c.in-Pair.pair)
+listed c = rw c.in-Pair.is at c.in_ok-pair.ensures
 
-pub returns-in-Some-length_fault : goal.returns-in-Some-length_fault
-returns-in-Some-length_fault c =
-    λ mesh _. second_length mesh c.args.first.now c.args.second.now c.in-Some-length_fault.fault
-    (sym c.length_fault.ensures ∙ c.in_default.is) (sym c.length_fault-2.ensures ∙ c.in-Some-length_fault.is)
-
-walks_are : (c : In_ok-pair) → c.in_ok-pair.pair.walks ≡ c.args.first.now ∷ c.args.second.now ∷ []
-walks_are c =
-    ap (λ (t : WalkText). t.walks) c.in_ok-pair.ensures ∙ ap₂ (λ (a b : List ℕ). a ∷ b ∷ []) c.in_ok-one.ensures c.in_ok-other.ensures
+pub returns-in-Faulty : goal.returns-in-Faulty
+returns-in-Faulty c =
+    let e : AreListed c.args.first.now c.args.second.now (Faulty c.in-Faulty.fault) = rw c.in-Faulty.is at c.in_ok-pair.ensures in
+    λ mesh _. (
+      told_first (length_fault 1 c.args.first.now) (length_fault 2 c.args.second.now)
+          (option_map faults.Pair (pair_fault mesh (c.args.first.now ∷ c.args.second.now ∷ []))) c.in-Faulty.fault e,
+      λ are. lengths_bad c.args.first.now c.args.second.now c.in-Faulty.fault e are.first_walk.starts are.second_walk.starts are.few,
+    )
 
 pub returns-in-Ok : goal.returns-in-Ok
 returns-in-Ok c =
     let first : List ℕ = c.args.first.now in
     let second : List ℕ = c.args.second.now in
-    let are = walks_are (goal.at.returns-in-Ok c).In_ok-pair in
+    let are = listed (goal.at.returns-in-Ok c).In-Pair in
     λ mesh table. (
-      walks_of_pair mesh first second (subst (IsPair mesh) are ((c.in-Ok.ensures.pair mesh table).0 refl)) (
-        (length_good 1 first (sym c.length_fault.ensures ∙ c.in_default.is)).1,
-        (length_good 2 second (sym c.length_fault-2.ensures ∙ c.in_default-length_fault.is)).1,
-      ),
-      are,
+      walks_of_pair mesh first second (subst (IsPair mesh) are.0 ((c.in-Ok.ensures.pair mesh table).0 refl))
+          ((length_good 1 first are.1).1, (length_good 2 second are.2).1),
+      are.0,
     )
 
 pub returns-in-Err : goal.returns-in-Err
 returns-in-Err c =
-    let first : List ℕ = c.args.first.now in
-    let second : List ℕ = c.args.second.now in
-    let are = walks_are (goal.at.returns-in-Err c).In_ok-pair in
-    λ mesh table. no_pair mesh first second c.in-Err.fault (sym c.length_fault.ensures ∙ c.in_default.is)
-    (sym c.length_fault-2.ensures ∙ c.in_default-length_fault.is)
-    (c.in-Err.ensures.fault mesh table ∙ ap (pair_fault mesh) are)
-    (λ is. both_ways false refl ((c.in-Err.ensures.pair mesh table).1 (subst (IsPair mesh) (sym are) is)))
+    let are = listed (goal.at.returns-in-Err c).In-Pair in
+    λ mesh table. no_pair mesh c.args.first.now c.args.second.now c.in-Err.fault are.1 are.2
+    (c.in-Err.ensures.fault mesh table ∙ ap (pair_fault mesh) are.0)
+    (λ is. both_ways false refl ((c.in-Err.ensures.pair mesh table).1 (subst (IsPair mesh) (sym are.0) is)))

@@ -1,4 +1,4 @@
-use Rattle.homotopy_arrays.proofs.Common.{◌≡◌, ◌<◌, ℕ, List, ap, sum, take, ◌∙◌, arith}
+use Rattle.homotopy_arrays.proofs.Common.{◌≡◌, ℕ, List, ap, sum, take, ◌∙◌, arith}
 use Rattle.homotopy_arrays.proofs.PairLemmas.{next_place, place_within, walk_cut}
 use Rattle.homotopy_arrays.proofs.pair.slice_at.Goals as goal
 

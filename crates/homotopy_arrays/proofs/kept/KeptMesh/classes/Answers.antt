@@ -1,5 +1,4 @@
-use Rattle.homotopy_arrays.proofs.Common.{◌≡◌, ◌∙◌, eqb, length, subst, sum, sym, eqb-false, eqb-true, IsOrientableSurface}
-use Rattle.homotopy_arrays.proofs.ClassLemmas.{classed}
+use Rattle.homotopy_arrays.proofs.Common.{◌∙◌, length, sum, sym, eqb-false, eqb-true}
 use Rattle.homotopy_arrays.proofs.kept.KeptMesh.classes.Goals as goal
 
 pub classes_in-requires : goal.classes_in-requires

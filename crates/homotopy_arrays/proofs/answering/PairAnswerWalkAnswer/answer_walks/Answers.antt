@@ -1,7 +1,7 @@
 use Rattle.homotopy_arrays.proofs.Common.{mesh_of_finder, ◌≡◌, subst, sym, Some, FaceList}
 use Rattle.homotopy_arrays.specs.Pairs.{AreWalks, walks_fault}
-use Rattle.homotopy_arrays.proofs.answering.answer_walks.Goals as goal
-use Rattle.homotopy_arrays.proofs.answering.answer_walks.Goals.{In-None}
+use Rattle.homotopy_arrays.proofs.answering.PairAnswerWalkAnswer.answer_walks.Goals as goal
+use Rattle.homotopy_arrays.proofs.answering.PairAnswerWalkAnswer.answer_walks.Goals.{In-None}
 
 none : (c : In-None) → AreWalks (mesh_of_finder c.args.finder.now) c.args.first.now c.args.second.now → ⊥
 none c = rw c.in-None.is at c.in_ok-answer_if_walks.ensures.answer

@@ -1,0 +1,13 @@
+use Rattle.homotopy_c.proofs.Common.{IsAnswer, Different}
+use Rattle.compact_surfaces.specs.CompactSurfaces.{IsCompactSurface}
+use Rattle.homotopy_arrays.specs.Compact.{IsDecideAnyFault}
+use Rattle.homotopy_c.specs.Meanings.{DoesAnswer}
+use Rattle.homotopy_c.specs.Outcomes.{byte_of}
+use Rattle.homotopy_c.proofs.TellingLemmas.{answers_mean, byte_means, else_same}
+use Rattle.homotopy_c.proofs.laws.decide_any_tells_what_is_homotopic.Goals as goal
+
+pub returns-clause-answers : goal.returns-clause-answers
+returns-clause-answers c = answers_mean IsCompactSurface IsDecideAnyFault IsAnswer byte_of DoesAnswer byte_means Different
+
+pub returns-clause-else_nothing : goal.returns-clause-else_nothing
+returns-clause-else_nothing c = λ mesh sizes vertices old answers outcome. else_same byte_of _ sizes old answers outcome
