@@ -1,8 +1,9 @@
 -- Steps on a path of spokes, told by the spokes before them and behind them.
 use Rattle.spoke_paths.proofs.Common.{◌≡◌, ℕ, zero, suc, ◌+◌, ◌<◌, Bool, true, false, not, List, [], ◌∷◌, ◌++◌, length, set, refl, ap, sym, ◌∙◌, arith, length-append, Option, Some, remove, if◌then◌else◌, IsQuad, add}
-use Rattle.spoke_paths.specs.PathSteps.{upper_way, lower_way, quad_turned, spur_goes, from_spoke}
+use Rattle.spoke_paths.specs.PathSteps.{quad_turned, spur_goes, from_spoke}
 use Rattle.spoke_paths.specs.PathTurns.{from_vertex}
-use Rattle.spoke_paths.proofs.StepsKeep.{mapped-is, turned-is, becomes-is, spur-is}
+use Rattle.spoke_paths.proofs.StepsKeep.{mapped-is, spur-is}
+pub use Rattle.spoke_paths.proofs.StepsKeep.{old_way, new_way, IsTurned, is-turned}
 use Rattle.spoke_paths.proofs.Turning.{turned}
 use Rattle.spoke_paths.proofs.Turning.{turned-is as end-is}
 
@@ -64,39 +65,6 @@ at-place rule at path next e =
       next_is = r.next_is;
       does = ap (λ b. rule b r.part) (sym (end-is at)) ∙ r.does;
     }
-
--- two neighbours taken the other way round a quad
-abbrev pub old_way : Bool → ℕ → Bool → ℕ → ℕ → List ℕ
-old_way up degree at_vertex a c = if up then lower_way degree at_vertex a c else upper_way degree at_vertex a c
-
-abbrev pub new_way : Bool → ℕ → Bool → ℕ → ℕ → List ℕ
-new_way up degree at_vertex a c = if up then upper_way degree at_vertex a c else lower_way degree at_vertex a c
-
-pub record IsTurned (places : List ℕ) (a c : ℕ) (up at_vertex : Bool) (part instead : List ℕ) : Type 0 where
-  pub quad : IsQuad places a c
-  pub after : List ℕ
-  pub from : part ≡ old_way up (length places) at_vertex a c ++ after
-  pub to : instead ≡ new_way up (length places) at_vertex a c ++ after
-
-pub is-turned : (places : List ℕ) (a c : ℕ) (up at_vertex : Bool) (part instead : List ℕ)
-    → quad_turned places a c up at_vertex part ≡ Some instead
-    → IsTurned places a c up at_vertex part instead
-is-turned places a c true true part instead e =
-    let is = turned-is places a c true true part instead e in
-    let two = becomes-is (add (length places) c 1) c a (add (length places) a 1) part instead is.1 in
-    record { quad = is.0; after = two.rest; from = two.from; to = two.to }
-is-turned places a c true false part instead e =
-    let is = turned-is places a c true false part instead e in
-    let two = becomes-is c (add (length places) a 1) (add (length places) c 1) a part instead is.1 in
-    record { quad = is.0; after = two.rest; from = two.from; to = two.to }
-is-turned places a c false true part instead e =
-    let is = turned-is places a c false true part instead e in
-    let two = becomes-is a (add (length places) a 1) (add (length places) c 1) c part instead is.1 in
-    record { quad = is.0; after = two.rest; from = two.from; to = two.to }
-is-turned places a c false false part instead e =
-    let is = turned-is places a c false false part instead e in
-    let two = becomes-is (add (length places) c 1) a c (add (length places) a 1) part instead is.1 in
-    record { quad = is.0; after = two.rest; from = two.from; to = two.to }
 
 -- what is written at a place
 set-two : (before after : List ℕ) (x y v u : ℕ) → set (set (before ++ x ∷ y ∷ after) (length before) v) (length before + 1) u

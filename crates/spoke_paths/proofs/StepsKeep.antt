@@ -1,5 +1,6 @@
--- Steps on a path keep the spokes below the degree, and the state that spokes lead to, in each form that meets the laws.
-use Rattle.spoke_paths.proofs.Common.{◌≡◌, ℕ, ◌<◌, arith, inl, inr, refl, sym, ◌∙◌, ap, ap₂, zero, suc, Bool, true, false, not, eqb, ◌&&◌, List, [], ◌∷◌, All, length, Option, Some, None, cases_Bool, cases_eq, eq-eqb, ne_eqb, eqb-true, ltb-true, and_parts, option_and_then_some, option_map, if◌then◌else◌, IsQuad, StartsWell, StaysWell, ThereAndBack, AcrossQuads, led, in-range-from, all-from, InRange, add-cases, add}
+-- Steps on a path keep what spurs and quads keep: so the spokes below the degree, and the state that spokes lead to, in each form that
+-- meets the laws.
+use Rattle.spoke_paths.proofs.Common.{◌≡◌, ℕ, ◌<◌, arith, subst, ◌++◌, inl, inr, refl, sym, ◌∙◌, ap, ap₂, zero, suc, Bool, true, false, not, eqb, ◌&&◌, List, [], ◌∷◌, All, length, Option, Some, None, cases_Bool, cases_eq, eq-eqb, ne_eqb, eqb-true, ltb-true, and_parts, option_and_then_some, option_map, if◌then◌else◌, IsQuad, StartsWell, StaysWell, ThereAndBack, AcrossQuads, led, in-range-from, all-from, InRange, add-cases, add}
 use Rattle.spoke_paths.specs.PathSteps.{is_quad, upper_way, lower_way, spur_goes, two_become, quad_turned, from_spoke, after_path_step, after_path_steps, PathLeads}
 use Rattle.spoke_paths.specs.declared.step.PathStep.{PathStep}
 use Rattle.spoke_paths.specs.declared.step.PathStep.TheVariants.{Spur, Turn}
@@ -70,53 +71,38 @@ pub mapped-is : (o : Option (List ℕ)) (x : ℕ) (v : List ℕ) → option_map 
 mapped-is None x v e = absurd cc
 mapped-is (Some w) x v e = (w, refl, let same : x ∷ w ≡ v = cc in same)
 
--- the spokes stay below the degree
-abbrev KeepsRange : ℕ → (Bool → List ℕ → Option (List ℕ)) → Type 0
-KeepsRange d rule = (b : Bool) (p q : List ℕ) → InRange d p → rule b p ≡ Some q → InRange d q
+-- two neighbours taken the other way round a quad
+abbrev pub old_way : Bool → ℕ → Bool → ℕ → ℕ → List ℕ
+old_way up degree at_vertex a c = if up then lower_way degree at_vertex a c else upper_way degree at_vertex a c
 
-spur-range : (d : ℕ) → KeepsRange d (λ b. spur_goes)
-spur-range d b p q h e =
-    let goes = spur-is p q e in
-    let both : InRange d (goes.x ∷ goes.x ∷ q) = rw (goes.is) at h in both.1.1
+abbrev pub new_way : Bool → ℕ → Bool → ℕ → ℕ → List ℕ
+new_way up degree at_vertex a c = if up then upper_way degree at_vertex a c else lower_way degree at_vertex a c
 
-pair-range : (d x y v w : ℕ) (p q : List ℕ) → v < d → w < d → Becomes x y v w p q → InRange d p → InRange d q
-pair-range d x y v w p q v_below w_below is h =
-    let both : InRange d (x ∷ y ∷ is.rest) = rw (is.from) at h in rw (is.to) (v_below, (w_below, both.1.1))
+pub record IsTurned (places : List ℕ) (a c : ℕ) (up at_vertex : Bool) (part instead : List ℕ) : Type 0 where
+  pub quad : IsQuad places a c
+  pub after : List ℕ
+  pub from : part ≡ old_way up (length places) at_vertex a c ++ after
+  pub to : instead ≡ new_way up (length places) at_vertex a c ++ after
 
-turn-range : (places : List ℕ) (a c : ℕ) (up : Bool) → KeepsRange (length places) (quad_turned places a c up)
-turn-range places a c true true p q h e =
-    let d = length places in
-    let is = turned-is places a c true true p q e in
-    let a_up = up-below d a is.0.a_below in
-    pair-range d _ _ _ _ p q is.0.a_below a_up (becomes-is (add d c 1) c a (add d a 1) p q is.1) h
-turn-range places a c true false p q h e =
-    let d = length places in
-    let is = turned-is places a c true false p q e in
-    let c_up = up-below d c is.0.c_below in
-    pair-range d _ _ _ _ p q c_up is.0.a_below (becomes-is c (add d a 1) (add d c 1) a p q is.1) h
-turn-range places a c false true p q h e =
-    let d = length places in
-    let is = turned-is places a c false true p q e in
-    let c_up = up-below d c is.0.c_below in
-    pair-range d _ _ _ _ p q c_up is.0.c_below (becomes-is a (add d a 1) (add d c 1) c p q is.1) h
-turn-range places a c false false p q h e =
-    let d = length places in
-    let is = turned-is places a c false false p q e in
-    let a_up = up-below d a is.0.a_below in
-    pair-range d _ _ _ _ p q is.0.c_below a_up (becomes-is (add d c 1) a c (add d a 1) p q is.1) h
-
-from-range : (d : ℕ) (rule : Bool → List ℕ → Option (List ℕ)) → KeepsRange d rule → (at : ℕ) → KeepsRange d (λ b. from_spoke at b rule)
-from-range d rule k zero b p q h e = k b p q h e
-from-range d rule k (suc at) b [] q h e = absurd cc
-from-range d rule k (suc at) b (x ∷ p) q h e =
-    let inner = mapped-is (from_spoke at (not b) rule p) x q e in
-    rw (← inner.2) (h.0, from-range d rule k at (not b) p inner.0 h.1 inner.1)
-
-step-range : (places : List ℕ) (step : PathStep) (p q : List ℕ) → InRange (length places) p → after_path_step places step p ≡ Some q
-    → InRange (length places) q
-step-range places (Spur at) p q h e = from-range (length places) (λ b. spur_goes) (spur-range (length places)) at true p q h e
-step-range places (Turn at a c up) p q h e = from-range (length places) (quad_turned places a c up) (turn-range places a c up) at true p q h
-    e
+pub is-turned : (places : List ℕ) (a c : ℕ) (up at_vertex : Bool) (part instead : List ℕ)
+    → quad_turned places a c up at_vertex part ≡ Some instead
+    → IsTurned places a c up at_vertex part instead
+is-turned places a c true true part instead e =
+    let is = turned-is places a c true true part instead e in
+    let two = becomes-is (add (length places) c 1) c a (add (length places) a 1) part instead is.1 in
+    record { quad = is.0; after = two.rest; from = two.from; to = two.to }
+is-turned places a c true false part instead e =
+    let is = turned-is places a c true false part instead e in
+    let two = becomes-is c (add (length places) a 1) (add (length places) c 1) a part instead is.1 in
+    record { quad = is.0; after = two.rest; from = two.from; to = two.to }
+is-turned places a c false true part instead e =
+    let is = turned-is places a c false true part instead e in
+    let two = becomes-is a (add (length places) a 1) (add (length places) c 1) c part instead is.1 in
+    record { quad = is.0; after = two.rest; from = two.from; to = two.to }
+is-turned places a c false false part instead e =
+    let is = turned-is places a c false false part instead e in
+    let two = becomes-is (add (length places) c 1) a c (add (length places) a 1) part instead is.1 in
+    record { quad = is.0; after = two.rest; from = two.from; to = two.to }
 
 -- one step, and then the others
 pub record Later (places : List ℕ) (step : PathStep) (steps : List PathStep) (path end : List ℕ) : Type 0 where
@@ -130,36 +116,130 @@ later-is places step steps path end e =
     option_and_then_some (after_path_steps places steps) (after_path_step places step path) end e
     (λ next first rest. record { next = next; first = first; rest = rest })
 
-steps-range : (places : List ℕ) (steps : List PathStep) (path end : List ℕ) → InRange (length places) path → PathLeads places path steps end
-    → InRange (length places) end
-steps-range places [] path end h e = let same : path ≡ end = cc in rw (← same) h
-steps-range places (step ∷ steps) path end h e =
-    let l = later-is places step steps path end e in
-    steps-range places steps l.next end (step-range places step path l.next h l.first) l.rest
+-- What spurs and quads keep: a sameness of lists of spokes that start at the vertex, or in the middle. It goes on behind a spoke of the
+-- wheel, and is given of spurs, and of quads round the middle alone.
+pub record KeepsSteps (places : List ℕ) (Same : Bool → List ℕ → List ℕ → Type 0) : Type 0 where
+  pub itself : (at_vertex : Bool) (p : List ℕ) → Same at_vertex p p
+  pub turn : (at_vertex : Bool) (p q : List ℕ) → Same at_vertex p q → Same at_vertex q p
+  pub on : (at_vertex : Bool) (p q r : List ℕ) → Same at_vertex p q → Same at_vertex q r → Same at_vertex p r
+  pub behind : (at_vertex : Bool) (x : ℕ) (p q : List ℕ) → x < length places → Same (not at_vertex) p q → Same at_vertex (x ∷ p) (x ∷ q)
+  pub spur : (at_vertex : Bool) (x : ℕ) (p : List ℕ) → x < length places → Same at_vertex (x ∷ x ∷ p) p
+  pub quad : (a c : ℕ) (p : List ℕ) → IsQuad places a c
+      → Same true (a ∷ add (length places) a 1 ∷ p) (add (length places) c 1 ∷ c ∷ p)
 
+-- both ways round a quad are of spokes of the wheel
+ways-below : (places : List ℕ) (b : Bool) (a c : ℕ) (p : List ℕ) → IsQuad places a c → InRange (length places) p
+    → InRange (length places) (upper_way (length places) b a c ++ p) × InRange (length places) (lower_way (length places) b a c ++ p)
+ways-below places true a c p quad h =
+    let a_up = up-below (length places) a quad.a_below in
+    let c_up = up-below (length places) c quad.c_below in
+    ((quad.a_below, (a_up, h)), (c_up, (quad.c_below, h)))
+ways-below places false a c p quad h =
+    let a_up = up-below (length places) a quad.a_below in
+    let c_up = up-below (length places) c quad.c_below in
+    ((c_up, (quad.a_below, h)), (quad.c_below, (a_up, h)))
+
+range-behind : (d : ℕ) (front p : List ℕ) → InRange d (front ++ p) → InRange d p
+range-behind d [] p h = h
+range-behind d (x ∷ front) p h = range-behind d front p h.1
+
+module _ (places : List ℕ) (Same : Bool → List ℕ → List ℕ → Type 0) (keeps : KeepsSteps places Same) where
+  -- round the vertex too a quad keeps it: a spur is put in behind, and one goes in front
+  pub ways-same : (b : Bool) (a c : ℕ) (p : List ℕ) → IsQuad places a c
+      → Same b (upper_way (length places) b a c ++ p) (lower_way (length places) b a c ++ p)
+  ways-same true a c p quad = keeps.quad a c p quad
+  ways-same false a c p quad =
+      let d = length places in
+      let next = add d a 1 in
+      let up = add d c 1 in
+      let up_in = up-below d c quad.c_below in
+      keeps.on false (up ∷ a ∷ p) (up ∷ a ∷ next ∷ next ∷ p) (c ∷ next ∷ p)
+      (keeps.behind false up (a ∷ p) (a ∷ next ∷ next ∷ p) up_in
+      (keeps.behind true a p (next ∷ next ∷ p) quad.a_below
+      (keeps.turn false (next ∷ next ∷ p) p (keeps.spur false next p (up-below d a quad.a_below)))))
+      (keeps.on false (up ∷ a ∷ next ∷ next ∷ p) (up ∷ up ∷ c ∷ next ∷ p) (c ∷ next ∷ p)
+      (keeps.behind false up (a ∷ next ∷ next ∷ p) (up ∷ c ∷ next ∷ p) up_in (keeps.quad a c (next ∷ p) quad))
+      (keeps.spur false up (c ∷ next ∷ p) up_in))
+
+  -- a rule keeps it, and the spokes below the degree
+  abbrev pub Keeps : (Bool → List ℕ → Option (List ℕ)) → Type 0
+  Keeps rule = (b : Bool) (p q : List ℕ) → InRange (length places) p → rule b p ≡ Some q → Same b p q × InRange (length places) q
+
+  pub spur-keeps : Keeps (λ b. spur_goes)
+  spur-keeps b p q h e =
+      let goes = spur-is p q e in
+      let both : InRange (length places) (goes.x ∷ goes.x ∷ q) = rw (goes.is) at h in
+      (subst (λ l. Same b l q) (sym goes.is) (keeps.spur b goes.x q both.0), both.1.1)
+
+  as-told : (b : Bool) (p q from to : List ℕ) → p ≡ from → q ≡ to → Same b from to → InRange (length places) to
+      → Same b p q × InRange (length places) q
+  as-told b p q from to e f same below = rw (e, f) (same, below)
+
+  pub turn-keeps : (a c : ℕ) (up : Bool) → Keeps (quad_turned places a c up)
+  turn-keeps a c up b p q h e = by up (is-turned places a c up b p q e)
+    where
+      by : (rises : Bool) → IsTurned places a c rises b p q → Same b p q × InRange (length places) q
+      by true t =
+          let below = ways-below places b a c t.after t.quad (range-behind (length places) _ t.after (subst (InRange (length places)) t.from h)) in
+          as-told b p q _ _ t.from t.to (keeps.turn b _ _ (ways-same b a c t.after t.quad)) below.0
+      by false t =
+          let below = ways-below places b a c t.after t.quad (range-behind (length places) _ t.after (subst (InRange (length places)) t.from h)) in
+          as-told b p q _ _ t.from t.to (ways-same b a c t.after t.quad) below.1
+
+  pub from-keeps : (rule : Bool → List ℕ → Option (List ℕ)) → Keeps rule → (at : ℕ) → Keeps (λ b. from_spoke at b rule)
+  from-keeps rule k zero b p q h e = k b p q h e
+  from-keeps rule k (suc at) b [] q h e = absurd cc
+  from-keeps rule k (suc at) b (x ∷ p) q h e =
+      let inner = mapped-is (from_spoke at (not b) rule p) x q e in
+      let rest = from-keeps rule k at (not b) p inner.0 h.1 inner.1 in
+      rw (← inner.2) (keeps.behind b x p inner.0 h.0 rest.0, (h.0, rest.1))
+
+  step-keeps : (step : PathStep) (p q : List ℕ) → InRange (length places) p → after_path_step places step p ≡ Some q
+      → Same true p q × InRange (length places) q
+  step-keeps (Spur at) p q h e = from-keeps (λ b. spur_goes) spur-keeps at true p q h e
+  step-keeps (Turn at a c up) p q h e = from-keeps (quad_turned places a c up) (turn-keeps a c up) at true p q h e
+
+  pub steps-keep : (steps : List PathStep) (path end : List ℕ) → InRange (length places) path → PathLeads places path steps end
+      → Same true path end × InRange (length places) end
+  steps-keep [] path end h e = let same : path ≡ end = cc in rw (← same) (keeps.itself true path, h)
+  steps-keep (step ∷ steps) path end h e =
+      let l = later-is places step steps path end e in
+      let first = step-keeps step path l.next h l.first in
+      let rest = steps-keep steps l.next end first.1 l.rest in
+      (keeps.on true path l.next end first.0 rest.0, rest.1)
+
+-- the spokes stay below the degree
 pub spokes-stay-below : (places path end : List ℕ) (steps : List PathStep) → All (λ spoke. spoke < length places) path
     → PathLeads places path steps end
     → All (λ spoke. spoke < length places) end
 spokes-stay-below places path end steps h e =
-    all-from (length places) end (steps-range places steps path end (in-range-from (length places) path h) e)
+    let any : KeepsSteps places (λ b p q. Unit {0}) = record {
+      itself = λ b p. tt;
+      turn = λ b p q h. tt;
+      on = λ b p q r h k. tt;
+      behind = λ b x p q l h. tt;
+      spur = λ b x p l. tt;
+      quad = λ a c p h. tt;
+    } in
+    all-from (length places) end (steps-keep places (λ b p q. Unit {0}) any steps path end (in-range-from (length places) path h) e).1
 
 module _ {State : Type 0} (Belongs : List ℕ → State → Type 0) (IsAtVertex : State → Type 0) (size : State → ℕ) (next : List ℕ → State → ℕ
     → State)
     (stays : StaysWell Belongs IsAtVertex size next) (back : ThereAndBack Belongs next) (across : AcrossQuads Belongs IsAtVertex next)
     (places : List ℕ) where
   -- a state at the vertex, and one that a spoke led to from the vertex
-  record AtVertex (s : State) : Type 0 where
-    belongs : Belongs places s
-    vertex : IsAtVertex s
+  pub record AtVertex (s : State) : Type 0 where
+    pub belongs : Belongs places s
+    pub vertex : IsAtVertex s
 
-  record InMiddle (s : State) : Type 0 where
-    before : State
-    spoke : ℕ
-    below : spoke < length places
-    at : AtVertex before
-    is : s ≡ next places before spoke
+  pub record InMiddle (s : State) : Type 0 where
+    pub before : State
+    pub spoke : ℕ
+    pub below : spoke < length places
+    pub at : AtVertex before
+    pub is : s ≡ next places before spoke
 
-  abbrev Stands : Bool → State → Type 0
+  abbrev pub Stands : Bool → State → Type 0
   Stands true s = AtVertex s
   Stands false s = InMiddle s
 
@@ -176,84 +256,23 @@ module _ {State : Type 0} (Belongs : List ℕ → State → Type 0) (IsAtVertex 
   belongs-of true s h = h.belongs
   belongs-of false s h = rw h.is (stays.belongs places h.before h.spoke h.at.belongs h.below)
 
-  -- a rule keeps the state
-  abbrev KeepsState : (Bool → List ℕ → Option (List ℕ)) → Type 0
-  KeepsState rule =
-      (b : Bool) (s : State) (p q : List ℕ) → Stands b s → InRange (length places) p → rule b p ≡ Some q
-      → led next places s q ≡ led next places s p
+  -- lists that lead each state alike
+  abbrev pub LeadAlike : Bool → List ℕ → List ℕ → Type 0
+  LeadAlike b p q = (s : State) → Stands b s → led next places s p ≡ led next places s q
 
-  spur-state : KeepsState (λ b. spur_goes)
-  spur-state b s p q h range e =
-      let goes = spur-is p q e in
-      let both : InRange (length places) (goes.x ∷ goes.x ∷ q) = rw (goes.is) at range in
-      sym (ap (led next places s) goes.is ∙ ap (λ z. led next places z q) (back places s goes.x (belongs-of b s h) both.0))
-
-  -- round the vertex, the two ways of a quad
-  round-vertex : (s : State) (a c : ℕ) → InMiddle s → IsQuad places a c →
-      next places (next places s (add (length places) c 1)) a ≡ next places (next places s c) (add (length places) a 1)
-  round-vertex s a c h quad =
-      let d = length places in
-      let c_up = add d c 1 in
-      let a_up = add d a 1 in
-      let c_up_below = up-below d c quad.c_below in
-      let a_up_below = up-below d a quad.a_below in
-      let there = next places s c_up in
-      let vertex : AtVertex there = stands-next false s c_up h c_up_below in
-      let home : next places there c_up ≡ s = back places s c_up (belongs-of false s h) c_up_below in
-      let round : next places (next places there a) a_up ≡ next places s c =
-      across places there a c vertex.belongs vertex.vertex quad ∙ ap (λ z. next places z c) home in
-      let middle = stays.belongs places there a vertex.belongs quad.a_below in
-      sym (ap (λ z. next places z a_up) (sym round) ∙ back places (next places there a) a_up middle a_up_below)
-
-  pair-state : (s : State) (x y v w : ℕ) (p q : List ℕ) → Becomes x y v w p q
-      → next places (next places s v) w ≡ next places (next places s x) y →
-      led next places s q ≡ led next places s p
-  pair-state s x y v w p q is e =
-      ap (led next places s) is.to ∙ ap (λ z. led next places z is.rest) e ∙ ap (led next places s) (sym is.from)
-
-  turn-state : (a c : ℕ) (up : Bool) → KeepsState (quad_turned places a c up)
-  turn-state a c true true s p q h range e =
-      let d = length places in
-      let is = turned-is places a c true true p q e in
-      pair-state s _ _ _ _ p q (becomes-is (add d c 1) c a (add d a 1) p q is.1) (across places s a c h.belongs h.vertex is.0)
-  turn-state a c true false s p q h range e =
-      let d = length places in
-      let is = turned-is places a c true false p q e in
-      pair-state s _ _ _ _ p q (becomes-is c (add d a 1) (add d c 1) a p q is.1) (round-vertex s a c h is.0)
-  turn-state a c false true s p q h range e =
-      let d = length places in
-      let is = turned-is places a c false true p q e in
-      pair-state s _ _ _ _ p q (becomes-is a (add d a 1) (add d c 1) c p q is.1) (sym (across places s a c h.belongs h.vertex is.0))
-  turn-state a c false false s p q h range e =
-      let d = length places in
-      let is = turned-is places a c false false p q e in
-      pair-state s _ _ _ _ p q (becomes-is (add d c 1) a c (add d a 1) p q is.1) (sym (round-vertex s a c h is.0))
-
-  from-state : (rule : Bool → List ℕ → Option (List ℕ)) → KeepsState rule → (at : ℕ) → KeepsState (λ b. from_spoke at b rule)
-  from-state rule k zero b s p q h range e = k b s p q h range e
-  from-state rule k (suc at) b s [] q h range e = absurd cc
-  from-state rule k (suc at) b s (x ∷ p) q h range e =
-      let inner = mapped-is (from_spoke at (not b) rule p) x q e in
-      rw (← inner.2) (from-state rule k at (not b) (next places s x) p inner.0 (stands-next b s x h range.0) range.1 inner.1)
-
-  step-state : (step : PathStep) (s : State) (p q : List ℕ) → AtVertex s → InRange (length places) p
-      → after_path_step places step p ≡ Some q →
-      led next places s q ≡ led next places s p
-  step-state (Spur at) s p q h range e = from-state (λ b. spur_goes) spur-state at true s p q h range e
-  step-state (Turn at a c up) s p q h range e = from-state (quad_turned places a c up) (turn-state a c up) at true s p q h range e
-
-  steps-state : (steps : List PathStep) (s : State) (path end : List ℕ) → AtVertex s → InRange (length places) path
-      → PathLeads places path steps end →
-      led next places s end ≡ led next places s path
-  steps-state [] s path end h range e = let same : path ≡ end = cc in ap (led next places s) (sym same)
-  steps-state (step ∷ steps) s path end h range e =
-      let l = later-is places step steps path end e in
-      steps-state steps s l.next end h (step-range places step path l.next range l.first) l.rest
-      ∙ step-state step s path l.next h range l.first
+  pub states-keep : KeepsSteps places LeadAlike
+  states-keep = record {
+    itself = λ b p s h. refl;
+    turn = λ b p q e s h. sym (e s h);
+    on = λ b p q r e f s h. e s h ∙ f s h;
+    behind = λ b x p q below e s h. e (next places s x) (stands-next b s x h below);
+    spur = λ b x p below s h. ap (λ z. led next places z p) (back places s x (belongs-of b s h) below);
+    quad = λ a c p quad s h. ap (λ z. led next places z p) (across places s a c h.belongs h.vertex quad);
+  }
 
   pub state-stays : (IsOwn : List ℕ → Type 0) (empty : State) → StartsWell IsOwn Belongs IsAtVertex size empty
       → (path end : List ℕ) (steps : List PathStep) → IsOwn places
       → All (λ spoke. spoke < length places) path → PathLeads places path steps end → led next places empty end ≡ led next places empty path
   state-stays IsOwn empty starts path end steps own below e =
-      steps-state steps empty path end (record { belongs = starts.belongs places own; vertex = starts.at_vertex })
-      (in-range-from (length places) path below) e
+      sym ((steps-keep places LeadAlike states-keep steps path end (in-range-from (length places) path below) e).0 empty
+      (record { belongs = starts.belongs places own; vertex = starts.at_vertex }))
