@@ -5,14 +5,16 @@ pub use Rattle.std.proofs.Common.{All, Bool, List, None, Option, Some, ap, ap₂
 pub use Rattle.std.proofs.lemmas.Bool.{and_from, and_parts, cases_Bool, cases_eq, cases_lt, eq-eqb, eqb-true, lt-ltb, ltb-true, ne_eqb}
 pub use Rattle.std.proofs.lemmas.List.{append-nil, drop_all, get_or-set_other, get_or-set_same, get_or_append_left, length-set, length_push, reverse-reverse, take_all}
 pub use Rattle.std.proofs.lemmas.List.Edits.{get_or-remove_above, get_or-remove_below, length-remove}
-pub use Rattle.std.proofs.lemmas.Option.{option_and_then_some}
+pub use Rattle.std.proofs.lemmas.Option.{cond_some, option_and_then_some}
 pub use Rattle.std.specs.List.{remove}
-pub use Rattle.std.specs.Prelude.{if◌then◌else◌, option_and_then, option_map}
+pub use Rattle.std.specs.Prelude.{if◌then◌else◌, nat_lt, option_and_then, option_map}
+pub use Rattle.turn_words.proofs.Reading.{keeps-step, read, state}
+pub use Rattle.turn_words.proofs.Spokes.{canonical, turns}
 pub use Rattle.turn_words.specs.FormLaws.{AcrossQuads, IsQuad, StartsWell, StaysWell, ThereAndBack, led}
 pub use Rattle.turn_words.specs.HyperStates.{BelongsTo, IsHyperWheel, empty_state, hyper_next}
 pub use Rattle.turn_words.specs.Lemmas.FromEnd.{all-from, in-range-from}
 pub use Rattle.turn_words.specs.Lemmas.Lists.{InRange}
-pub use Rattle.turn_words.specs.Lemmas.Sums.{add-cases, add-lt, add-zero, minus-cases, minus-lt, minus-one, minus-two}
+pub use Rattle.turn_words.specs.Lemmas.Sums.{add-cases, add-lt, add-minus, add-zero, add_assoc, add_comm, minus-cases, minus-lt, minus-one, minus-two, zero-add}
 pub use Rattle.turn_words.specs.Modulo.{minus}
 unfoldable pub use Rattle.turn_words.specs.Modulo.{add}
 pub use Rattle.turn_words.specs.SpokePaths.{place_round, turn_word_of, turns_after}

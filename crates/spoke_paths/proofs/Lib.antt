@@ -9,3 +9,5 @@ pub mod Leading
 pub mod Shortening
 pub mod LeavingNothing
 pub mod Placing
+pub mod WordsKeep
+pub mod QuadWheels

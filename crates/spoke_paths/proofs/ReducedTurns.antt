@@ -1,7 +1,5 @@
 -- A reduced word whose entries are put one after another leaves a word with an entry.
-use Rattle.spoke_paths.proofs.Common.{◌≡◌, ◌≢◌, ℕ, ◌+◌, ◌<◌, ◌≤◌, inl, inr, arith, refl, sym, ◌∙◌, ap, true, false, List, [], ◌∷◌, All, length, reverse, cases_eq, cases_Bool, eq-eqb, ne_eqb, reverse-reverse, led, empty_state, hyper_next, IsHyperWheel, in-range-from, InRange, add-cases, minus-one, minus-two, add-zero, add, minus, turn_word_of}
-use Rattle.turn_words.proofs.Reading.{read, state}
-use Rattle.turn_words.proofs.Spokes.{turns, canonical}
+use Rattle.spoke_paths.proofs.Common.{◌≡◌, ◌≢◌, ℕ, ◌+◌, ◌<◌, ◌≤◌, inl, inr, arith, refl, sym, ◌∙◌, ap, true, false, List, [], ◌∷◌, All, length, reverse, cases_eq, cases_Bool, eq-eqb, ne_eqb, reverse-reverse, read, state, turns, canonical, led, empty_state, hyper_next, IsHyperWheel, in-range-from, InRange, add-cases, minus-one, minus-two, add-zero, add, minus, turn_word_of}
 use Rattle.turn_words.proofs.Unique.{left, canonical-is-left}
 use Rattle.turn_words.specs.Lemmas.WordEnds.{IsCons, Follows, open-cases, put-flip, put-else}
 use Rattle.turn_words.specs.PutTurns.{Put, is_open, flipped, put}

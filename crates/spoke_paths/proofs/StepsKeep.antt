@@ -180,10 +180,12 @@ module _ (places : List ℕ) (Same : Bool → List ℕ → List ℕ → Type 0) 
     where
       by : (rises : Bool) → IsTurned places a c rises b p q → Same b p q × InRange (length places) q
       by true t =
-          let below = ways-below places b a c t.after t.quad (range-behind (length places) _ t.after (subst (InRange (length places)) t.from h)) in
+          let range = range-behind (length places) _ t.after (subst (InRange (length places)) t.from h) in
+          let below = ways-below places b a c t.after t.quad range in
           as-told b p q _ _ t.from t.to (keeps.turn b _ _ (ways-same b a c t.after t.quad)) below.0
       by false t =
-          let below = ways-below places b a c t.after t.quad (range-behind (length places) _ t.after (subst (InRange (length places)) t.from h)) in
+          let range = range-behind (length places) _ t.after (subst (InRange (length places)) t.from h) in
+          let below = ways-below places b a c t.after t.quad range in
           as-told b p q _ _ t.from t.to (ways-same b a c t.after t.quad) below.1
 
   pub from-keeps : (rule : Bool → List ℕ → Option (List ℕ)) → Keeps rule → (at : ℕ) → Keeps (λ b. from_spoke at b rule)
