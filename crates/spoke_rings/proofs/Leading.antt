@@ -11,7 +11,7 @@ module _ (places : List ℕ) where
   pub leads-same : (s t : List ℕ) → s ≡ t → LoopLeads places s t
   leads-same s t e = ([], ap Some e)
 
-  leads-step : (step : LoopStep) (s t : List ℕ) → after_loop_step places step s ≡ Some t → LoopLeads places s t
+  pub leads-step : (step : LoopStep) (s t : List ℕ) → after_loop_step places step s ≡ Some t → LoopLeads places s t
   leads-step step s t e = (step ∷ [], ap (option_and_then (after_loop_steps places [])) e)
 
   steps-next : (a b : List LoopStep) (t : List ℕ) (o : Option (List ℕ)) →
@@ -53,7 +53,7 @@ module _ (places : List ℕ) where
       (rw (eq-eqb (length a % 2) 0 even, lt-ltb (length a) (length (a ++ b) + 1) within)
       (ap₂ (λ x y. Some (x ++ y)) (drop-append_seam a b) (take-append_seam a b)))
 
-  quad-is : (a c : ℕ) → IsQuad places a c → is_quad places a c ≡ true
+  pub quad-is : (a c : ℕ) → IsQuad places a c → is_quad places a c ≡ true
   quad-is a c q =
       let d = length places in
       and_from _ _ (and_from _ _ (and_from _ _ (lt-ltb a d q.a_below) (lt-ltb c d q.c_below)) (eq-eqb _ _ q.a_place)) (eq-eqb _ _ q.c_place)

@@ -13,3 +13,4 @@ pub mod Reducing
 pub mod TurningOver
 pub mod Forming
 pub mod RingTurns
+pub mod LoopsKeep
