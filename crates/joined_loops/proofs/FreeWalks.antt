@@ -62,8 +62,8 @@ one_cyclic_form mesh labelling first second one other valid good full closed fre
     let q = quad_path mesh labelling second in
     let p_loop = quad-loop mesh labelling good first in
     let q_loop = quad-loop mesh labelling good second in
-    let back = joined-back places p one p_loop (leads-joined places full.own p one p_loop leads) in
+    let back = joined-back places p one p_loop (leads-joined places p one p_loop leads) in
     let between = free-joined mesh labelling first second valid good closed free in
-    let whole = joined-on places one p other back (joined-on places p q other between (leads-joined places full.own q other q_loop more)) in
-    joined-rotations places full one other (leads-loop places full.own p one p_loop leads) (leads-loop places full.own q other q_loop more)
+    let whole = joined-on places one p other back (joined-on places p q other between (leads-joined places q other q_loop more)) in
+    joined-rotations places full one other (leads-loop places p one p_loop leads) (leads-loop places q other q_loop more)
     canonical other_canonical whole

@@ -1,5 +1,5 @@
 pub mod Common
-pub mod Spelling
+pub mod FullWheels
 pub mod Numbers
 pub mod Times
 pub mod Keeping

@@ -3,8 +3,7 @@ use Rattle.joined_loops.proofs.Common.{along, upto, IsCanonicalRow, along-first,
 use Rattle.std.proofs.lemmas.Grind.{same_number_lists}
 use Rattle.joined_loops.specs.JoinedLists.{JoinedBy, Joined}
 use Rattle.joined_loops.proofs.Times.{times, times-some, times-add, times-even, later-rounds}
-use Rattle.joined_loops.proofs.Spelling.{by-round}
-use Rattle.joined_loops.proofs.Numbers.{Reached, start-reached, next-reached, led-reached, one-number, same-turn, less-none}
+use Rattle.joined_loops.proofs.Numbers.{by-round, Reached, start-reached, next-reached, led-reached, one-number, same-turn, less-none}
 use Rattle.joined_loops.proofs.Keeping.{EndsIn, ends-later, begins-ends}
 use Rattle.joined_loops.proofs.Going.{gone, began, gone-belongs, spoke_before, before-next, before-in, rowed, round-even, loop-range, led-longer, meets}
 use Rattle.joined_loops.proofs.Joining.{joined-back}
@@ -96,10 +95,10 @@ stands-same : (x y : ℕ) → x % 2 ≡ y % 2 → stands_before true x ≡ stand
 stands-same x y e = ap (λ r. if r == 0 then true else not true) e
 
 gone-reached : (places : List ℕ) (full : IsFullWheel places) (a : List ℕ) → IsLoop places a → 0 < length a → (s : HyperState) →
-    Reached places full s → (j : ℕ) → Reached places full (gone places a s j)
+    Reached places s → (j : ℕ) → Reached places (gone places a s j)
 gone-reached places full a loop some s h zero = h
 gone-reached places full a loop some s h (suc j) =
-    next-reached places full (gone places a s j) (spoke_along a j) (gone-reached places full a loop some s h j)
+    next-reached places (gone places a s j) (spoke_along a j) (gone-reached places full a loop some s h j)
     (along-below places a loop some j)
 
 module _ (places : List ℕ) (full : IsFullWheel places) (a b q : List ℕ) (a_loop : IsLoop places a) (b_loop : IsLoop places b)
@@ -221,9 +220,9 @@ module _ (places : List ℕ) (full : IsFullWheel places) (a b q : List ℕ) (a_l
     same-number : left_state.number ≡ right_state.number
     same-number =
         one-number places full left_state right_state
-        (gone-reached places full a a_loop a_some empty_state (start-reached places full) l)
+        (gone-reached places full a a_loop a_some empty_state (start-reached places) l)
         (gone-reached places full b b_loop b_some s0
-        (led-reached places full empty_state q (start-reached places full) (loop-range places q joined.loop)) from)
+        (led-reached places empty_state q (start-reached places) (loop-range places q joined.loop)) from)
         (sym (reverse-reverse left_state.word) ∙ ap reverse (left-word ∙ middle.words ∙ sym right-word) ∙ reverse-reverse right_state.word)
 
     -- at the vertex and with no change, the number tells where the spoke before comes
