@@ -11,9 +11,10 @@ use Rattle.turn_words.specs.Lemmas.FromEnd.{in-range-from}
 use Rattle.turn_words.specs.Lemmas.HyperLaws.{hyper_starts, hyper_stays, hyper_there_and_back, hyper_across}
 use Rattle.quad_system.specs.PolygonLabellings.{labelling_from}
 use Rattle.quad_system.proofs.PolygonLabelLemmas.{polygon_good}
-use Rattle.quad_system.proofs.ReadingLemmas.{HasQuads, reached_reads}
-use Rattle.quad_system.proofs.PushPathLemmas.{path_of, word_path}
-use Rattle.quad_system.proofs.SpokeProductLemmas.{DartSpokes, dart_spokes, polygon_quads, spoke_at, walk_product}
+use Rattle.spoke_paths.proofs.WordsKeep.{same_word}
+use Rattle.quad_system.proofs.PushWorthLemmas.{loop_of_path}
+use Rattle.quad_system.proofs.FreePathLemmas.{places_wheel}
+use Rattle.quad_system.proofs.SpokeProductLemmas.{DartSpokes, dart_spokes, loops_keep, spoke_at, walk_product}
 
 -- the spokes of a walk are spokes of the wheel
 pub path_below : (s : OrientedMesh) (split : SplitView) (polygon : PolygonView) → IsOrientedSurface s → IsSplit s split
@@ -37,30 +38,6 @@ path_below s split polygon o t c some u v (w ∷ rest) way =
     All-append (λ i. i < polygon.degree) (spokes s.mesh (labelling_from s polygon) u w)
     (quad_path s.mesh (labelling_from s polygon) (w ∷ rest)) here
     (path_below s split polygon o t c some w v rest way.1)
-
--- lists of spokes whose turn words reach one canonical word have one product
-one_product : {X : Type 0} (Same : X → X → Type 0) (mul : X → X → X) (inv : X → X) (one : X) → IsGroup Same mul inv one
-    → (element : ℕ → X) (places : List ℕ) (spoke_at partner : ℕ → ℕ)
-    → HasQuads Same mul inv element (length places) (λ i. get_or places i 0) spoke_at partner → IsHyperWheel places
-    → (first second canonical : List ℕ)
-    → All (λ i. i < length places) first → All (λ i. i < length places) second
-    → IsCanonicalOf (length places) (turn_word_of places first) canonical
-    → IsCanonicalOf (length places) (turn_word_of places second) canonical
-    → Same (spoke_product mul inv one element true first) (spoke_product mul inv one element true second)
-one_product {X = X} Same mul inv one g element places spoke_at partner q own first second canonical f s to_first to_second =
-    let d : ℕ = length places in
-    let five : 5 ≤ d = own.five in
-    let reading : List ℕ → X = λ word.
-    spoke_product mul inv one element true (path_of d (λ i. get_or places i 0) spoke_at true 0 word) in
-    let reads : (spokes : List ℕ) → All (λ i. i < d) spokes → IsCanonicalOf d (turn_word_of places spokes) canonical
-    → Same (spoke_product mul inv one element true spokes) (reading canonical) =
-    λ spokes h c.
-    subst (λ (l : List ℕ). Same (spoke_product mul inv one element true l) (reading canonical))
-    (word_path places spoke_at q.wheel.place_in q.wheel.spoke_of_place spokes h)
-    (reached_reads Same mul inv one g element d (λ i. get_or places i 0) spoke_at partner q five c.reached.0 (turn_word_of places spokes)
-    canonical (in-range-from d (turn_word_of places spokes) (turns places spokes own h).in_range) c.reached.1) in
-    g.on (spoke_product mul inv one element true first) (reading canonical) (spoke_product mul inv one element true second)
-    (reads first f to_first) (g.turn (spoke_product mul inv one element true second) (reading canonical) (reads second s to_second))
 
 -- the places of a polygon with five spokes at least
 own_wheel : (maps : Rotations) (polygon : PolygonView) → HasPlaces maps polygon → 5 ≤ polygon.degree → IsHyperWheel polygon.places
@@ -115,17 +92,13 @@ equal_words s split polygon (u ∷ rest) (v ∷ others) canonical o t c five w z
         let y : Loops s split t = loop_of s.mesh t.parents.root (up s split t) (tree_ways s split o t) u v others along in
         let a : Loops s split t = spoke_product loop_mul loop_inv one element true first in
         let b : Loops s split t = spoke_product loop_mul loop_inv one element true second in
-        let quads : HasQuads {X = Loops s split t} SameLoop loop_mul loop_inv element (length polygon.places) (place_of polygon)
-        (spoke_at polygon) (across (rotations_of s) polygon) =
-        subst (λ n. HasQuads {X = Loops s split t} SameLoop loop_mul loop_inv element n (place_of polygon) (spoke_at polygon)
-        (across (rotations_of s) polygon)) number (polygon_quads s split o t polygon c some) in
         let equal : SameLoop a b =
-        one_product SameLoop loop_mul loop_inv one group element polygon.places (spoke_at polygon) (across (rotations_of s) polygon) quads
-        (own_wheel (rotations_of s) polygon (c.places some) five) first second canonical
+        same_word polygon.places (spoke_at polygon) (across (rotations_of s) polygon) (places_wheel s split polygon o t c some) _
+        (loops_keep s split o t polygon c some) (own_wheel (rotations_of s) polygon (c.places some) five) first second canonical
         (subst (λ n. All (λ i. i < n) first) number (path_below s split polygon o t c some u v rest way))
         (subst (λ n. All (λ i. i < n) second) number (path_below s split polygon o t c some u v others along))
-        (subst (λ n. IsCanonicalOf n (turn_word_of polygon.places first) canonical) number f)
-        (subst (λ n. IsCanonicalOf n (turn_word_of polygon.places second) canonical) number g) in
+        (subst (λ n. IsCanonicalOf n (turn_word_of polygon.places first) canonical) number f).reached
+        (subst (λ n. IsCanonicalOf n (turn_word_of polygon.places second) canonical) number g).reached in
         group.on x a y (walk_product s split o t polygon c some u v rest way)
         (group.on a b y equal (group.turn y b (walk_product s split o t polygon c some u v others along)))
 

@@ -3,28 +3,14 @@
 use Rattle.quad_system.proofs.Common.{dart_between, rotation_system, darts_of, next_of, origin_of, edge_of, OrientedMesh, IsOrientedSurface, rotations_of, IsDartFrom, PutLaws, pair, pair_belongs, led-append, labels_do, spokes, spokes_by_labels, quad_path, labels_ride, IsWay, Crosses, sides_cross, up_plain, walk_way, PolygonView, IsCutFrom, label_of, place_of, across, one_up, HasFreeSpokes, HaveFreeSpokes, last_side, across_last, spokes_along, ◌≡◌, ◌≢◌, inl, inr, ℕ, ◌+◌, ◌-◌, ◌<◌, true, not, List, [], ◌∷◌, length, get_or, refl, ap, sym, ◌∙◌, subst, arith, cases_eq, nat_tests, All-append, All-nil, All-cons, All, slice_index, IsWalk, after_dart, SplitView, IsSplit, in_cotree, is_left, IsQuad, led, add}
 use Rattle.quad_system.specs.PolygonLabellings.{labelling_from}
 use Rattle.quad_system.proofs.PolygonLabelLemmas.{up_is_add}
-use Rattle.quad_system.proofs.PushPathLemmas.{IsQuadWheel}
-use Rattle.quad_system.proofs.PushWorthLemmas.{polygon_wheel}
-use Rattle.quad_system.proofs.SpokeProductLemmas.{DartSpokes, dart_spokes, spoke_at}
+use Rattle.spoke_paths.proofs.WordsKeep.{IsQuadWheel, quad_of}
+use Rattle.quad_system.proofs.SpokeProductLemmas.{DartSpokes, dart_spokes, places_quads, spoke_at}
 
 -- the wheel of the places of a polygon, by the number of places
 pub places_wheel : (s : OrientedMesh) (split : SplitView) (polygon : PolygonView) → IsOrientedSurface s → IsSplit s split
     → IsCutFrom s split polygon → 0 < polygon.degree
     → IsQuadWheel (length polygon.places) (place_of polygon) (spoke_at polygon) (across (rotations_of s) polygon)
-places_wheel s split polygon o t c some =
-    subst (λ n. IsQuadWheel n (place_of polygon) (spoke_at polygon) (across (rotations_of s) polygon)) (sym (c.places some).each_spoke)
-    (polygon_wheel s split o t polygon c some)
-
--- a side and the one across from it make a quad
-quad_of : (places : List ℕ) (spoke_at partner : ℕ → ℕ) → IsQuadWheel (length places) (λ i. get_or places i 0) spoke_at partner → (a : ℕ)
-    → a < length places
-    → IsQuad places a (partner a)
-quad_of places spoke_at partner q a l = record {
-  a_below = l;
-  c_below = q.partner_in a l;
-  a_place = q.one_before a l;
-  c_place = ap (λ x. get_or places (add (length places) x 1) 0) (sym (q.partner_back a l)) ∙ q.one_before (partner a) (q.partner_in a l);
-}
+places_wheel s split polygon o t c some = (places_quads s split o t polygon c some).wheel
 
 -- The last side is z, and k is the number of the side across from it: the spokes z, 0 and k + 1, k are the two sides of a quad, and the
 -- last side has the labels z and 0.
