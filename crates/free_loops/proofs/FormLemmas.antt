@@ -1,25 +1,16 @@
 -- The cyclic form of a closed walk, by way of its canonical word: elementary steps lead from the turn word of the quad path to that
 -- word, so loop steps lead from the quad path to the word's spokes.
-use Rattle.free_loops.proofs.Common.{quad_path_below, IsGood, LabellingView, quad_path, IsWordOf, leads-on, IsLoop, IsFullWheel, IsCyclicallyCanonical, LoopLeads, ◌≡◌, ℕ, ◌%◌, ◌<◌, List, [], ◌∷◌, length, ap, sym, ◌∙◌, subst, arith, All, FaceList, led, turn_word_of, Reaches, Turns}
+use Rattle.free_loops.proofs.Common.{quad_path_below, IsGood, LabellingView, quad_path, IsWordOf, leads-on, IsLoop, IsFullWheel, IsCyclicallyCanonical, LoopLeads, ◌≡◌, ℕ, ◌%◌, ◌<◌, List, [], length, ap, sym, ◌∙◌, subst, arith, All, FaceList, led, turn_word_of, Reaches, Turns}
 use Rattle.turn_words.proofs.Spokes.{turns, canonical}
 use Rattle.turn_words.proofs.Unique.{unique}
 use Rattle.turn_words.specs.Canonical.{IsCanonicalOf}
-use Rattle.turn_words.specs.HyperStates.{HyperState, BelongsTo, IsEven, empty_state, hyper_next}
-use Rattle.turn_words.specs.Lemmas.HyperLaws.{hyper_starts, hyper_stays}
+use Rattle.turn_words.specs.HyperStates.{IsEven, empty_state, hyper_next}
+use Rattle.joined_loops.proofs.Going.{led-even}
+use Rattle.turn_words.specs.Lemmas.HyperLaws.{hyper_starts}
 use Rattle.free_loops.specs.CyclicForms.{IsCyclicFormOf}
 use Rattle.free_loops.proofs.ClosedLoopLemmas.{even_path}
 use Rattle.free_loops.proofs.SpellingLemmas.{as_many}
-use Rattle.free_loops.proofs.WordStepLemmas.{Below, below_from, reached_leads}
-
--- spokes that are put two by two lead from the vertex to the vertex
-even_state : (places : List ℕ) (state : HyperState) (path : List ℕ) → BelongsTo places state → IsEven state → Below (length places) path
-    → length path % 2 ≡ 0 → IsEven (led hyper_next places state path)
-even_state places state [] b e h even = e
-even_state places state (i ∷ []) b e h even = absurd (omega arith)
-even_state places state (i ∷ j ∷ path) b e h even =
-    even_state places (hyper_next places (hyper_next places state i) j) path
-    (hyper_stays.belongs places (hyper_next places state i) j (hyper_stays.belongs places state i b h.0) h.1.0)
-    (hyper_stays.at_vertex places state i j b e h.0 h.1.0) h.1.1 (omega arith)
+use Rattle.free_loops.proofs.WordStepLemmas.{reached_leads}
 
 module _ (mesh : FaceList) (labelling : LabellingView) (good : IsGood mesh labelling) (full : IsFullWheel labelling.places) where
   word_over_places : (walk word : List ℕ) → IsWordOf mesh labelling walk (Turns word)
@@ -33,8 +24,8 @@ module _ (mesh : FaceList) (labelling : LabellingView) (good : IsGood mesh label
       let path : List ℕ = quad_path mesh labelling walk in
       let below : All (λ i. i < length places) path = quad_path_below mesh labelling good walk in
       let state : IsEven (led hyper_next places empty_state path) =
-      even_state places empty_state path (hyper_starts.belongs places full.own) hyper_starts.at_vertex
-      (below_from (length places) path below) (even_path mesh labelling walk) in
+      led-even places empty_state path (hyper_starts.belongs places full.own) hyper_starts.at_vertex
+      (record { below = below; even = even_path mesh labelling walk }) in
       let is : word ≡ (led hyper_next places empty_state path).word =
       unique (length places) (turn_word_of places path) word (led hyper_next places empty_state path).word
       (turns places path full.own below) (word_over_places walk word h) (canonical places path full.own below) in

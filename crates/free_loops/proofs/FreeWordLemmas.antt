@@ -1,11 +1,12 @@
 -- Closed walks of a cut surface are freely homotopic where steps lead from their quad paths to closed lists that are rotations of one
 -- another; and on a sphere they always are.
-use Rattle.free_loops.proofs.Common.{on, turn, closes, end_is, freely, IsClosedWalk, FreelyHomotopic, OrientedMesh, IsOrientedSurface, quad_path, IsWay, HasWays, SameLoop, loop_mul, loop_inv, loop_one, loop_of, Loops, spoke, group_of, up, tree_ways, PolygonView, IsCutFrom, loop_of_path, labelling_from, leads-on, rotate, LoopLeads, IsRotation, ◌≡◌, ℕ, ◌+◌, ◌<◌, ◌%◌, List, [], ◌∷◌, length, ap, sym, ◌∙◌, subst, arith, eq-eqb, lt-ltb, Some, Homotopic, SplitView, IsSplit}
+use Rattle.free_loops.proofs.Common.{on, turn, closes, end_is, freely, IsClosedWalk, FreelyHomotopic, OrientedMesh, IsOrientedSurface, quad_path, IsWay, HasWays, SameLoop, loop_mul, loop_inv, loop_one, loop_of, Loops, spoke, group_of, up, tree_ways, PolygonView, IsCutFrom, loop_of_path, labelling_from, leads-on, rotate, LoopLeads, IsLoop, IsRotation, All, ◌≡◌, ℕ, ◌+◌, ◌<◌, ◌%◌, List, [], ◌∷◌, length, ap, sym, ◌∙◌, subst, arith, eq-eqb, lt-ltb, Some, Homotopic, SplitView, IsSplit}
 use Rattle.polygon_cut.proofs.SphereLemmas.{all_homotopic}
 use Rattle.polygon_cut.proofs.WalkLemmas.{walk_way}
 use Rattle.polygon_cut.proofs.WayLemmas.{loop_start}
 use Rattle.free_loops.proofs.LoopStepLemmas.{steps_free}
-use Rattle.free_loops.proofs.CutWheelLemmas.{quads_agree}
+use Rattle.quad_system.proofs.EqualWordLemmas.{path_below}
+use Rattle.quad_system.proofs.SpokeProductLemmas.{loops_keep}
 use Rattle.free_loops.proofs.ClosedLoopLemmas.{SameFreeLoop, loops_turn, common_ends, even_path, free_loop, free_path}
 
 -- a closed walk is a way from its start to its start
@@ -54,11 +55,18 @@ module _ (s : OrientedMesh) (split : SplitView) (o : IsOrientedSurface s) (t : I
         let quad : List ℕ = quad_path s.mesh (labelling_from s polygon) (u ∷ rest) in
         let start : Loops s split t = loop_of_path s split o t polygon quad in
         let end : Loops s split t = loop_of_path s split o t polygon path in
-        let stepped = steps_free {X = Loops s split t} SameLoop loop_mul loop_inv (loop_one s.mesh t.parents.root t.parents.root_used)
-        (group_of s split t) (spoke s split o t polygon) polygon.places (quads_agree s split o t polygon cut some) SameFreeLoop
-        (loops_turn s.mesh t.parents.root) leads.0 quad path (even_path s.mesh (labelling_from s polygon) (u ∷ rest)) leads.1 in
+        let way : IsWay s.mesh u u rest = closed_way s u rest h in
+        let loop : IsLoop polygon.places quad = record {
+          below = subst (λ n. All (λ i. i < n) quad) (sym (cut.places some).each_spoke)
+              (path_below s split polygon o t cut some u u rest way);
+          even = even_path s.mesh (labelling_from s polygon) (u ∷ rest);
+        } in
+        let stepped : SameFreeLoop start end =
+        steps_free {X = Loops s split t} SameLoop loop_mul loop_inv (loop_one s.mesh t.parents.root t.parents.root_used)
+        (group_of s split t) (spoke s split o t polygon) SameFreeLoop (loops_turn s.mesh t.parents.root) polygon.places
+        (loops_keep s split o t polygon cut some) quad path loop leads in
         on s.mesh (u ∷ rest) (t.parents.root ∷ start.rest) (t.parents.root ∷ end.rest)
-        (free_path s split o t polygon cut some u rest (closed_way s u rest h)) stepped.free
+        (free_path s split o t polygon cut some u rest way) stepped
 
     -- closed walks whose quad paths lead to rotations of one another
     pub rotations_free : (u v : ℕ) (rest others one other : List ℕ) → IsClosedWalk s.mesh (u ∷ rest) → IsClosedWalk s.mesh (v ∷ others)

@@ -1,6 +1,5 @@
 use Rattle.free_loops.proofs.Common.{◌≡◌, ◌+◌, ◌<◌, ℕ, length, get_or, ap, ap₂, sym, ◌∙◌, subst, arith, add-lt, add}
-use Rattle.free_loops.proofs.WordStepLemmas.{value_in}
-use Rattle.free_loops.proofs.SpellingLemmas.{Spelled, spelled_none, spelled_more, spelled_all, as_many}
+use Rattle.free_loops.proofs.SpellingLemmas.{value_in, Spelled, spelled_none, spelled_more, spelled_all, as_many}
 use Rattle.free_loops.proofs.spelling.spokes_of.Goals as goal
 
 pub loop-k-init : goal.loop-k-init
