@@ -4,10 +4,8 @@ use Rattle.tree_cotree.specs.Searches.{kept_at}
 use Rattle.tree_cotree.specs.Markings.{AreApart}
 use Rattle.tree_cotree.specs.EdgeFaces.{AreBelowEdges}
 use Rattle.tree_cotree.proofs.SetLemmas.{with_one, with_itself, with_other}
+use Rattle.tree_cotree.proofs.SearchLemmas.{not_both}
 use Rattle.tree_cotree.proofs.TreeLemmas.{marked_none, marked_skip, marked_more}
-
-some_none : (o : Option ℕ) (x : ℕ) → o ≡ Some x → o ≡ None → ⊥
-some_none o x e k = cc
 
 below_none : (maps : Rotations) (from : List (Option ℕ)) (edges : ℕ) → AreBelowEdges maps from edges (λ e. None) 0
 below_none maps from edges =
@@ -22,7 +20,7 @@ below_skip maps from edges n below h none =
       faces = λ e f k. let there = h.faces e f k in (there.0, omega (arith, there.1), there.2, there.3);
       keeps = λ f x l e. elim (cases_lt f n) [
         | inl less ↦ h.keeps f x less e
-        | inr more ↦ (let same : f ≡ n = omega arith in absurd (some_none (kept_at from n) x (ap (kept_at from) (sym same) ∙ e) none))
+        | inr more ↦ (let same : f ≡ n = omega arith in absurd (not_both (kept_at from n) x (ap (kept_at from) (sym same) ∙ e) none))
       ];
     }
 

@@ -16,7 +16,7 @@ use Rattle.tree_cotree.proofs.GrowthLemmas.{HasNodes}
 use Rattle.tree_cotree.proofs.SplitLemmas.{tree_ring, closed_holds_all}
 use Rattle.tree_cotree.proofs.LawLemmas.{vertex_nodes, face_nodes, some_dart, even}
 use Rattle.tree_cotree.proofs.TreeLemmas.{same_itself}
-use Rattle.tree_cotree.proofs.SplittingLemmas.{all_left, other_kind, tree_kind, cotree_kind, left_kind}
+use Rattle.tree_cotree.proofs.KindLemmas.{all_left, other_kind, tree_kind, cotree_kind, left_kind}
 use Rattle.tree_cotree.proofs.JoiningLemmas.{IsJoining, joining_none, joining_skip, joining_same, joining_set, joining_apart, ends_within, joined_spans}
 
 pub has_nodes : (s : OrientedMesh) → IsOrientedSurface s → (nodes : Nodes)
@@ -198,16 +198,19 @@ along_darts maps inside all u v (w ∷ path) p =
       along_darts maps inside all w v path p.1,
     )
 
+pub all_hang : (s : OrientedMesh) (inside : ℕ → Bool) → IsOrientedSurface s
+    → ((d : ℕ) → d < (rotations_of s).darts → inside ((rotations_of s).edge d) ≡ true)
+    → HangTogether (rotations_of s) (rotations_of s).origin inside
+all_hang s inside o all d e l k =
+    let maps : Rotations = rotations_of s in
+    let way = (rotation_system s o).connected d e l k in
+    (way.0, along_darts maps inside all (maps.origin d) (maps.origin e) way.0 way.1)
+
 pub vertices_hang : (s : OrientedMesh) (k0 : List Kind) → IsOrientedSurface s → k0 ≡ replicate (length s.table) Left
     → HangTogether (rotations_of s) (rotations_of s).origin (has_kind k0 Left)
-vertices_hang s k0 o first d e l k =
-    let maps : Rotations = rotations_of s in
-    let way = (rotation_system s o).connected d e l k in (
-      way.0,
-      along_darts maps (has_kind k0 Left)
-          (λ x b. ap (λ z. same_kind z Left) (all_left s k0 (maps.edge x) first ((names_all s o).edge_below x b))) (maps.origin d)
-          (maps.origin e) way.0 way.1,
-    )
+vertices_hang s k0 o first =
+    all_hang s (has_kind k0 Left) o
+    (λ x b. ap (λ z. same_kind z Left) (all_left s k0 ((rotations_of s).edge x) first ((names_all s o).edge_below x b)))
 
 -- an edge outside the tree is left
 left_outside : (s : OrientedMesh) (k0 k1 : List Kind) (e : ℕ) → k0 ≡ replicate (length s.table) Left
@@ -256,7 +259,7 @@ none_between s k0 k1 first t e l = elim (cases_Bool (has_kind k1 Tree e)) [
 ]
 
 -- the cotree leaves the tree as it is
-tree_stays : (s : OrientedMesh) (k1 k2 : List Kind) → length k1 ≡ length s.table → AreSpanned s Faces Cotree k1 k2 → (e : ℕ)
+pub tree_stays : (s : OrientedMesh) (k1 k2 : List Kind) → length k1 ≡ length s.table → AreSpanned s Faces Cotree k1 k2 → (e : ℕ)
     → has_kind k2 Tree e ≡ has_kind k1 Tree e
 tree_stays s k1 k2 long c e = elim (cases_Bool (has_kind k2 Cotree e)) [
   | inr out ↦ ap (λ k. same_kind k Tree) (c.others e out)

@@ -1,5 +1,5 @@
 -- What proofs of this crate cite of others, passed on from one place (by tools/imports). Declares nothing.
-pub use Rattle.connectivity.proofs.Joining.{either_way, entries_own, high_at, high_gone, joined_at_ends, joined_at_high, joined_at_keeps, joined_at_other, joined_at_same, joined_keep, joined_refl, joined_step, joined_trans, joins_only-alone, joins_only-joined_at, least_joined_at, least_range, length-joined_at, low_at, others_own}
+pub use Rattle.connectivity.proofs.Joining.{either_way, entries_own, high_at, high_gone, joined_at_ends, joined_at_high, joined_at_keeps, joined_at_other, joined_at_same, joined_keep, joined_refl, joined_step, joined_sym, joined_trans, joins_only-alone, joins_only-joined_at, least_joined_at, least_range, length-joined_at, low_at, others_own}
 pub use Rattle.connectivity.specs.Classes.{AreLeastMembers, joined_at}
 pub use Rattle.halfedge_map.proofs.DartLemmas.{face-next, face_at_number, next_permutes, numbered}
 pub use Rattle.halfedge_map.proofs.OrbitLemmas.{AreAlike, IsPermutationBelow, Returns, reached_back, reached_keeps, reached_refl, reached_step, reached_trans, returns_to, step_first, steps_add, steps_within, two_alike}

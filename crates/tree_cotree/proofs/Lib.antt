@@ -9,12 +9,15 @@ pub mod LeftoverLemmas
 pub mod LawLemmas
 pub mod RingLemmas
 pub mod SearchLemmas
+pub mod UpwardLemmas
+pub mod KindLemmas
+pub mod SplitWayLemmas
 pub mod WaitingLemmas
 pub mod TreeLemmas
 pub mod TurningLemmas
 pub mod BelowLemmas
 pub mod SplittingLemmas
-pub mod ColourOrders
+pub mod ColourTrees
 pub mod ColourLemmas
 pub mod GenusLemmas
 pub mod NameLemmas

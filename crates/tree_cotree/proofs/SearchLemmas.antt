@@ -1,5 +1,5 @@
 -- What an order of a search needs to grow, and what it is when it grows no more.
-use Rattle.tree_cotree.proofs.Common.{next_permutes, face-next, IsPermutationBelow, AreAlike, two_alike, steps_within, reached_keeps, rotation_system, after_steps, IsReached, OrientedMesh, IsOrientedSurface, Rotations, rotations_of, IsRotationSystem, ◌≡◌, ◌≢◌, inl, inr, ℕ, zero, suc, ◌+◌, ◌<◌, ◌≤◌, Bool, true, false, List, [], ◌∷◌, ◌++◌, length, get_or, refl, ap, sym, ◌∙◌, subst, arith, set, cases_eq, cases_lt, length_push, get_or_push, get_or_append_left, get_or-set_same, get_or-set_other, length-set, get_or_read, map-append, append-nil, append_assoc, length-append, option_map, Option, Some, None, is_some, DartName}
+use Rattle.tree_cotree.proofs.Common.{next_permutes, face-next, IsPermutationBelow, AreAlike, two_alike, steps_within, reached_keeps, rotation_system, after_steps, IsReached, OrientedMesh, IsOrientedSurface, Rotations, rotations_of, IsRotationSystem, ◌≡◌, ◌≢◌, ◌⊎◌, inl, inr, ℕ, zero, suc, ◌+◌, ◌<◌, ◌≤◌, Bool, true, false, List, [], ◌∷◌, ◌++◌, length, get_or, refl, ap, sym, ◌∙◌, subst, arith, set, cases_eq, cases_lt, length_push, get_or_push, get_or_append_left, get_or-set_same, get_or-set_other, length-set, get_or_read, map-append, append-nil, append_assoc, length-append, option_map, Option, Some, None, is_some, DartName}
 use Rattle.halfedge_map.proofs.VertexLemmas.{turns_permute, origin-turned}
 use Rattle.tree_cotree.specs.declared.search.Nodes.{Nodes}
 use Rattle.tree_cotree.specs.declared.search.Nodes.TheVariants.{Vertices, Faces}
@@ -16,10 +16,10 @@ new_at : (order : List ℕ) (x j : ℕ) → j ≡ length order → get_or (order
 new_at order x j e = get_or_push order x 0 j (sym e)
 
 -- what is kept for a node, after another dart is kept
-kept_same : (from : List (Option ℕ)) (v x : ℕ) → v < length from → kept_at (set from v (Some x)) v ≡ Some x
+pub kept_same : (from : List (Option ℕ)) (v x : ℕ) → v < length from → kept_at (set from v (Some x)) v ≡ Some x
 kept_same from v x l = get_or-set_same from v (Some x) None l
 
-kept_other : (from : List (Option ℕ)) (v w x : ℕ) → w ≢ v → kept_at (set from v (Some x)) w ≡ kept_at from w
+pub kept_other : (from : List (Option ℕ)) (v w x : ℕ) → w ≢ v → kept_at (set from v (Some x)) w ≡ kept_at from w
 kept_other from v w x ne = get_or-set_other from v w (Some x) None ne
 
 -- a dart with a new node across an allowed edge
@@ -32,8 +32,16 @@ pub record IsNewDart (maps : Rotations) (node : ℕ → ℕ) (allowed : ℕ → 
   pub not_root : node (maps.twin d) ≢ root
   pub none_kept : kept_at from (node (maps.twin d)) ≡ None
 
-some_is_none : (o : Option ℕ) (x : ℕ) → o ≡ Some x → o ≡ None → ⊥
-some_is_none o x e k = cc
+-- what is kept for a number
+pub option_cases : (o : Option ℕ) → (o ≡ None) ⊎ ((x : ℕ) × (o ≡ Some x))
+option_cases None = inl refl
+option_cases (Some x) = inr (x, refl)
+
+pub not_both : (o : Option ℕ) (x : ℕ) → o ≡ Some x → o ≡ None → ⊥
+not_both o x e k = cc
+
+pub same_some : (o : Option ℕ) (x y : ℕ) → o ≡ Some x → o ≡ Some y → x ≡ y
+same_some o x y e k = cc
 
 pub order_more : (maps : Rotations) (node : ℕ → ℕ) (allowed : ℕ → Bool) (bound root : ℕ) (order : List ℕ)
     (from : List (Option ℕ)) (d x : ℕ)
@@ -53,7 +61,7 @@ order_more maps node allowed bound root order from d x r h new is =
     let unlike : (i : ℕ) → i < n → node (get_or order i 0) ≢ v =
     λ i l e. elim (cases_eq i 0) [
       | inl at_root ↦ new.not_root (sym e ∙ ap (λ k. node (get_or order k 0)) at_root ∙ h.first)
-      | inr later ↦ some_is_none (kept_at from v) (get_or order i 0) (ap (kept_at from) (sym e) ∙ h.named i (omega (arith, later)) l)
+      | inr later ↦ not_both (kept_at from v) (get_or order i 0) (ap (kept_at from) (sym e) ∙ h.named i (omega (arith, later)) l)
           new.none_kept
     ] in
     record {
@@ -120,26 +128,6 @@ order_more maps node allowed bound root order from d x r h new is =
               of_node = before.of_node;
             })
       ];
-    }
-
--- the order of a start
-pub order_start : (maps : Rotations) (node : ℕ → ℕ) (allowed : ℕ → Bool) (bound start : ℕ) (order : List ℕ) (from : List (Option ℕ))
-    → order ≡ start ∷ [] → start < maps.darts → length from ≡ bound → ((v : ℕ) → kept_at from v ≡ None)
-    → IsOrder maps node allowed bound (node start) order from
-order_start maps node allowed bound start order from is l long none =
-    let one : length order ≡ 1 = ap (λ (xs : List ℕ). length xs) is in
-    let head : get_or order 0 0 ≡ start = ap (λ (xs : List ℕ). get_or xs 0 0) is in
-    record {
-      long = long;
-      some = omega (arith, one);
-      first = ap node head;
-      within = λ j b. let first : j ≡ 0 = omega (arith, b, one) in subst (λ y. y < maps.darts)
-          (sym (ap (λ k. get_or order k 0) first ∙ head)) l;
-      fresh = λ i j less b. absurd (omega (arith, less, b, one));
-      back = λ j later b. absurd (omega (arith, later, b, one));
-      inside = λ j later b. absurd (omega (arith, later, b, one));
-      named = λ j later b. absurd (omega (arith, later, b, one));
-      only = λ v x e. absurd (some_is_none (kept_at from v) x e (none v));
     }
 
 -- an order goes on from another

@@ -1,82 +1,93 @@
 -- The tree that a search makes: a node's dart leads back to a node found before, so following the darts ends at the root.
-use Rattle.tree_cotree.proofs.Common.{joined_trans, Rotations, IsRotationSystem, IsDartStep, IsDartFrom, ◌≡◌, ◌≢◌, ◌⊎◌, inl, inr, ℕ, zero, suc, ◌+◌, ◌<◌, Bool, true, false, cond, List, [], ◌∷◌, length, get_or, refl, ap, sym, ◌∙◌, subst, arith, set, cases_Bool, cases_eq, cases_lt, both_ways, get_or-set_same, get_or-set_other, length-set, Option, Some, None, is_some, count_below, IsPath, AreJoined}
-use Rattle.tree_cotree.specs.SpanningTrees.{StepsIn}
+use Rattle.tree_cotree.proofs.Common.{joined_trans, joined_sym, Rotations, IsRotationSystem, ◌≡◌, ◌≢◌, ◌⊎◌, inl, inr, ℕ, zero, suc, ◌+◌, ◌<◌, Bool, true, false, cond, List, [], ◌∷◌, length, get_or, refl, ap, sym, ◌∙◌, subst, arith, set, cases_Bool, cases_eq, cases_lt, both_ways, get_or-set_same, get_or-set_other, length-set, Option, Some, None, is_some, count_below, IsPath, AreJoined}
+use Rattle.tree_cotree.specs.SpanningTrees.{IsStepIn, StepsIn}
 use Rattle.tree_cotree.specs.declared.split.Kind.{Kind}
 use Rattle.tree_cotree.specs.declared.split.Kind.TheVariants.{Tree, Cotree, Left}
-use Rattle.tree_cotree.specs.Searches.{same_kind, has_kind, kept_at, IsFound, IsNamed, LeadsBack, IsOrder, IsSearched, FindsAll}
+use Rattle.tree_cotree.specs.Searches.{same_kind, has_kind, kept_at, IsFound, IsNamed, LeadsBack, IsOrder, IsSearched}
+use Rattle.tree_cotree.specs.Ways.{LeadsUp, IsRooted}
+use Rattle.tree_cotree.specs.Joinings.{HangTogether}
 use Rattle.tree_cotree.specs.Markings.{AreApart, AreMarked, IsMarked}
 use Rattle.tree_cotree.proofs.SetLemmas.{with_one, with_itself, with_other, with_cases, with_keeps, count_with}
 use Rattle.tree_cotree.proofs.ClassLemmas.{count_same}
 use Rattle.tree_cotree.proofs.AfterLemmas.{twin_edge}
 use Rattle.tree_cotree.proofs.GrowthLemmas.{HasNodes}
+use Rattle.tree_cotree.proofs.SearchLemmas.{option_cases, not_both, same_some}
+use Rattle.tree_cotree.proofs.UpwardLemmas.{IsUpward, no_return, joined_by}
 
 pub crossed_from : (maps : Rotations) (node : ℕ → ℕ) (allowed : ℕ → Bool) (bound root : ℕ) (from : List (Option ℕ))
     (s : IsSearched maps node allowed bound root from)
     → (d : ℕ) → d < maps.darts → allowed (maps.edge d) ≡ true → IsFound node s.order (node d) → IsFound node s.order (node (maps.twin d))
 crossed_from maps node allowed bound root from s d l passes found = s.closed found.place found.within d l (sym found.is) passes
 
--- over the vertices, where all edges are allowed
-path_found : (maps : Rotations) (allowed : ℕ → Bool) (bound root : ℕ) (from : List (Option ℕ))
-    (s : IsSearched maps maps.origin allowed bound root from)
-    → ((d : ℕ) → d < maps.darts → allowed (maps.edge d) ≡ true) → (u v : ℕ) (path : List ℕ) → IsPath (IsDartStep maps) u path v
-    → IsFound maps.origin s.order u → IsFound maps.origin s.order v
-path_found maps allowed bound root from s free u v [] p found = subst (IsFound maps.origin s.order) p found
-path_found maps allowed bound root from s free u v (w ∷ path) p found =
+-- along allowed edges all nodes are found that hang together so
+path_found : (maps : Rotations) (node : ℕ → ℕ) (allowed : ℕ → Bool) (bound root : ℕ) (from : List (Option ℕ))
+    (s : IsSearched maps node allowed bound root from)
+    → (u v : ℕ) (path : List ℕ) → IsPath (StepsIn maps node allowed) u path v → IsFound node s.order u → IsFound node s.order v
+path_found maps node allowed bound root from s u v [] p found = subst (IsFound node s.order) p found
+path_found maps node allowed bound root from s u v (w ∷ path) p found =
     let d : ℕ = p.0.0 in
-    let step : IsDartFrom maps u w d = p.0.1 in
-    let next : IsFound maps.origin s.order w =
-    subst (IsFound maps.origin s.order) step.ends
-    (crossed_from maps maps.origin allowed bound root from s d step.within (free d step.within)
-    (subst (IsFound maps.origin s.order) (sym step.starts) found)) in
-    path_found maps allowed bound root from s free w v path p.1 next
+    let step : IsStepIn maps node allowed u w d = p.0.1 in
+    path_found maps node allowed bound root from s w v path p.1
+    (subst (IsFound node s.order) step.ends
+    (crossed_from maps node allowed bound root from s d step.within step.in_set (subst (IsFound node s.order) (sym step.starts) found)))
 
-pub vertices_found : (maps : Rotations) (allowed : ℕ → Bool) (bound start : ℕ) (from : List (Option ℕ)) → IsRotationSystem maps
-    → start < maps.darts
-    → IsSearched maps maps.origin allowed bound (maps.origin start) from → ((d : ℕ) → d < maps.darts → allowed (maps.edge d) ≡ true)
-    → FindsAll maps maps.origin allowed bound (maps.origin start) from
-vertices_found maps allowed bound start from r l s free =
+-- from each node found the darts lead back to the root
+found_to_root : (maps : Rotations) (node : ℕ → ℕ) (allowed : ℕ → Bool) (bound root : ℕ) (order : List ℕ) (from : List (Option ℕ))
+    → IsOrder maps node allowed bound root order from
+    → (fuel j : ℕ) → j < fuel → j < length order → AreJoined (LeadsUp maps node from) (node (get_or order j 0)) root
+found_to_root maps node allowed bound root order from h zero j b l = absurd (omega arith)
+found_to_root maps node allowed bound root order from h (suc fuel) j b l =
+    elim (cases_eq j 0) [
+      | inl first ↦ ([], ap (λ k. node (get_or order k 0)) first ∙ h.first)
+      | inr not_first ↦
+          (let later : 0 < j = omega (arith, not_first) in
+          let d : LeadsBack maps node order j = h.back j later l in
+          let rest : AreJoined (LeadsUp maps node from) (node (get_or order d.place 0)) root =
+          found_to_root maps node allowed bound root order from h fuel d.place (omega (arith, d.before, b)) (omega (arith, d.before, l)) in
+          (node (get_or order d.place 0) ∷ rest.0, ((get_or order j 0, h.named j later l, d.is), rest.1)))
+    ]
+
+-- a search across edges by which all nodes hang together makes a tree over them
+pub search_rooted : (maps : Rotations) (node : ℕ → ℕ) (allowed : ℕ → Bool) (bound start : ℕ) (from : List (Option ℕ))
+    → start < maps.darts → HangTogether maps node allowed → IsSearched maps node allowed bound (node start) from
+    → IsRooted maps node allowed bound (node start) from
+search_rooted maps node allowed bound start from l together s =
+    let h : IsOrder maps node allowed bound (node start) s.order from = s.is_order in
     record {
-      order = s.order;
-      is_order = s.is_order;
-      all = λ d k.
-          let way = r.connected start d l k in
-          path_found maps allowed bound (maps.origin start) from s free (maps.origin start) (maps.origin d) way.0 way.1
-          (record { place = 0; within = s.is_order.some; is = s.is_order.first });
+      long = h.long;
+      at_root = (start, l, refl);
+      none = elim (option_cases (kept_at from (node start))) [
+        | inl none ↦ none
+        | inr some ↦
+            (let name : IsNamed node s.order (node start) some.0 = h.only (node start) some.0 some.1 in
+            absurd (h.fresh 0 name.place name.later name.within (h.first ∙ sym name.of_node ∙ ap node (sym name.is))))
+      ];
+      within = λ v x e. let name : IsNamed node s.order v x = h.only v x e in
+          subst (λ d. d < maps.darts) name.is (h.within name.place name.within);
+      of_node = λ v x e. (h.only v x e).of_node;
+      inside = λ v x e. let name : IsNamed node s.order v x = h.only v x e in
+          ap (λ d. allowed (maps.edge d)) (sym name.is) ∙ h.inside name.place name.later name.within;
+      to_root = λ d k.
+          let way = together start d l k in
+          let found : IsFound node s.order (node d) =
+          path_found maps node allowed bound (node start) from s (node start) (node d) way.0 way.1
+          (record { place = 0; within = h.some; is = h.first }) in
+          subst (λ v. AreJoined (LeadsUp maps node from) v (node start)) found.is
+          (found_to_root maps node allowed bound (node start) s.order from h (suc found.place) found.place (omega arith) found.within);
     }
 
--- the edges of two darts of an order differ
-pub edges_differ : (maps : Rotations) (node : ℕ → ℕ) (allowed : ℕ → Bool) (bound root : ℕ) (order : List ℕ)
-    (from : List (Option ℕ)) (i j : ℕ)
-    → IsRotationSystem maps → IsOrder maps node allowed bound root order from → 0 < i → i < j → j < length order
-    → maps.edge (get_or order i 0) ≢ maps.edge (get_or order j 0)
-edges_differ maps node allowed bound root order from i j r h later less l same =
-    elim ((r.edges (get_or order i 0) (get_or order j 0) (h.within i (omega arith)) (h.within j l)).0 same) [
-      | inl is ↦ h.fresh i j less l (ap node (sym is))
-      | inr twin ↦
-          (let b : LeadsBack maps node order i = h.back i later (omega arith) in
-          h.fresh b.place j (omega (arith, b.before, less)) l (sym b.is ∙ ap node (sym twin)))
-    ]
-
--- the dart that is kept for a node, by its place in the order
-pub kept_differ : (maps : Rotations) (node : ℕ → ℕ) (allowed : ℕ → Bool) (bound root : ℕ) (order : List ℕ)
-    (from : List (Option ℕ)) (v w x y : ℕ)
-    → IsRotationSystem maps → IsOrder maps node allowed bound root order from → kept_at from v ≡ Some x → kept_at from w ≡ Some y
-    → v ≢ w → maps.edge x ≢ maps.edge y
-kept_differ maps node allowed bound root order from v w x y r h a b ne same =
-    let p : IsNamed node order v x = h.only v x a in
-    let q : IsNamed node order w y = h.only w y b in
-    let places : p.place ≢ q.place = λ e. ne (sym p.of_node ∙ ap node (sym p.is ∙ ap (λ k. get_or order k 0) e ∙ q.is) ∙ q.of_node) in
-    elim (cases_lt p.place q.place) [
-      | inl less ↦ edges_differ maps node allowed bound root order from p.place q.place r h p.later less q.within
-          (ap maps.edge p.is ∙ same ∙ ap maps.edge (sym q.is))
-      | inr more ↦ edges_differ maps node allowed bound root order from q.place p.place r h q.later (omega arith) p.within
-          (ap maps.edge q.is ∙ sym same ∙ ap maps.edge (sym p.is))
-    ]
+-- one step at most leads up from a node, and none from the root
+pub upward : (maps : Rotations) (node : ℕ → ℕ) (allowed : ℕ → Bool) (bound root : ℕ) (from : List (Option ℕ))
+    → IsRooted maps node allowed bound root from → IsUpward (LeadsUp maps node from) root
+upward maps node allowed bound root from h = record {
+  one = λ u v w p q. sym p.2 ∙ ap (λ d. node (maps.twin d)) (same_some (kept_at from u) p.0 q.0 p.1 q.1) ∙ q.2;
+  top = λ v p. not_both (kept_at from root) p.0 p.1 h.none;
+}
 
 -- the nodes for which a dart is kept are all but the root
 pub kept_nodes : (maps : Rotations) (node : ℕ → ℕ) (allowed : ℕ → Bool) (bound root edges : ℕ) (is_node : ℕ → Bool)
     (from : List (Option ℕ))
-    → HasNodes maps node is_node bound edges → (f : FindsAll maps node allowed bound root from) → (v : ℕ) → v < bound
+    → HasNodes maps node is_node bound edges → (f : IsRooted maps node allowed bound root from) → (v : ℕ) → v < bound
     → is_node v ≡ with_one (λ w. is_some (kept_at from w)) root v
 kept_nodes maps node allowed bound root edges is_node from n f v l =
     elim (cases_Bool (is_node v)) [
@@ -90,124 +101,68 @@ kept_nodes maps node allowed bound root edges is_node from n f v l =
     kept : ℕ → Bool
     kept w = is_some (kept_at from w)
 
+    from_path : (path : List ℕ) → IsPath (LeadsUp maps node from) v path root → with_one kept root v ≡ true
+    from_path [] p = subst (λ w. with_one kept root w ≡ true) (sym p) (with_itself kept root)
+    from_path (w ∷ path) p = with_keeps kept root v (ap is_some p.0.1)
+
     here : (d : ℕ) × (d < maps.darts) × (node d ≡ v) → with_one kept root v ≡ true
     here d =
-        let found : IsFound node f.order (node d.0) = f.all d.0 d.1 in
-        elim (cases_eq found.place 0) [
-          | inl first ↦
-              (let at_root : v ≡ root = sym d.2 ∙ sym found.is ∙ ap (λ k. node (get_or f.order k 0)) first ∙ f.is_order.first in
-              subst (λ w. with_one kept root w ≡ true) (sym at_root) (with_itself kept root))
-          | inr later ↦
-              (let name : kept_at from v ≡ Some (get_or f.order found.place 0) =
-              ap (kept_at from) (sym d.2 ∙ sym found.is) ∙ f.is_order.named found.place (omega (arith, later)) found.within in
-              with_keeps kept root v (ap is_some name))
-        ]
+        let way : AreJoined (LeadsUp maps node from) v root =
+        subst (λ w. AreJoined (LeadsUp maps node from) w root) d.2 (f.to_root d.0 d.1) in
+        from_path way.0 way.1
 
     some_of : (o : Option ℕ) → is_some o ≡ true → (x : ℕ) × (o ≡ Some x)
     some_of None e = cc
     some_of (Some x) e = (x, refl)
 
     named : (v ≡ root) ⊎ (kept v ≡ true) → is_node v ≡ true
-    named (inl at_root) =
-        subst (λ w. is_node w ≡ true) (f.is_order.first ∙ sym at_root)
-        (n.is_of_dart (get_or f.order 0 0) (f.is_order.within 0 f.is_order.some))
+    named (inl at_root) = subst (λ w. is_node w ≡ true) (f.at_root.2 ∙ sym at_root) (n.is_of_dart f.at_root.0 f.at_root.1)
     named (inr is_kept) =
         let x = some_of (kept_at from v) is_kept in
-        let name : IsNamed node f.order v x.0 = f.is_order.only v x.0 x.1 in
-        subst (λ w. is_node w ≡ true) name.of_node (n.is_of_dart x.0
-        (subst (λ d. d < maps.darts) name.is (f.is_order.within name.place name.within)))
-
-pub root_not_kept : (maps : Rotations) (node : ℕ → ℕ) (allowed : ℕ → Bool) (bound root : ℕ) (order : List ℕ)
-    (from : List (Option ℕ)) (x : ℕ)
-    → IsOrder maps node allowed bound root order from → kept_at from root ≡ Some x → ⊥
-root_not_kept maps node allowed bound root order from x h e =
-    let name : IsNamed node order root x = h.only root x e in
-    h.fresh 0 name.place name.later name.within (h.first ∙ sym name.of_node ∙ ap node (sym name.is))
-
--- from each node found the darts lead back to the root, if each kept dart gives a step
-pub to_root : (step : ℕ → ℕ → Type 0) (maps : Rotations) (node : ℕ → ℕ) (allowed : ℕ → Bool) (bound root : ℕ) (order : List ℕ)
-    (from : List (Option ℕ))
-    → IsOrder maps node allowed bound root order from
-    → ((v x : ℕ) → kept_at from v ≡ Some x → step v (node (maps.twin x)))
-    → (fuel j : ℕ) → j < fuel → j < length order → AreJoined step (node (get_or order j 0)) root
-to_root step maps node allowed bound root order from h steps zero j b l = absurd (omega arith)
-to_root step maps node allowed bound root order from h steps (suc fuel) j b l =
-    elim (cases_eq j 0) [
-      | inl first ↦ ([], ap (λ k. node (get_or order k 0)) first ∙ h.first)
-      | inr not_first ↦
-          (let later : 0 < j = omega (arith, not_first) in
-          let d : LeadsBack maps node order j = h.back j later l in
-          let rest : AreJoined step (node (get_or order d.place 0)) root =
-          to_root step maps node allowed bound root order from h steps fuel d.place (omega (arith, d.before, b))
-          (omega (arith, d.before, l)) in (
-            node (get_or order d.place 0) ∷ rest.0,
-            (subst (step (node (get_or order j 0))) d.is (steps (node (get_or order j 0)) (get_or order j 0) (h.named j later l)), rest.1),
-          ))
-    ]
-
-pub all_to_root : (step : ℕ → ℕ → Type 0) (maps : Rotations) (node : ℕ → ℕ) (allowed : ℕ → Bool) (bound root : ℕ)
-    (from : List (Option ℕ))
-    → (f : FindsAll maps node allowed bound root from) → ((v x : ℕ) → kept_at from v ≡ Some x → step v (node (maps.twin x)))
-    → (d : ℕ) → d < maps.darts → AreJoined step (node d) root
-all_to_root step maps node allowed bound root from f steps d l =
-    let found : IsFound node f.order (node d) = f.all d l in
-    subst (λ v. AreJoined step v root) found.is
-    (to_root step maps node allowed bound root f.order from f.is_order steps (suc found.place) found.place (omega arith) found.within)
-
--- and from the root they lead to each node, if each kept dart gives a step the other way
-from_root : (step : ℕ → ℕ → Type 0) (maps : Rotations) (node : ℕ → ℕ) (allowed : ℕ → Bool) (bound root : ℕ) (order : List ℕ)
-    (from : List (Option ℕ))
-    → IsOrder maps node allowed bound root order from
-    → ((v x : ℕ) → kept_at from v ≡ Some x → step (node (maps.twin x)) v)
-    → (fuel j : ℕ) → j < fuel → j < length order → AreJoined step root (node (get_or order j 0))
-from_root step maps node allowed bound root order from h steps zero j b l = absurd (omega arith)
-from_root step maps node allowed bound root order from h steps (suc fuel) j b l =
-    elim (cases_eq j 0) [
-      | inl first ↦ ([], sym (ap (λ k. node (get_or order k 0)) first ∙ h.first))
-      | inr not_first ↦
-          (let later : 0 < j = omega (arith, not_first) in
-          let v : ℕ = node (get_or order j 0) in
-          let d : LeadsBack maps node order j = h.back j later l in
-          let rest : AreJoined step root (node (get_or order d.place 0)) =
-          from_root step maps node allowed bound root order from h steps fuel d.place (omega (arith, d.before, b))
-          (omega (arith, d.before, l)) in
-          let last : step (node (get_or order d.place 0)) v = subst (λ u. step u v) d.is (steps v (get_or order j 0) (h.named j later l)) in
-          joined_trans step root (node (get_or order d.place 0)) v rest (v ∷ [], (last, refl)))
-    ]
+        subst (λ w. is_node w ≡ true) (f.of_node v x.0 x.1) (n.is_of_dart x.0 (f.within v x.0 x.1))
 
 -- the kept darts and the set of their edges join any two nodes
 pub kept_join : (maps : Rotations) (node : ℕ → ℕ) (allowed inside : ℕ → Bool) (bound root : ℕ) (from : List (Option ℕ))
     → IsRotationSystem maps
-    → (f : FindsAll maps node allowed bound root from) → ((v x : ℕ) → kept_at from v ≡ Some x → inside (maps.edge x) ≡ true)
-    → (d e : ℕ) → d < maps.darts → e < maps.darts → AreJoined (StepsIn maps node inside) (node d) (node e)
+    → (f : IsRooted maps node allowed bound root from) → ((v x : ℕ) → kept_at from v ≡ Some x → inside (maps.edge x) ≡ true)
+    → HangTogether maps node inside
 kept_join maps node allowed inside bound root from r f marked d e l k =
-    joined_trans (StepsIn maps node inside) (node d) root (node e)
-    (all_to_root (StepsIn maps node inside) maps node allowed bound root from f forth d l)
-    (subst (AreJoined (StepsIn maps node inside) root) found.is
-    (from_root (StepsIn maps node inside) maps node allowed bound root f.order from f.is_order back (suc found.place) found.place
-    (omega arith) found.within))
+    joined_trans steps (node d) root (node e) (up d l) (joined_sym steps turned (node e) root (up e k))
   where
-    found : IsFound node f.order (node e)
-    found = f.all e k
+    steps : ℕ → ℕ → Type 0
+    steps = StepsIn maps node inside
 
-    dart_in : (v x : ℕ) → kept_at from v ≡ Some x → x < maps.darts
-    dart_in v x e = let name : IsNamed node f.order v x =
-        f.is_order.only v x e in subst (λ d. d < maps.darts) name.is (f.is_order.within name.place name.within)
+    up : (d : ℕ) → d < maps.darts → AreJoined steps (node d) root
+    up d l = joined_by (LeadsUp maps node from) steps
+        (λ u v p. (p.0, record { within = f.within u p.0 p.1; in_set = marked u p.0 p.1; starts = f.of_node u p.0 p.1; ends = p.2 }))
+        (node d) root (f.to_root d l)
 
-    forth : (v x : ℕ) → kept_at from v ≡ Some x → StepsIn maps node inside v (node (maps.twin x))
-    forth v x e = (x, record { within = dart_in v x e; in_set = marked v x e; starts = (f.is_order.only v x e).of_node; ends = refl })
+    turned : (u v : ℕ) → steps u v → steps v u
+    turned u v p = (
+      maps.twin p.0,
+      record {
+        within = r.twin_within p.0 p.1.within;
+        in_set = ap inside (sym (twin_edge maps r p.0 p.1.within)) ∙ p.1.in_set;
+        starts = p.1.ends;
+        ends = ap node (r.twin_back p.0 p.1.within) ∙ p.1.starts;
+      },
+    )
 
-    back : (v x : ℕ) → kept_at from v ≡ Some x → StepsIn maps node inside (node (maps.twin x)) v
-    back v x e =
-        let l : x < maps.darts = dart_in v x e in (
-          maps.twin x,
-          record {
-            within = r.twin_within x l;
-            in_set = ap inside (sym (twin_edge maps r x l)) ∙ marked v x e;
-            starts = refl;
-            ends = ap node (r.twin_back x l) ∙ (f.is_order.only v x e).of_node;
-          },
-        )
+-- no two kept darts lie on one edge
+pub kept_apart : (maps : Rotations) (node : ℕ → ℕ) (allowed : ℕ → Bool) (bound root : ℕ) (from : List (Option ℕ))
+    → IsRotationSystem maps → IsRooted maps node allowed bound root from → AreApart maps from
+kept_apart maps node allowed bound root from r h =
+    record {
+      within = h.within;
+      apart = λ v w x y a b ne same. elim ((r.edges x y (h.within v x a) (h.within w y b)).0 same) [
+        | inl is ↦ ne (sym (h.of_node v x a) ∙ ap node (sym is) ∙ h.of_node w y b)
+        | inr twin ↦
+            no_return (LeadsUp maps node from) root (upward maps node allowed bound root from h) v w
+            (x, a, ap node (sym twin) ∙ h.of_node w y b)
+            (y, b, ap (λ d. node (maps.twin d)) twin ∙ ap node (r.twin_back x (h.within v x a)) ∙ h.of_node v x a)
+            (subst (λ u. AreJoined (LeadsUp maps node from) u root) (h.of_node v x a) (h.to_root x (h.within v x a)))
+      ];
+    }
 
 pub marked_none : (maps : Rotations) (from : List (Option ℕ)) (edges : ℕ) (old : ℕ → Bool) → AreMarked maps from edges old old 0
 marked_none maps from edges old =
@@ -226,7 +181,7 @@ marked_skip maps from edges n old new h none =
       count = h.count ∙ ap (λ k. count_below old edges + k) (sym no_more);
       marked = λ v x l e. elim (cases_lt v n) [
         | inl less ↦ h.marked v x less e
-        | inr more ↦ (let same : v ≡ n = omega arith in absurd (some_none (kept_at from n) x (ap (kept_at from) (sym same) ∙ e) none))
+        | inr more ↦ (let same : v ≡ n = omega arith in absurd (not_both (kept_at from n) x (ap (kept_at from) (sym same) ∙ e) none))
       ];
       kept = h.kept;
       only = λ e k. elim (h.only e k) [
@@ -234,9 +189,6 @@ marked_skip maps from edges n old new h none =
         | inr node ↦ inr (node.0, node.1, omega (arith, node.2), node.3, node.4)
       ];
     }
-  where
-    some_none : (o : Option ℕ) (x : ℕ) → o ≡ Some x → o ≡ None → ⊥
-    some_none o x e k = cc
 
 -- the edge of the dart that is kept for the next node is put in
 pub marked_more : (maps : Rotations) (from : List (Option ℕ)) (edges n x : ℕ) (old new others : ℕ → Bool)
@@ -277,23 +229,6 @@ marked_more maps from edges n x old new others h some l free apart is =
         ]
       ];
     }
-
-pub kept_apart : (maps : Rotations) (node : ℕ → ℕ) (allowed : ℕ → Bool) (bound root : ℕ) (order : List ℕ)
-    (from : List (Option ℕ)) → IsRotationSystem maps
-    → IsOrder maps node allowed bound root order from → AreApart maps from
-kept_apart maps node allowed bound root order from r h =
-    record {
-      within = λ v x e. let name : IsNamed node order v x =
-          h.only v x e in subst (λ d. d < maps.darts) name.is (h.within name.place name.within);
-      apart = λ v w x y a b ne. kept_differ maps node allowed bound root order from v w x y r h a b ne;
-    }
-
-pub kept_allowed : (maps : Rotations) (node : ℕ → ℕ) (allowed : ℕ → Bool) (bound root : ℕ) (order : List ℕ)
-    (from : List (Option ℕ)) (v x : ℕ)
-    → IsOrder maps node allowed bound root order from → kept_at from v ≡ Some x → allowed (maps.edge x) ≡ true
-kept_allowed maps node allowed bound root order from v x h e =
-    let name : IsNamed node order v x = h.only v x e in
-    ap (λ d. allowed (maps.edge d)) (sym name.is) ∙ h.inside name.place name.later name.within
 
 pub same_itself : (kind : Kind) → same_kind kind kind ≡ true
 same_itself Tree = refl

@@ -68,12 +68,6 @@ pub record IsSearched (maps : Rotations) (node : ℕ → ℕ) (allowed : ℕ →
   pub is_order : IsOrder maps node allowed bound root order from
   pub closed : (j : ℕ) → j < length order → IsCrossed maps node allowed order (node (slice_index order j))
 
--- a search that found the nodes of all darts
-pub record FindsAll (maps : Rotations) (node : ℕ → ℕ) (allowed : ℕ → Bool) (bound root : ℕ) (from : List (Option ℕ)) : Type 0 where
-  pub order : List ℕ
-  pub is_order : IsOrder maps node allowed bound root order from
-  pub all : (d : ℕ) → d < maps.darts → IsFound node order (node d)
-
 -- the darts of the nodes found since are put last, both to the order and to those that wait
 pub record AreAdded (old waited new waiting : List ℕ) : Type 0 where
   pub added : List ℕ

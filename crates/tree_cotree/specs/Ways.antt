@@ -1,27 +1,28 @@
--- Ways up a tree over the faces, in which a dart is kept for each face but the root that leads on towards it.
-use Rattle.std.specs.Prelude.{◌≡◌, ◌≢◌, ℕ, ◌+◌, ◌<◌, true, List, length, slice_index, Option, Some, None}
+-- Trees over the nodes that darts belong to, in which a dart is kept for each node but the root, and ways up them.
+use Rattle.std.specs.Prelude.{◌≡◌, ℕ, ◌<◌, Bool, true, List, [], ◌∷◌, length, Option, Some, None}
+use Rattle.surf_model.specs.Surfaces.{AreJoined}
 use Rattle.halfedge_map.specs.RotationSystems.{Rotations}
-use Rattle.tree_cotree.specs.Searches.{FindsAll, kept_at}
+use Rattle.tree_cotree.specs.Searches.{kept_at}
+
+-- the dart that is kept for the node u leads to the node v
+abbrev pub LeadsUp : Rotations → (ℕ → ℕ) → List (Option ℕ) → ℕ → ℕ → Type 0
+LeadsUp maps node from u v = (dart : ℕ) × (kept_at from u ≡ Some dart) × (node (maps.twin dart) ≡ v)
+
+-- A tree: none is kept for the root, for other nodes a dart of theirs on an allowed edge, and these lead from any node to the root.
+pub record IsRooted (maps : Rotations) (node : ℕ → ℕ) (allowed : ℕ → Bool) (bound root : ℕ) (from : List (Option ℕ)) : Type 0 where
+  pub long : length from ≡ bound
+  pub at_root : (d : ℕ) × (d < maps.darts) × (node d ≡ root)
+  pub none : kept_at from root ≡ None
+  pub within : (v x : ℕ) → kept_at from v ≡ Some x → x < maps.darts
+  pub of_node : (v x : ℕ) → kept_at from v ≡ Some x → node x ≡ v
+  pub inside : (v x : ℕ) → kept_at from v ≡ Some x → allowed (maps.edge x) ≡ true
+  pub to_root : (d : ℕ) → d < maps.darts → AreJoined (LeadsUp maps node from) (node d) root
 
 -- the kept darts make a tree over all faces
-pub record HasRoot (maps : Rotations) (from : List (Option ℕ)) : Type 0 where
-  pub root : ℕ
-  pub finds : FindsAll maps maps.face (λ e. true) (length from) root from
+abbrev pub HasRoot : Rotations → List (Option ℕ) → Type 0
+HasRoot maps from = (root : ℕ) × IsRooted maps maps.face (λ e. true) (length from) root from
 
--- kept darts that lead from the face `start` to the face `top`, through no face twice
-pub record IsWay (maps : Rotations) (from : List (Option ℕ)) (start top : ℕ) (way : List ℕ) : Type 0 where
-  pub within : (k : ℕ) → k < length way → slice_index way k < maps.darts
-  pub kept : (k : ℕ) → k < length way → kept_at from (maps.face (slice_index way k)) ≡ Some (slice_index way k)
-  pub none : length way ≡ 0 → top ≡ start
-  pub first : 0 < length way → maps.face (slice_index way 0) ≡ start
-  pub linked : (k : ℕ) → k + 1 < length way → maps.face (maps.twin (slice_index way k)) ≡ maps.face (slice_index way (k + 1))
-  pub last : (k : ℕ) → k + 1 ≡ length way → maps.face (maps.twin (slice_index way k)) ≡ top
-  pub apart : (i k : ℕ) → i < k → k < length way → maps.face (slice_index way i) ≢ maps.face (slice_index way k)
-  pub off : (k : ℕ) → k < length way → maps.face (slice_index way k) ≢ top
-
--- such a way to the root
-pub record IsWayUp (maps : Rotations) (from : List (Option ℕ)) (start : ℕ) (way : List ℕ) : Type 0 where
-  pub top : ℕ
-  pub is_root : kept_at from top ≡ None
-  pub within : top < length from
-  pub is_way : IsWay maps from start top way
+-- the kept darts lead from the face f through these to the face g
+abbrev pub IsWay : Rotations → List (Option ℕ) → ℕ → List ℕ → ℕ → Type 0
+IsWay maps from f [] g = f ≡ g
+IsWay maps from f (dart ∷ way) g = (kept_at from f ≡ Some dart) × IsWay maps from (maps.face (maps.twin dart)) way g

@@ -1,11 +1,10 @@
 //! Turning a tree over the faces round, so that another face is its root.
-ghost use Rattle.std.specs.Prelude.{◌≡◌, ℕ, ◌<◌, Bool, length, OnOk, IfOk};
+ghost use Rattle.std.specs.Prelude.{◌≡◌, ℕ, ◌<◌, Bool, true, length, OnOk, IfOk};
 ghost use Rattle.halfedge_map.specs.OrientedMeshes.{IsOrientedSurface};
 ghost use Rattle.halfedge_map.specs.DartMaps.{darts_of};
 ghost use Rattle.halfedge_map.specs.RotationSystems.{rotations_of};
 ghost use Rattle.tree_cotree.specs.RingViews.{dart_numbers};
-ghost use Rattle.tree_cotree.specs.Searches.{FindsAll};
-ghost use Rattle.tree_cotree.specs.Ways.{HasRoot, IsWayUp};
+ghost use Rattle.tree_cotree.specs.Ways.{HasRoot, IsRooted, IsWay};
 
 use crate::maybe_number::MaybeNumber;
 use halfedge_map::Surface;
@@ -25,8 +24,8 @@ pub(crate) fn turn_round(
     requires tree { HasRoot (rotations_of surface.now) from.old }
     requires each_face { length from.old ≡ length surface.now.mesh.faces }
     ensures { OnOk result ((allowed : ℕ → Bool) (root : ℕ)
-        → FindsAll (rotations_of surface.now) (rotations_of surface.now).face allowed (length from.old) root from.old
-        → FindsAll (rotations_of surface.now) (rotations_of surface.now).face allowed (length from.old)
+        → IsRooted (rotations_of surface.now) (rotations_of surface.now).face allowed (length from.old) root from.old
+        → IsRooted (rotations_of surface.now) (rotations_of surface.now).face allowed (length from.old)
         ((rotations_of surface.now).face start.0) from.new) }
 {
     let mut way = way_up(alloc, surface, from, start)?;
@@ -49,8 +48,9 @@ fn way_up(
     requires start { start.0 < darts_of surface.now }
     requires tree { HasRoot (rotations_of surface.now) from.now }
     requires each_face { length from.now ≡ length surface.now.mesh.faces }
-    ensures { IfOk result (λ way. IsWayUp (rotations_of surface.now) from.now ((rotations_of surface.now).face start.0)
-        (dart_numbers way.items)) }
+    ensures { IfOk result (λ way. (root : ℕ)
+        → IsRooted (rotations_of surface.now) (rotations_of surface.now).face (λ e. true) (length from.now) root from.now
+        → IsWay (rotations_of surface.now) from.now ((rotations_of surface.now).face start.0) (dart_numbers way.items) root) }
 {
     let mut way = Vec::new(alloc);
     let mut face = surface.face_of(start);

@@ -1,14 +1,14 @@
-use Rattle.tree_cotree.proofs.Common.{rotation_system, names_all, OrientedMesh, Rotations, rotations_of, NamesAll, ◌≡◌, ◌<◌, ◌/◌, ℕ, true, List, length, sym, ap, ◌∙◌, subst, rules, arith, length-replicate, with_items_is, Option, Some, replicate, FaceList, count_below}
+use Rattle.tree_cotree.proofs.Common.{rotation_system, names_all, OrientedMesh, Rotations, rotations_of, NamesAll, ◌≡◌, ◌<◌, ◌/◌, ℕ, Bool, true, List, length, refl, sym, ap, ◌∙◌, subst, rules, arith, length-replicate, with_items_is, Option, replicate, FaceList, count_below}
 use Rattle.tree_cotree.specs.declared.split.Kind.{Kind}
-use Rattle.tree_cotree.specs.declared.split.Kind.TheVariants.{Tree, Cotree, Left}
-use Rattle.tree_cotree.specs.Searches.{same_kind, has_kind, kept_at, IsSearched, FindsAll}
-use Rattle.tree_cotree.specs.Markings.{AreApart, IsMarked}
+use Rattle.tree_cotree.specs.declared.split.Kind.TheVariants.{Tree, Left}
+use Rattle.tree_cotree.specs.Searches.{same_kind, has_kind, kept_at, IsSearched}
+use Rattle.tree_cotree.specs.Ways.{HasRoot, IsRooted}
+use Rattle.tree_cotree.specs.Markings.{AreApart}
 use Rattle.tree_cotree.specs.EdgeFaces.{AreBelowEdges}
+use Rattle.tree_cotree.proofs.KindLemmas.{all_left}
 use Rattle.tree_cotree.proofs.TreeLemmas.{kept_apart}
-use Rattle.tree_cotree.proofs.SplittingLemmas.{IsMade, all_left, tree_found, cotree_found, cotree_has_root, kept_below, split_is}
 use Rattle.tree_cotree.proofs.TurningLemmas.{allow}
-use Rattle.tree_cotree.proofs.LawLemmas.{face_nodes}
-use Rattle.tree_cotree.specs.Ways.{HasRoot}
+use Rattle.tree_cotree.proofs.SplittingLemmas.{IsMade, tree_rooted, cotree_rooted, split_is}
 use Rattle.tree_cotree.proofs.split.split_edges.Goals as goal
 
 pub search_over-requires-clause-below : goal.search_over-requires-clause-below
@@ -23,10 +23,11 @@ pub mark-requires-clause-apart : goal.mark-requires-clause-apart
 mark-requires-clause-apart c =
     let s : OrientedMesh = c.args.surface.now in
     let maps : Rotations = rotations_of s in
-    let searched = c.in_ok-parents.ensures in
+    let p : List (Option ℕ) = c.in_ok-parents.parents.items in
     subst (AreApart maps) (sym c.deref-2.ensures.value)
-    (kept_apart maps maps.origin (λ e. true) c.count-vertices.result (maps.origin 0) searched.order c.in_ok-parents.parents.items
-    (rotation_system s c.faces.ensures.valid) searched.is_order)
+    (kept_apart maps maps.origin (λ e. true) s.mesh.count (maps.origin 0) p (rotation_system s c.faces.ensures.valid)
+    (tree_rooted s c.faces.ensures.valid p
+    (rw (c.deref.ensures.value, c.count-vertices.ensures.count, c.faces-2.ensures.mesh) at c.in_ok-parents.ensures)))
 
 pub mark-requires-clause-free : goal.mark-requires-clause-free
 mark-requires-clause-free c =
@@ -49,25 +50,32 @@ pub mark-requires-2-clause-apart : goal.mark-requires-2-clause-apart
 mark-requires-2-clause-apart c =
     let s : OrientedMesh = c.args.surface.now in
     let maps : Rotations = rotations_of s in
-    let searched = c.in_ok-face_parents.ensures in
+    let q : List (Option ℕ) = c.in_ok-face_parents.face_parents.items in
+    let rooted : IsRooted maps maps.face (has_kind c.mark.new.kinds.items Left) (length s.mesh.faces) (maps.face 0) q =
+    cotree_rooted s c.faces.ensures.valid c.in_ok-kinds.kinds.items c.mark.new.kinds.items c.in_ok-parents.parents.items q (search rules)
+    (rw (c.deref.ensures.value, c.count-vertices.ensures.count, c.faces-2.ensures.mesh) at c.in_ok-parents.ensures)
+    (rw c.deref-2.ensures.value at c.mark.ensures)
+    (rw (c.deref-3.ensures.value, c.len-faces.ensures.count, c.faces.ensures.mesh) at c.in_ok-face_parents.ensures) in
     subst (AreApart maps) (sym c.deref-4.ensures.value)
-    (kept_apart maps maps.face (has_kind c.deref-3.result.now Left) c.len-faces.result (maps.face 0) searched.order
-    c.in_ok-face_parents.face_parents.items
-    (rotation_system s c.faces.ensures.valid) searched.is_order)
+    (kept_apart maps maps.face (has_kind c.mark.new.kinds.items Left) (length s.mesh.faces) (maps.face 0) q
+    (rotation_system s c.faces.ensures.valid) rooted)
 
 pub turn_round-requires-clause-tree : goal.turn_round-requires-clause-tree
 turn_round-requires-clause-tree c =
     let s : OrientedMesh = c.args.surface.now in
     let maps : Rotations = rotations_of s in
-    let k0 : List Kind = c.in_ok-kinds.kinds.items in
-    let k1 : List Kind = c.mark.new.kinds.items in
-    let p : List (Option ℕ) = c.in_ok-parents.parents.items in
     let q : List (Option ℕ) = c.in_ok-face_parents.face_parents.items in
-    subst (HasRoot maps) (sym c.deref_mut.ensures.value)
-    (cotree_has_root s c.faces.ensures.valid k0 k1 p q (search rules)
+    let rooted : IsRooted maps maps.face (has_kind c.mark.new.kinds.items Left) (length s.mesh.faces) (maps.face 0) q =
+    cotree_rooted s c.faces.ensures.valid c.in_ok-kinds.kinds.items c.mark.new.kinds.items c.in_ok-parents.parents.items q (search rules)
     (rw (c.deref.ensures.value, c.count-vertices.ensures.count, c.faces-2.ensures.mesh) at c.in_ok-parents.ensures)
     (rw c.deref-2.ensures.value at c.mark.ensures)
-    (rw (c.deref-3.ensures.value, c.len-faces.ensures.count, c.faces.ensures.mesh) at c.in_ok-face_parents.ensures))
+    (rw (c.deref-3.ensures.value, c.len-faces.ensures.count, c.faces.ensures.mesh) at c.in_ok-face_parents.ensures) in
+    subst (HasRoot maps) (sym c.deref_mut.ensures.value) (
+      maps.face 0,
+      subst (λ n. IsRooted maps maps.face (λ e. true) n (maps.face 0) q) (sym rooted.long)
+          (allow maps maps.face (has_kind c.mark.new.kinds.items Left) (λ e. true) (length s.mesh.faces) (maps.face 0) q rooted
+          (λ v x e. refl)),
+    )
 
 pub turn_round-requires-clause-each_face : goal.turn_round-requires-clause-each_face
 turn_round-requires-clause-each_face c =
@@ -79,28 +87,27 @@ pub faces_below-requires-clause-apart : goal.faces_below-requires-clause-apart
 faces_below-requires-clause-apart c =
     let s : OrientedMesh = c.args.surface.now in
     let maps : Rotations = rotations_of s in
-    let k0 : List Kind = c.in_ok-kinds.kinds.items in
-    let k1 : List Kind = c.mark.new.kinds.items in
-    let p : List (Option ℕ) = c.in_ok-parents.parents.items in
-    let q : List (Option ℕ) = c.in_ok-face_parents.face_parents.items in
     let t : List (Option ℕ) = c.turn_round.new.from in
-    let rooted : HasRoot maps c.deref_mut.result.now =
-    subst (HasRoot maps) (sym c.deref_mut.ensures.value)
-    (cotree_has_root s c.faces.ensures.valid k0 k1 p q (search rules)
+    let q : List (Option ℕ) = c.in_ok-face_parents.face_parents.items in
+    let rooted : IsRooted maps maps.face (has_kind c.mark.new.kinds.items Left) (length s.mesh.faces) (maps.face 0) q =
+    cotree_rooted s c.faces.ensures.valid c.in_ok-kinds.kinds.items c.mark.new.kinds.items c.in_ok-parents.parents.items q (search rules)
     (rw (c.deref.ensures.value, c.count-vertices.ensures.count, c.faces-2.ensures.mesh) at c.in_ok-parents.ensures)
     (rw c.deref-2.ensures.value at c.mark.ensures)
-    (rw (c.deref-3.ensures.value, c.len-faces.ensures.count, c.faces.ensures.mesh) at c.in_ok-face_parents.ensures)) in
-    let turned = c.in_ok-turn_round.ensures (λ e. true) rooted.root rooted.finds in
+    (rw (c.deref-3.ensures.value, c.len-faces.ensures.count, c.faces.ensures.mesh) at c.in_ok-face_parents.ensures) in
+    let left : ℕ → Bool = has_kind c.mark.new.kinds.items Left in
+    let turned = c.in_ok-turn_round.ensures left (maps.face 0)
+    (subst (λ ds. IsRooted maps maps.face left (length ds) (maps.face 0) ds) (sym c.deref_mut.ensures.value)
+    (subst (λ n. IsRooted maps maps.face left n (maps.face 0) q) (sym rooted.long) rooted)) in
     let size : length t ≡ c.in_ok-face_parents.face_parents.len =
     omega (
       arith,
-      turned.is_order.long,
+      turned.long,
       ap (λ (ds : List (Option ℕ)). length ds) c.deref_mut.ensures.value,
       c.in_ok-face_parents.face_parents.ok.0,
     ) in
     subst (AreApart maps) (sym (c.deref-6.ensures.value ∙ with_items_is c.in_ok-face_parents.face_parents t size))
-    (kept_apart maps maps.face (λ e. true) (length c.deref_mut.result.now) (maps.face c.leftover_dart-start.result.0) turned.order
-    t (rotation_system s c.faces.ensures.valid) turned.is_order)
+    (kept_apart maps maps.face left (length c.deref_mut.result.now) (maps.face c.leftover_dart-start.result.0) t
+    (rotation_system s c.faces.ensures.valid) turned)
 
 pub returns : goal.returns
 returns c =
@@ -111,44 +118,38 @@ returns c =
     let k2 : List Kind = c.mark-2.new.kinds.items in
     let p : List (Option ℕ) = c.in_ok-parents.parents.items in
     let q : List (Option ℕ) = c.in_ok-face_parents.face_parents.items in
+    let t : List (Option ℕ) = c.turn_round.new.from in
+    let start : ℕ = c.leftover_dart-start.result.0 in
     let first : k0 ≡ replicate (length s.table) Left = search rules in
-    let tree : IsSearched maps maps.origin (λ e. true) s.mesh.count (maps.origin 0) p =
-    rw (c.deref.ensures.value, c.count-vertices.ensures.count, c.faces-2.ensures.mesh) at c.in_ok-parents.ensures in
-    let marked : IsMarked maps p Tree k0 k1 (length p) = rw c.deref-2.ensures.value at c.mark.ensures in
     let cotree : IsSearched maps maps.face (has_kind k1 Left) (length s.mesh.faces) (maps.face 0) q =
     rw (c.deref-3.ensures.value, c.len-faces.ensures.count, c.faces.ensures.mesh) at c.in_ok-face_parents.ensures in
-    let found : FindsAll maps maps.face (has_kind k1 Left) (length s.mesh.faces) (maps.face 0) q =
-    cotree_found s c.faces.ensures.valid k0 k1 p q first (tree_found s c.faces.ensures.valid k0 p first tree) marked cotree in
-    let t : List (Option ℕ) = c.turn_round.new.from in
-    let crossed : IsMarked maps q Cotree k1 k2 (length q) = rw c.deref-4.ensures.value at c.mark-2.ensures in
-    let kept_in : (v x : ℕ) → kept_at q v ≡ Some x → v < length q =
-    λ v x e. kept_below maps maps.face (has_kind k1 Left) (length s.mesh.faces) (maps.face 0) (length s.table) (λ f. true) q v x
-    (face_nodes s (names_all s c.faces.ensures.valid)) found e in
-    let on_cotree : FindsAll maps maps.face (has_kind k2 Cotree) (length s.mesh.faces) (maps.face 0) q =
-    allow maps maps.face (has_kind k1 Left) (has_kind k2 Cotree) (length s.mesh.faces) (maps.face 0) q found
-    (λ v x e. crossed.sets.marked v x (kept_in v x e) e) in
     let is_q : c.deref_mut.result.now ≡ q = c.deref_mut.ensures.value in
     let long : length c.deref_mut.result.now ≡ length s.mesh.faces =
-    ap (λ (ds : List (Option ℕ)). length ds) is_q ∙ found.is_order.long in
-    let turned : FindsAll maps maps.face (has_kind k2 Cotree) (length s.mesh.faces) (maps.face c.leftover_dart-start.result.0) t =
-    subst (λ n. FindsAll maps maps.face (has_kind k2 Cotree) n (maps.face c.leftover_dart-start.result.0) t) long
-    (c.in_ok-turn_round.ensures (has_kind k2 Cotree) (maps.face 0)
-    (subst (λ n. FindsAll maps maps.face (has_kind k2 Cotree) n (maps.face 0) c.deref_mut.result.now) (sym long)
-    (subst (FindsAll maps maps.face (has_kind k2 Cotree) (length s.mesh.faces) (maps.face 0)) (sym is_q) on_cotree))) in
-    let start : ℕ = c.leftover_dart-start.result.0 in
+    ap (λ (ds : List (Option ℕ)). length ds) is_q ∙ cotree.is_order.long in
+    let turned : (allowed : ℕ → Bool) (root : ℕ) → IsRooted maps maps.face allowed (length s.mesh.faces) root q
+    → IsRooted maps maps.face allowed (length s.mesh.faces) (maps.face start) t =
+    λ allowed root f.
+    subst (λ n. IsRooted maps maps.face allowed n (maps.face start) t) long
+    (c.in_ok-turn_round.ensures allowed root
+    (subst (λ n. IsRooted maps maps.face allowed n root c.deref_mut.result.now) (sym long)
+    (subst (IsRooted maps maps.face allowed (length s.mesh.faces) root) (sym is_q) f))) in
+    let rooted : IsRooted maps maps.face (has_kind k1 Left) (length s.mesh.faces) (maps.face 0) q =
+    cotree_rooted s c.faces.ensures.valid k0 k1 p q first
+    (rw (c.deref.ensures.value, c.count-vertices.ensures.count, c.faces-2.ensures.mesh) at c.in_ok-parents.ensures)
+    (rw c.deref-2.ensures.value at c.mark.ensures) cotree in
     let size : length t ≡ c.in_ok-face_parents.face_parents.len =
-    omega (arith, turned.is_order.long, found.is_order.long, c.in_ok-face_parents.face_parents.ok.0) in
+    omega (arith, (turned (has_kind k1 Left) (maps.face 0) rooted).long, cotree.is_order.long, c.in_ok-face_parents.face_parents.ok.0) in
     let is_t : c.deref-6.result.now ≡ t =
     c.deref-6.ensures.value ∙ with_items_is c.in_ok-face_parents.face_parents t size in
     let made : IsMade s k0 k1 k2 p q t c.in_ok-children.children.items start = record {
       first = first;
-      tree = tree;
-      marked = marked;
+      tree = rw (c.deref.ensures.value, c.count-vertices.ensures.count, c.faces-2.ensures.mesh) at c.in_ok-parents.ensures;
+      marked = rw c.deref-2.ensures.value at c.mark.ensures;
       cotree = cotree;
-      crossed = crossed;
+      crossed = rw c.deref-4.ensures.value at c.mark-2.ensures;
       start_in = c.leftover_dart-start.ensures.within;
       start_left = rw c.deref-5.ensures.value at c.leftover_dart-start.ensures.left;
-      hanging = turned;
+      turned = turned;
       each_edge = c.in_ok-children.ensures.each_edge;
       below = subst (λ ds. AreBelowEdges maps ds (length s.table) (kept_at c.in_ok-children.children.items) (length ds)) is_t
           c.in_ok-children.ensures.below;

@@ -1,23 +1,20 @@
 use Rattle.tree_cotree.proofs.Common.{rotation_system, names_all, OrientedMesh, Rotations, rotations_of, ◌≡◌, ◌<◌, ℕ, List, [], length, ap, sym, ◌∙◌, subst, arith, rules, set, length-set, Option, Some, None}
 use Rattle.tree_cotree.specs.RingViews.{dart_numbers}
-use Rattle.tree_cotree.specs.Ways.{IsWayUp}
 use Rattle.tree_cotree.proofs.SearchLemmas.{numbers_push}
 use Rattle.tree_cotree.proofs.TurningLemmas.{IsPartlyTurned, turning_start, turning_more, turning_done, last_in}
 use Rattle.tree_cotree.proofs.turning.turn_round.Goals as goal
 
 pub loop-dart-init : goal.loop-dart-init
 loop-dart-init c =
-    let s : OrientedMesh = c.args.surface.now in
-    let maps : Rotations = rotations_of s in
-    let up : IsWayUp maps c.args.from.now (maps.face c.args.start.0) (dart_numbers c.in_ok-way.way.items) = c.in_ok-way.ensures in
-    turning_start maps c.args.from.now (maps.face c.args.start.0) (dart_numbers c.in_ok-way.way.items) up
-    ((names_all s c.requires.valid).each_face up.top (subst (λ n. up.top < n) c.requires.each_face up.within))
+    let tree = c.requires.tree in
+    turning_start (rotations_of c.args.surface.now) c.args.from.now ((rotations_of c.args.surface.now).face c.args.start.0) tree.0
+    (dart_numbers c.in_ok-way.way.items) tree.1 (c.in_ok-way.ensures tree.0 tree.1)
 
 pub twin-back-requires : goal.twin-back-requires
 twin-back-requires c =
     let maps : Rotations = rotations_of c.args.surface.now in
     last_in maps c.args.from.now (maps.face c.args.start.0) c.loop-dart.from (dart_numbers c.loop-dart.way.items)
-    (dart_numbers c.pop.new.self.items) c.in-Some.dart.0 c.loop-dart.invariant
+    (dart_numbers c.pop.new.self.items) c.in-Some.dart.0 c.requires.tree.0 c.requires.tree.1 c.loop-dart.invariant
     (numbers_push c.pop.new.self.items c.loop-dart.way.items c.in-Some.dart c.in-Some.ensures.items)
 
 pub bounds-from-face_of : goal.bounds-from-face_of
@@ -27,7 +24,7 @@ pub face_of-requires-in-Some : goal.face_of-requires-in-Some
 face_of-requires-in-Some c =
     let maps : Rotations = rotations_of c.args.surface.now in
     last_in maps c.args.from.now (maps.face c.args.start.0) c.loop-dart.from (dart_numbers c.loop-dart.way.items)
-    (dart_numbers c.pop.new.self.items) c.in-Some.dart.0 c.loop-dart.invariant
+    (dart_numbers c.pop.new.self.items) c.in-Some.dart.0 c.requires.tree.0 c.requires.tree.1 c.loop-dart.invariant
     (numbers_push c.pop.new.self.items c.loop-dart.way.items c.in-Some.dart c.in-Some.ensures.items)
 
 pub bounds-from-face_of-in-Some : goal.bounds-from-face_of-in-Some
@@ -51,8 +48,8 @@ loop-dart-preserved c =
     let way : List ℕ = dart_numbers c.pop.new.self.items in
     let long : length from ≡ length s.mesh.faces = c.loop-dart.auto.from ∙ c.requires.each_face in
     let turned : IsPartlyTurned maps c.args.from.now start (set (set from (maps.face x) (Some x)) (maps.face d) None) way =
-    turning_more maps c.args.from.now start from way d x (rotation_system s c.requires.valid)
-    (λ e l. subst (λ n. maps.face e < n) (sym long) ((names_all s c.requires.valid).face_below e l))
+    turning_more maps c.args.from.now start from way d x c.requires.tree.0 (rotation_system s c.requires.valid)
+    (λ e l. subst (λ n. maps.face e < n) (sym long) ((names_all s c.requires.valid).face_below e l)) c.requires.tree.1
     (subst (IsPartlyTurned maps c.args.from.now start from)
     (numbers_push c.pop.new.self.items c.loop-dart.way.items c.in-Some.dart c.in-Some.ensures.items)
     c.loop-dart.invariant)

@@ -1,46 +1,46 @@
-use Rattle.tree_cotree.proofs.Common.{names_all, OrientedMesh, Rotations, rotations_of, ◌≡◌, ◌<◌, ℕ, List, length, ap, sym, ◌∙◌, subst, arith, length_push, length-map, Some, None, DartName}
+use Rattle.tree_cotree.proofs.Common.{rotation_system, names_all, OrientedMesh, Rotations, rotations_of, ◌≡◌, ◌<◌, ℕ, true, List, length, ap, sym, ◌∙◌, subst, arith, length_push, length-map, Some, None, DartName}
 use Rattle.tree_cotree.specs.RingViews.{dart_numbers}
+use Rattle.tree_cotree.specs.Searches.{kept_at}
+use Rattle.tree_cotree.specs.Ways.{IsWay}
 use Rattle.tree_cotree.proofs.SearchLemmas.{numbers_push, kept_read}
-use Rattle.tree_cotree.proofs.TurningLemmas.{IsClimb, climb_start, climb_dart, climb_more, climb_few, climb_within, climb_done}
+use Rattle.tree_cotree.proofs.TurningLemmas.{face_within, way_more, few_darts, ends_at_root}
 use Rattle.tree_cotree.proofs.turning.way_up.Goals as goal
 
 pub loop-dart-init : goal.loop-dart-init
 loop-dart-init c =
     let maps : Rotations = rotations_of c.args.surface.now in
     let start : ℕ = maps.face c.args.start.0 in
-    subst (λ f. IsClimb maps c.args.from.now start f (dart_numbers c.new-way.result.items)) (sym c.face_of-face.ensures.face)
-    (subst (λ ds. IsClimb maps c.args.from.now start start (dart_numbers ds)) (sym c.new-way.ensures.items)
-    (climb_start maps c.args.from.now c.args.start.0 c.requires.tree c.requires.start))
+    record {
+      dart = (c.args.start.0, c.requires.start, sym c.face_of-face.ensures.face);
+      way = subst (λ ds. IsWay maps c.args.from.now start (dart_numbers ds) c.face_of-face.result.0) (sym c.new-way.ensures.items)
+          (sym c.face_of-face.ensures.face);
+    }
 
 pub bounds-from-face : goal.bounds-from-face
 bounds-from-face c =
-    let s : OrientedMesh = c.args.surface.now in
-    let maps : Rotations = rotations_of s in
-    climb_within maps c.args.from.now (maps.face c.args.start.0) c.loop-dart.face.0 (dart_numbers c.loop-dart.way.items)
-    c.loop-dart.invariant
-    (λ e l. subst (λ n. maps.face e < n) (sym c.requires.each_face) ((names_all s c.requires.valid).face_below e l))
+    face_within c.args.surface.now c.requires.valid (length c.args.from.now) c.loop-dart.face.0 c.requires.each_face
+    c.loop-dart.invariant.dart
 
 pub twin-requires : goal.twin-requires
 twin-requires c =
-    let s : OrientedMesh = c.args.surface.now in
-    let maps : Rotations = rotations_of s in
     let within : c.loop-dart.face.0 < length c.args.from.now =
-    climb_within maps c.args.from.now (maps.face c.args.start.0) c.loop-dart.face.0 (dart_numbers c.loop-dart.way.items)
-    c.loop-dart.invariant
-    (λ e l. subst (λ n. maps.face e < n) (sym c.requires.each_face) ((names_all s c.requires.valid).face_below e l)) in
-    (climb_dart maps c.args.from.now (maps.face c.args.start.0) c.loop-dart.face.0 (dart_numbers c.loop-dart.way.items) c.in-Some.dart.0
-    c.loop-dart.invariant
+    face_within c.args.surface.now c.requires.valid (length c.args.from.now) c.loop-dart.face.0 c.requires.each_face
+    c.loop-dart.invariant.dart in
+    c.requires.tree.1.within c.loop-dart.face.0 c.in-Some.dart.0
     (kept_read c.args.from.now c.loop-dart.face.0 c.index-from-face.result c.dart.result (Some c.in-Some.dart) within
-    c.index-from-face.is c.dart.ensures c.in-Some.is)).0
+    c.index-from-face.is c.dart.ensures c.in-Some.is)
 
 pub loop-dart-smaller : goal.loop-dart-smaller
 loop-dart-smaller c =
     let s : OrientedMesh = c.args.surface.now in
     let maps : Rotations = rotations_of s in
     let xs : List DartName = c.loop-dart.way.items in
+    let at = c.loop-dart.invariant.dart in
     let few : length (dart_numbers xs) < length c.args.from.now =
-    climb_few maps c.args.from.now (maps.face c.args.start.0) c.loop-dart.face.0 (dart_numbers xs) c.loop-dart.invariant
-    (λ e l. subst (λ n. maps.face e < n) (sym c.requires.each_face) ((names_all s c.requires.valid).face_below e l)) in
+    few_darts maps (λ e. true) (length c.args.from.now) c.requires.tree.0 c.args.from.now c.requires.tree.1
+    (λ e l. subst (λ n. maps.face e < n) (sym c.requires.each_face) ((names_all s c.requires.valid).face_below e l))
+    (maps.face c.args.start.0) (dart_numbers xs) at.0 at.1
+    (subst (IsWay maps c.args.from.now (maps.face c.args.start.0) (dart_numbers xs)) (sym at.2) c.loop-dart.invariant.way) in
     omega (
       arith,
       few,
@@ -54,30 +54,40 @@ loop-dart-preserved c =
     let s : OrientedMesh = c.args.surface.now in
     let maps : Rotations = rotations_of s in
     let within : c.loop-dart.face.0 < length c.args.from.now =
-    climb_within maps c.args.from.now (maps.face c.args.start.0) c.loop-dart.face.0 (dart_numbers c.loop-dart.way.items)
-    c.loop-dart.invariant
-    (λ e l. subst (λ n. maps.face e < n) (sym c.requires.each_face) ((names_all s c.requires.valid).face_below e l)) in
+    face_within c.args.surface.now c.requires.valid (length c.args.from.now) c.loop-dart.face.0 c.requires.each_face
+    c.loop-dart.invariant.dart in
     let start : ℕ = maps.face c.args.start.0 in
     let d : ℕ = c.in-Some.dart.0 in
     let xs : List DartName = c.loop-dart.way.items in
+    let keeps : kept_at c.args.from.now c.loop-dart.face.0 ≡ Some d =
+    kept_read c.args.from.now c.loop-dart.face.0 c.index-from-face.result c.dart.result (Some c.in-Some.dart) within
+    c.index-from-face.is c.dart.ensures c.in-Some.is in
     let face : c.face_of-face-in-Some.result.0 ≡ maps.face (maps.twin d) =
     c.face_of-face-in-Some.ensures.face ∙ ap maps.face c.twin.ensures.twin in
-    subst (λ f. IsClimb maps c.args.from.now start f (dart_numbers c.push.new.self.items)) (sym face)
-    (subst (IsClimb maps c.args.from.now start (maps.face (maps.twin d)))
-    (sym (numbers_push xs c.push.new.self.items c.in-Some.dart c.in_ok-push.ensures.items))
-    (climb_more maps c.args.from.now start c.loop-dart.face.0 (dart_numbers xs) d c.loop-dart.invariant
-    (kept_read c.args.from.now c.loop-dart.face.0 c.index-from-face.result c.dart.result (Some c.in-Some.dart) within
-    c.index-from-face.is c.dart.ensures c.in-Some.is)))
+    record {
+      dart = (
+        maps.twin d,
+        (rotation_system s c.requires.valid).twin_within d (c.requires.tree.1.within c.loop-dart.face.0 d keeps),
+        sym face,
+      );
+      way = subst (IsWay maps c.args.from.now start (dart_numbers c.push.new.self.items)) (sym face)
+          (subst (λ ds. IsWay maps c.args.from.now start ds (maps.face (maps.twin d)))
+          (sym (numbers_push xs c.push.new.self.items c.in-Some.dart c.in_ok-push.ensures.items))
+          (way_more maps c.args.from.now start (dart_numbers xs) c.loop-dart.face.0 d c.loop-dart.invariant.way keeps));
+    }
 
 pub returns : goal.returns
 returns c =
-    let s : OrientedMesh = c.args.surface.now in
-    let maps : Rotations = rotations_of s in
+    let maps : Rotations = rotations_of c.args.surface.now in
     let within : c.loop-dart.face.0 < length c.args.from.now =
-    climb_within maps c.args.from.now (maps.face c.args.start.0) c.loop-dart.face.0 (dart_numbers c.loop-dart.way.items)
-    c.loop-dart.invariant
-    (λ e l. subst (λ n. maps.face e < n) (sym c.requires.each_face) ((names_all s c.requires.valid).face_below e l)) in
-    climb_done maps c.args.from.now (maps.face c.args.start.0) c.loop-dart.face.0 (dart_numbers c.loop-dart.way.items) c.loop-dart.invariant
-    (λ e l. subst (λ n. maps.face e < n) (sym c.requires.each_face) ((names_all s c.requires.valid).face_below e l))
-    (kept_read c.args.from.now c.loop-dart.face.0 c.index-from-face.result c.dart.result None within c.index-from-face.is c.dart.ensures
-    c.in_default.is)
+    face_within c.args.surface.now c.requires.valid (length c.args.from.now) c.loop-dart.face.0 c.requires.each_face
+    c.loop-dart.invariant.dart in
+    let at = c.loop-dart.invariant.dart in
+    let none : kept_at c.args.from.now c.loop-dart.face.0 ≡ None =
+    kept_read c.args.from.now c.loop-dart.face.0 c.index-from-face.result c.dart.result None within c.index-from-face.is c.dart.ensures
+    c.in_default.is in
+    λ root h.
+    subst (IsWay maps c.args.from.now (maps.face c.args.start.0) (dart_numbers c.loop-dart.way.items))
+    (sym at.2
+    ∙ ends_at_root maps (λ e. true) (length c.args.from.now) root c.args.from.now h at.0 at.1 (ap (kept_at c.args.from.now) at.2 ∙ none))
+    c.loop-dart.invariant.way

@@ -1,12 +1,14 @@
-use Rattle.tree_cotree.proofs.Common.{rotations_of, ◌-◌, length}
+use Rattle.tree_cotree.proofs.Common.{rotations_of, ◌≡◌, ◌-◌, ◌<◌, ℕ, length}
 use Rattle.tree_cotree.specs.RingViews.{dart_numbers}
-use Rattle.tree_cotree.proofs.TurningLemmas.{IsClimb}
+use Rattle.tree_cotree.specs.Ways.{IsWay}
 use Rattle.tree_cotree.proofs.turning.way_up.Given as goal
 
 abbrev pub invariant-loop-dart : goal.invariant-loop-dart
-invariant-loop-dart l = IsClimb (rotations_of l.surface) l.from ((rotations_of l.surface).face l.fn.start.0) l.face.0
-    (dart_numbers l.way.items)
+invariant-loop-dart l = record {
+  dart : (e : ℕ) × (e < (rotations_of l.surface).darts) × ((rotations_of l.surface).face e ≡ l.face.0);
+  way : IsWay (rotations_of l.surface) l.from ((rotations_of l.surface).face l.fn.start.0) (dart_numbers l.way.items) l.face.0;
+}
 
--- each dart of the way leads to a face that was found earlier
+-- a way that goes on passes no face twice
 abbrev pub decreases-loop-dart : goal.decreases-loop-dart
 decreases-loop-dart l = length l.from - length l.way.items
