@@ -39,6 +39,8 @@ pub use Rattle.tree_cotree.proofs.ExchangeLemmas.{reached_soon}
 pub use Rattle.tree_cotree.proofs.LawLemmas.{count_all, exact, one_of_three, rest_has_ring, tree_has_ring}
 pub use Rattle.tree_cotree.proofs.SetLemmas.{count_with, same_from_count, with_itself, with_one, with_other}
 pub use Rattle.tree_cotree.proofs.SplitLemmas.{OneOfThree, cotree_one, left_one, tree_one}
+pub use Rattle.tree_cotree.proofs.SplitWayLemmas.{faces_upward, few_up, parents_upward, root_below}
+pub use Rattle.tree_cotree.proofs.UpwardLemmas.{no_loop, single_path}
 pub use Rattle.tree_cotree.specs.ColouredTrees.{HasColouredTrees, without_ways}
 pub use Rattle.tree_cotree.specs.Colourings.{ColouringView, IsColouring, colouring_of}
 pub use Rattle.tree_cotree.specs.RingCounts.{any_below}

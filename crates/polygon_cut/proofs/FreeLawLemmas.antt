@@ -1,5 +1,5 @@
 -- The laws on walks and loops as lists, from those on the loops of a split.
-use Rattle.polygon_cut.proofs.Common.{rotation_system, names_all, darts_of, twin_of, origin_of, face_of, start_corner_of, OrientedMesh, IsOrientedSurface, rotations_of, ◌≡◌, inl, inr, ℕ, zero, suc, ◌+◌, ◌-◌, ◌<◌, Bool, true, false, not, List, [], ◌∷◌, ◌++◌, length, drop, refl, ap, sym, ◌∙◌, subst, arith, get_or-eq_default, cases_lt, append-nil, All, slice_index, list_keeps_walk, list_keeps_ends, FaceList, face_at, corners_from, is_used, AreFreelyEqual, Leads, IsPath, is_flipped, IsWalk, Move, SplitView, IsSplit, StepsToParent}
+use Rattle.polygon_cut.proofs.Common.{rotation_system, names_all, darts_of, twin_of, origin_of, face_of, start_corner_of, OrientedMesh, IsOrientedSurface, rotations_of, ◌≡◌, inl, inr, ℕ, zero, suc, ◌+◌, ◌-◌, ◌<◌, Bool, true, false, not, List, [], ◌∷◌, ◌++◌, length, drop, refl, ap, sym, ◌∙◌, subst, arith, get_or-eq_default, cases_lt, append-nil, All, slice_index, list_keeps_walk, list_keeps_ends, FaceList, face_at, corners_from, is_used, AreFreelyEqual, Leads, IsPath, is_flipped, IsWalk, Move, parents_upward, SplitView, IsSplit, StepsToParent}
 use Rattle.polygon_cut.specs.Polygons.{PolygonView, IsCutFrom, side_at, across}
 use Rattle.polygon_cut.specs.SpokeLoops.{AreWaysUp, way_round, way_back_round, backward, dart_loop, spoke_loop, path_loop, by_loop, spokes_along, HaveFreeSpokes, last_side, last_side_loop, across_last, put_behind, comes_back, PutBehind, ArePushedFreely, ArePushedWithLoop, LeavesCotree, IsOffCotree}
 use Rattle.polygon_cut.proofs.RelatorLemmas.{spoke_product, ends_at_vertex, loop_in, free_push}
@@ -15,7 +15,7 @@ use Rattle.polygon_cut.proofs.FreeWayLemmas.{off_cotree, path_along, path_value,
 use Rattle.polygon_cut.proofs.FreeQuadLemmas.{last_loop, free_quads, last_pushes}
 use Rattle.polygon_cut.proofs.FaceRoundLemmas.{corners_read, dir, vertices_on, comes_round}
 use Rattle.polygon_cut.proofs.WalkLemmas.{walk_way, other_way}
-use Rattle.polygon_cut.proofs.TreeWayLemmas.{up, tree_ways, up_path, one_path, no_parent_of_root}
+use Rattle.polygon_cut.proofs.TreeWayLemmas.{up, tree_ways, up_path, one_path}
 use Rattle.polygon_cut.proofs.DartLoopLemmas.{Loops, pick_value, value, spoke, ends_on, one_of}
 
 -- the tree's root, and the ways up to it, are one
@@ -25,7 +25,7 @@ root_is s split o t root ups h = by (ups t.parents.root) (h t.parents.root t.par
   where
     by : (path : List ℕ) → IsPath (StepsToParent (rotations_of s) split) t.parents.root path root → t.parents.root ≡ root
     by [] p = p
-    by (w ∷ path) p = absurd (no_parent_of_root s split o t w p.0)
+    by (w ∷ path) p = absurd ((parents_upward s split o t).top w p.0)
 
 pub up_is : (s : OrientedMesh) (split : SplitView) → IsOrientedSurface s → (t : IsSplit s split) → (ups : ℕ → List ℕ)
     → AreWaysUp s split t.parents.root ups → (v : ℕ) → is_used s.mesh v ≡ true

@@ -1,40 +1,12 @@
 -- The way up the tree from each vertex, and that each tree edge is that of a dart to a parent.
-use Rattle.polygon_cut.proofs.Common.{edge_of_dart, rotation_system, names_all, darts_of, OrientedMesh, IsOrientedSurface, Rotations, rotations_of, IsRotationSystem, ◌≡◌, ◌≢◌, ◌⊎◌, inl, inr, ℕ, zero, suc, ◌+◌, ◌<◌, Bool, true, false, ◌||◌, eqb, cond, List, [], ◌∷◌, length, refl, ap, sym, ◌∙◌, subst, arith, cases_Bool, both_ways, eqb-true, eq-eqb, or_right, IsTrue, Option, Some, None, is_used, is_edge, count_below, IsPath, found_below, count_same, count_less, count_none, same_from_count, any_below, SplitView, IsSplit, in_tree, parent_dart, StepsToParent}
+use Rattle.polygon_cut.proofs.Common.{edge_of_dart, rotation_system, names_all, darts_of, OrientedMesh, IsOrientedSurface, Rotations, rotations_of, IsRotationSystem, ◌≡◌, ◌≢◌, ◌⊎◌, inl, inr, ℕ, zero, suc, ◌+◌, ◌<◌, Bool, true, false, ◌||◌, eqb, cond, List, [], ◌∷◌, length, refl, ap, sym, ◌∙◌, subst, arith, cases_Bool, both_ways, eqb-true, eq-eqb, or_right, IsTrue, Option, Some, None, is_used, is_edge, count_below, IsPath, found_below, count_same, count_less, count_none, same_from_count, root_below, parents_upward, single_path, any_below, SplitView, IsSplit, in_tree, parent_dart, StepsToParent}
 use Rattle.std.proofs.Math.Bool.{or-false}
 use Rattle.polygon_cut.proofs.WayLemmas.{IsWay, HasWays}
-
--- the steps to a parent lead on in one way, and none leads on from the root
-one_parent : (s : OrientedMesh) (split : SplitView) (u v w : ℕ) → StepsToParent (rotations_of s) split u v
-    → StepsToParent (rotations_of s) split u w → v ≡ w
-one_parent s split u v w p q =
-    let both : Some p.0 ≡ Some q.0 = sym p.1.is_parent ∙ q.1.is_parent in
-    let same : p.0 ≡ q.0 = cc in
-    sym p.1.ends ∙ ap (λ d. (rotations_of s).origin ((rotations_of s).twin d)) same ∙ q.1.ends
-
-root_below : (s : OrientedMesh) (split : SplitView) → IsOrientedSurface s → (t : IsSplit s split) → t.parents.root < s.mesh.count
-root_below s split o t =
-    let dart = (names_all s o).each_vertex t.parents.root t.parents.root_used in
-    subst (λ x. x < s.mesh.count) dart.2 ((names_all s o).vertex_below dart.0 dart.1)
-
-pub no_parent_of_root : (s : OrientedMesh) (split : SplitView) → IsOrientedSurface s → (t : IsSplit s split) → (v : ℕ)
-    → StepsToParent (rotations_of s) split t.parents.root v → ⊥
-no_parent_of_root s split o t v p =
-    let none : parent_dart split t.parents.root ≡ None = (t.parents.none t.parents.root (root_below s split o t)).1 (inl refl) in
-    (let both : None ≡ Some p.0 = sym none ∙ p.1.is_parent in cc)
 
 pub one_path : (s : OrientedMesh) (split : SplitView) → IsOrientedSurface s → (t : IsSplit s split) → (v : ℕ) (path other : List ℕ)
     → IsPath (StepsToParent (rotations_of s) split) v path t.parents.root
     → IsPath (StepsToParent (rotations_of s) split) v other t.parents.root → path ≡ other
-one_path s split o t v [] [] p q = refl
-one_path s split o t v [] (w ∷ other) p q =
-    absurd (no_parent_of_root s split o t w (subst (λ x. StepsToParent (rotations_of s) split x w) p q.0))
-one_path s split o t v (w ∷ path) [] p q =
-    absurd (no_parent_of_root s split o t w (subst (λ x. StepsToParent (rotations_of s) split x w) q p.0))
-one_path s split o t v (w ∷ path) (x ∷ other) p q =
-    let same : w ≡ x = one_parent s split v w x p.0 q.0 in
-    let rest : path ≡ other = one_path s split o t w path other p.1
-    (subst (λ y. IsPath (StepsToParent (rotations_of s) split) y other t.parents.root) (sym same) q.1) in
-    cc
+one_path s split o t = single_path (StepsToParent (rotations_of s) split) t.parents.root (parents_upward s split o t)
 
 -- the way up, for used vertices
 pub pick : (s : OrientedMesh) (split : SplitView) (t : IsSplit s split) (v : ℕ) → (is_used s.mesh v ≡ true) ⊎ (is_used s.mesh v ≡ false)

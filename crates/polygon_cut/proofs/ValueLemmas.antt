@@ -1,6 +1,6 @@
 -- Values of darts in a group, where each face has the value one: each dart has the value of two spokes, those of the labels at its
 -- tail and at its head. First the tree and leftover edges, then the cotree, from its leaves up to the root face.
-use Rattle.polygon_cut.proofs.Common.{step_first, rotation_system, darts_of, after_steps, OrientedMesh, IsOrientedSurface, Rotations, rotations_of, IsRotationSystem, ◌≡◌, ◌≢◌, ◌⊎◌, inl, inr, ℕ, zero, suc, ◌+◌, ◌<◌, ◌≤◌, Bool, true, List, [], ◌∷◌, length, refl, ap, sym, ◌∙◌, subst, arith, cases_eq, cases_lt, both_ways, Option, Some, None, IsPath, one_of_three, OneOfThree, tree_one, cotree_one, left_one, SplitView, IsSplit, in_tree, in_cotree, is_left, below_edge, IsStepUp, StepsUp}
+use Rattle.polygon_cut.proofs.Common.{step_first, rotation_system, darts_of, after_steps, OrientedMesh, IsOrientedSurface, Rotations, rotations_of, IsRotationSystem, ◌≡◌, ◌≢◌, ◌⊎◌, inl, inr, ℕ, zero, suc, ◌+◌, ◌<◌, ◌≤◌, Bool, true, List, [], ◌∷◌, length, refl, ap, sym, ◌∙◌, subst, arith, cases_eq, both_ways, Option, Some, None, IsPath, one_of_three, OneOfThree, tree_one, cotree_one, left_one, faces_upward, few_up, no_loop, SplitView, IsSplit, in_tree, in_cotree, is_left, below_edge, IsStepUp, StepsUp}
 use Rattle.polygon_cut.proofs.GroupLemmas.{IsGroup, quotient, inverse_of_quotient, middle, left_factor}
 
 -- the product of the values of k darts round a face
@@ -63,59 +63,6 @@ last_of_face Same mul inv one g val spoke label next d w others =
     (g.turn (round mul one val next w.less (next d)) (quotient mul inv (spoke (label (next d))) (spoke (label d))) closed))
     w.is_one in
     left_factor Same mul inv one g (val d) (spoke (label (next d))) (spoke (label d)) product
-
--- Going up the cotree: from a face one step leads up, and none from the root.
-
-up_edge : (s : OrientedMesh) (split : SplitView) → IsOrientedSurface s → IsSplit s split → (f g h d e : ℕ)
-    → IsStepUp (rotations_of s) split f g d → IsStepUp (rotations_of s) split f h e → g ≡ h
-up_edge s split o t f g h d e p q =
-    let r : IsRotationSystem (rotations_of s) = rotation_system s o in
-    let one_edge : (rotations_of s).edge d ≡ (rotations_of s).edge e =
-    t.child_faces.once ((rotations_of s).edge d) ((rotations_of s).edge e) f p.below q.below in
-    elim ((r.edges d e p.within q.within).0 one_edge) [
-      | inl same ↦ sym p.leads ∙ ap (λ x. (rotations_of s).face ((rotations_of s).twin x)) (sym same) ∙ q.leads
-      | inr turned ↦
-          let f_is_g : f ≡ g = sym q.inside ∙ ap (rotations_of s).face turned ∙ p.leads in
-          let h_is_f : h ≡ f = sym q.leads ∙ ap (λ x. (rotations_of s).face ((rotations_of s).twin x)) turned
-          ∙ ap (rotations_of s).face (r.twin_back d p.within) ∙ p.inside in
-          sym f_is_g ∙ sym h_is_f
-    ]
-
-pub no_step_from_root : (s : OrientedMesh) (split : SplitView) → IsSplit s split → (g : ℕ)
-    → StepsUp (rotations_of s) split split.root_face g → ⊥
-no_step_from_root s split t g step = t.child_faces.not_root ((rotations_of s).edge step.0) step.1.below
-
--- the ways up from a face are equally long
-one_length : (s : OrientedMesh) (split : SplitView) → IsOrientedSurface s → IsSplit s split → (f : ℕ) (path other : List ℕ)
-    → IsPath (StepsUp (rotations_of s) split) f path split.root_face → IsPath (StepsUp (rotations_of s) split) f other split.root_face
-    → length path ≡ length other
-one_length s split o t f [] [] p q = refl
-one_length s split o t f [] (g ∷ other) p q = absurd (no_step_from_root s split t g (subst (λ x. StepsUp (rotations_of s) split x g) p q.0))
-one_length s split o t f (g ∷ path) [] p q = absurd (no_step_from_root s split t g (subst (λ x. StepsUp (rotations_of s) split x g) q p.0))
-one_length s split o t f (g ∷ path) (h ∷ other) p q =
-    let same : g ≡ h = up_edge s split o t f g h p.0.0 q.0.0 p.0.1 q.0.1 in
-    ap suc (one_length s split o t g path other p.1 (subst (λ x. IsPath (StepsUp (rotations_of s) split) x other split.root_face) (sym same)
-    q.1))
-
--- a bound on how far the faces lie from the root
-depth_bound : (s : OrientedMesh) (split : SplitView) → IsOrientedSurface s → IsSplit s split → (n : ℕ) → n ≤ length s.mesh.faces
-    → (bound : ℕ) × ((f : ℕ) → f < n → (path : List ℕ) → IsPath (StepsUp (rotations_of s) split) f path split.root_face
-    → length path ≤ bound)
-depth_bound s split o t zero l = (0, λ f k path p. absurd (omega arith))
-depth_bound s split o t (suc n) l =
-    let before = depth_bound s split o t n (omega arith) in
-    let own = t.child_faces.to_root n (omega arith) in (
-      before.0 + length own.0,
-      λ f k path p. elim (cases_lt f n) [
-        | inl less ↦ (let few : length path ≤ before.0 = before.1 f less path p in omega arith)
-        | inr more ↦
-            let same : f ≡ n = omega arith in
-            let here : IsPath (StepsUp (rotations_of s) split) f own.0 split.root_face =
-            subst (λ x. IsPath (StepsUp (rotations_of s) split) x own.0 split.root_face) (sym same) own.1 in
-            let long : length path ≡ length own.0 = one_length s split o t f path own.0 p here in
-            omega arith
-      ],
-    )
 
 -- What is known of the values of a surface's darts: twins have inverse values, each face has the value one, tree darts have it, and
 -- leftover darts have the value of their labels, but for the last side, which lies in the root face.
@@ -241,15 +188,11 @@ parents_known : {X : Type 0} (Same : X → X → Type 0) (mul : X → X → X) (
     → (s : OrientedMesh) (split : SplitView) (val spoke : ℕ → X)
     (label : ℕ → ℕ) (last : ℕ) → IsOrientedSurface s → IsSplit s split → Valued Same mul inv one s split val spoke label last
     → (edge_in : (d : ℕ) → d < darts_of s → (rotations_of s).edge d < length s.table)
-    → (face_in : (d : ℕ) → d < darts_of s → (rotations_of s).face d < length s.mesh.faces)
-    → (bound : ℕ) → ((f : ℕ) → f < length s.mesh.faces → (path : List ℕ) → IsPath (StepsUp (rotations_of s) split) f path split.root_face
-    → length path ≤ bound)
-    → (n f : ℕ) (path : List ℕ) → f < length s.mesh.faces → IsPath (StepsUp (rotations_of s) split) f path split.root_face
-    → bound < length path + n
+    → (n f : ℕ) (path : List ℕ) → IsPath (StepsUp (rotations_of s) split) f path split.root_face → length s.mesh.faces ≤ length path + n
     → (g d : ℕ) → IsStepUp (rotations_of s) split f g d → Same (val d) (by_labels mul inv spoke label (rotations_of s).next d)
-parents_known Same mul inv one gr s split val spoke label last o t v edge_in face_in bound deep zero f path f_in p far g d step =
-    absurd (let few : length path ≤ bound = deep f f_in path p in omega arith)
-parents_known Same mul inv one gr s split val spoke label last o t v edge_in face_in bound deep (suc n) f path f_in p far g d step =
+parents_known Same mul inv one gr s split val spoke label last o t v edge_in zero f path p far g d step =
+    absurd (let few : length path < length s.mesh.faces = few_up s split o t f path p in omega arith)
+parents_known Same mul inv one gr s split val spoke label last o t v edge_in (suc n) f path p far g d step =
     last_of_face Same mul inv one gr val spoke label (rotations_of s).next d (v.faces d step.within) (λ k ne.
     let r : IsRotationSystem (rotations_of s) = rotation_system s o in
     let x : ℕ = after_steps (rotations_of s).next k ((rotations_of s).next d) in
@@ -269,23 +212,12 @@ parents_known Same mul inv one gr s split val spoke label last o t v edge_in fac
             inside = down.step.inside;
             leads = ap (rotations_of s).face (sym turned) ∙ x_face;
           } in
-          parents_known Same mul inv one gr s split val spoke label last o t v edge_in face_in bound deep n down.face (f ∷ path)
-          (subst (λ y. y < length s.mesh.faces) down.step.inside (face_in down.dart down.step.within))
-          ((down.dart, up), p) (omega arith) f down.dart up
+          parents_known Same mul inv one gr s split val spoke label last o t v edge_in n down.face (f ∷ path) ((down.dart, up), p)
+          (omega arith) f down.dart up
     ]))
   where
     no_root : f ≡ split.root_face → ⊥
-    no_root same = no_step_from_root s split t g (subst (λ y. StepsUp (rotations_of s) split y g) same (d, step))
-
-    no_loop : (q : List ℕ) → IsPath (StepsUp (rotations_of s) split) f q split.root_face → (e : ℕ) → IsStepUp (rotations_of s) split f f e
-        → ⊥
-    no_loop [] q e loop = no_root q
-    no_loop (h ∷ rest) q e loop =
-        let same : h ≡ f = up_edge s split o t f h f q.0.0 e q.0.1 loop in
-        let rest_path : IsPath (StepsUp (rotations_of s) split) f rest split.root_face =
-        subst (λ y. IsPath (StepsUp (rotations_of s) split) y rest split.root_face) same q.1 in
-        let long : suc (length rest) ≡ length rest = one_length s split o t f (h ∷ rest) rest q rest_path in
-        omega arith
+    no_root same = (faces_upward s split o t).top g (subst (λ y. StepsUp (rotations_of s) split y g) same (d, step))
 
     no_own : (x : ℕ) → {h : ℕ} → IsStepUp (rotations_of s) split h ((rotations_of s).face ((rotations_of s).twin x)) x → x < darts_of s
         → (rotations_of s).face x ≡ f → x ≢ d → ⊥
@@ -296,12 +228,14 @@ parents_known Same mul inv one gr s split val spoke label last o t v edge_in fac
         t.child_faces.once ((rotations_of s).edge d) ((rotations_of s).edge x) f step.below (own.below ∙ ap Some h_is) in
         elim ((r.edges d x step.within x_in).0 one_edge) [
           | inl same ↦ ne same
-          | inr turned ↦ no_loop path p d (record {
-            within = step.within;
-            below = step.below;
-            inside = step.inside;
-            leads = ap (rotations_of s).face (sym turned) ∙ x_face;
-          })
+          | inr turned ↦
+              let loop : IsStepUp (rotations_of s) split f f d = record {
+                within = step.within;
+                below = step.below;
+                inside = step.inside;
+                leads = ap (rotations_of s).face (sym turned) ∙ x_face;
+              } in
+              no_loop (StepsUp (rotations_of s) split) split.root_face (faces_upward s split o t) f (d, loop) (path, p)
         ]
 
 -- Each dart has the value of the spokes at its tail and at its head.
@@ -324,9 +258,7 @@ all_values Same mul inv one g s split val spoke label last o t v edge_in face_in
   where
     known : {x : ℕ} (b : Below s split x) → Same (val b.dart) (by_labels mul inv spoke label (rotations_of s).next b.dart)
     known b =
-        let deep = depth_bound s split o t (length s.mesh.faces) (omega arith) in
         let f_in : b.face < length s.mesh.faces = subst (λ y. y < length s.mesh.faces) b.step.inside (face_in b.dart b.step.within) in
         let path = t.child_faces.to_root b.face f_in in
-        parents_known Same mul inv one g s split val spoke label last o t v edge_in face_in deep.0 deep.1 (suc deep.0) b.face path.0 f_in
-        path.1 (omega arith)
+        parents_known Same mul inv one g s split val spoke label last o t v edge_in (length s.mesh.faces) b.face path.0 path.1 (omega arith)
         ((rotations_of s).face ((rotations_of s).twin b.dart)) b.dart b.step
