@@ -1,5 +1,6 @@
 -- Corners at a vertex, and steps round it.
-use Rattle.connectivity.proofs.Common.{◌≡◌, ◌⊎◌, inl, inr, ℕ, ◌<◌, true, eqb, List, [], ◌∷◌, length, get_or, ap, sym, ◌∙◌, subst, arith, eq-eqb, eqb-true, get_or_default, list_any_at, Any-from_list_any, list_any, Contains, ends_differ, face_side, length-all_sides, IsWholeSide, whole_side, face_side_in, next_within, IsSide, side_number, side_after, tail_of, head_of, side_name, FaceList, FaceSide, IsFaceList, face_at, all_sides, total_sides, is_used, IsPath, AreJoined, ArePartners, IsCornerAt, IsCornerOfSide, IsStepAround, HasOneRing, Side}
+use Rattle.connectivity.proofs.Common.{◌≡◌, ◌⊎◌, refl, inl, inr, ℕ, ◌<◌, true, eqb, List, [], ◌∷◌, length, get_or, ap, sym, ◌∙◌, subst, arith, eq-eqb, eqb-true, get_or_default, list_any_at, Any-from_list_any, list_any, Contains, ends_differ, face_side, length-all_sides, IsWholeSide, whole_side, face_side_in, next_within, IsSide, side_number, side_after, tail_of, head_of, side_name, FaceList, FaceSide, IsFaceList, face_at, all_sides, total_sides, is_used, IsPath, AreJoined, ArePartners, IsCornerAt, IsCornerOfSide, IsStepAround, HasOneRing, Side}
+use Rattle.connectivity.specs.Links.{AreCornersAcross}
 use Rattle.connectivity.specs.Partitions.{IsCornerStep, AreRings}
 use Rattle.connectivity.proofs.Joining.{joined_keep}
 
@@ -81,6 +82,27 @@ partners_swap mesh side other h = record {
 pub corner_end : (mesh : FaceList) (v : ℕ) (side corner : Side) → IsCornerOfSide mesh v side corner → (tail_of mesh side ≡ v)
     ⊎ (head_of mesh side ≡ v)
 corner_end mesh v side corner h = elim h [ inl e ↦ inl e.0 | inr e ↦ inr e.0 ]
+
+-- two sides of one edge have corners across
+pub corners_there : (mesh : FaceList) (side partner : Side) → ArePartners mesh side partner
+    → (first : Side) × (last : Side) × AreCornersAcross mesh side partner first last
+corners_there mesh side partner partners =
+    elim partners.one_edge [
+      | inl e ↦ (partner, side_after mesh partner, record { at_start = inl (sym e.0, refl); at_end = inr (sym e.1, refl) })
+      | inr e ↦ (side_after mesh partner, partner, record { at_start = inr (sym e.0, refl); at_end = inl (sym e.1, refl) })
+    ]
+
+-- what holds of the two corners at either end of an edge holds of any two corners of its sides at one vertex
+pub each_across : (mesh : FaceList) (side partner first last : Side) → IsFaceList mesh → ArePartners mesh side partner
+    → AreCornersAcross mesh side partner first last → (P : Side → Side → Type 0) → P side first → P (side_after mesh side) last
+    → (v : ℕ) (corner other : Side) → IsCornerOfSide mesh v side corner → IsCornerOfSide mesh v partner other → P corner other
+each_across mesh side partner first last valid partners h P start end v corner other from to =
+    let same : (u : ℕ) (c : Side) → u ≡ v → IsCornerOfSide mesh u partner c → c ≡ other =
+    λ u c at is. one_corner mesh v partner c other valid partners.second (subst (λ w. IsCornerOfSide mesh w partner c) at is) to in
+    elim from [
+      | inl e ↦ subst (λ s. P s other) (sym e.1) (subst (P side) (same (tail_of mesh side) first e.0 h.at_start) start)
+      | inr e ↦ subst (λ s. P s other) (sym e.1) (subst (P (side_after mesh side)) (same (head_of mesh side) last e.0 h.at_end) end)
+    ]
 
 -- the step across the edge of two partners
 pub step_across : (mesh : FaceList) (v : ℕ) (side partner corner other : Side) → ArePartners mesh side partner

@@ -1,5 +1,5 @@
 -- How many sides edges have, by the table of the mesh.
-use Rattle.connectivity.proofs.Common.{◌≡◌, inl, inr, ℕ, ◌<◌, ◌≤◌, Bool, true, false, ◌||◌, List, [], ◌∷◌, length, refl, ap, sym, ◌∙◌, subst, arith, cases_Bool, list_any, filter, cond, IsEdgeBetween, edge_between, sides_of_edge, sides_between_swap, Edge, IsTableOf, edge_in, FaceList, all_sides, joins, is_edge, sides_between, EachEdgeHasTwoSides}
+use Rattle.connectivity.proofs.Common.{◌≡◌, inl, inr, ℕ, ◌<◌, ◌≤◌, Bool, true, false, ◌||◌, List, [], ◌∷◌, length, refl, ap, sym, ◌∙◌, subst, arith, cases_Bool, list_any, filter, cond, IsEdgeBetween, edge_between, sides_of_edge, sides_between_swap, place_before, same_pair, Edge, IsTableOf, edge_in, IsPairBefore, FaceList, all_sides, joins, is_edge, sides_between, EachEdgeHasTwoSides}
 use Rattle.connectivity.specs.Joined.{NoEdgeHasThreeSides}
 
 -- where no side passes, none is kept
@@ -38,6 +38,20 @@ between_by_table P mesh table h none each u v =
           subst P (sym (sides_by_table mesh table u v h is)) (each found.edge found.in_table))
       | inr not ↦ subst P (sym (no_edge_no_side mesh u v not)) none
     ]
+
+-- what holds of the number of sides of each edge of the table before one holds of the sides of each edge whose ends come before its ends
+pub before_by_table : (P : ℕ → Type 0) (mesh : FaceList) (table : List Edge) (k : ℕ) → IsTableOf mesh table → k < length table
+    → ((j : ℕ) → j < k → P (length (edge_in table j).sides)) → (a b : ℕ) → a < b → is_edge mesh a b ≡ true
+    → IsPairBefore a b (edge_in table k).low (edge_in table k).high → P (sides_between mesh a b)
+before_by_table P mesh table k h l each a b up is before =
+    let edge : Edge = edge_in table k in
+    let found : IsEdgeBetween table a b = edge_between mesh table a b h is in
+    let other : Edge = edge_in table found.edge in
+    let same = same_pair a b other.low other.high up (h.edges found.edge _ found.in_table).ordered found.ends in
+    let there : IsPairBefore other.low other.high edge.low edge.high =
+    subst (λ x. IsPairBefore x other.high edge.low edge.high) (sym same.0)
+    (subst (λ x. IsPairBefore a x edge.low edge.high) (sym same.1) before) in
+    subst P (sym (sides_by_table mesh table a b h is)) (each found.edge (place_before mesh table found.edge k h found.in_table l there))
 
 pub few_from_table : (mesh : FaceList) (table : List Edge) → IsTableOf mesh table
     → ((k : ℕ) → k < length table → length (edge_in table k).sides ≤ 2) → NoEdgeHasThreeSides mesh

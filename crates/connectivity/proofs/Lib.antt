@@ -8,3 +8,4 @@ pub mod CornerLemmas
 pub mod RingLemmas
 pub mod LinkLemmas
 pub mod EdgeCounts
+pub mod FirstFaults

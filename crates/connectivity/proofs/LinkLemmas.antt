@@ -1,6 +1,5 @@
 -- Links of vertices, as the corners are gone through by their numbers.
-use Rattle.connectivity.proofs.Common.{◌≡◌, ◌⊎◌, inl, inr, ℕ, ◌+◌, ◌<◌, List, length, get_or, set, refl, ap, sym, ◌∙◌, subst, arith, cases_lt, cases_eq, length-set, get_or-set_same, get_or-set_other, Option, Some, None, IfSome, IfNone, MatchOption, length-all_sides, IsWholeSide, whole_side, IsSide, side_number, tail_of, side_name, FaceList, FaceSide, IsFaceList, all_sides, total_sides, AreJoined, IsCornerAt, HasOneRing, Side}
-use Rattle.surf_model.specs.declared.names.VertexName.{VertexName}
+use Rattle.connectivity.proofs.Common.{◌≡◌, ◌⊎◌, inl, inr, ℕ, ◌+◌, ◌<◌, List, length, get_or, set, refl, ap, sym, ◌∙◌, subst, arith, cases_lt, cases_eq, length-set, get_or-set_same, get_or-set_other, Option, Some, None, IfSome, IfNone, MatchOption, length-all_sides, IsWholeSide, whole_side, IsSide, side_number, tail_of, side_name, FaceList, FaceSide, IsFaceList, all_sides, total_sides, AreJoined, IsCornerAt, HasOneRing, Side, VertexName}
 use Rattle.connectivity.specs.Classes.{AreLeastMembers}
 use Rattle.connectivity.specs.Joined.{EachVertexHasOneRing, IsLeastPinch}
 use Rattle.connectivity.specs.Links.{with_ring, IsLeastCorner, HasTwoLeast, IsTrueLink, link_at, AreLinksUpTo, AreLinks, IsFirstPinched}

@@ -1,13 +1,13 @@
 -- Corners in rings, as the sides are gone through by their numbers.
-use Rattle.connectivity.proofs.Common.{◌≡◌, ◌⊎◌, inl, inr, ℕ, zero, suc, ◌+◌, ◌<◌, ◌≤◌, true, List, length, map, get_or, refl, ap, sym, ◌∙◌, subst, arith, cases_eq, nat_tests, length-map, get_or-map, get_or_default, length-range_with_len, range_with_len, Contains, ends_differ, IsSideOfEdge, side_of_edge, edge_has_side, ends_agree, partners_of_edge, table_edge, next_within, IsSide, side_number, side_after, tail_of, head_of, Edge, IsTableOf, IsEdgeOf, edge_in, FaceList, IsFaceList, next_corner, total_sides, ArePartners, IsCornerOfSide, Side}
+use Rattle.connectivity.proofs.Common.{◌≡◌, ◌⊎◌, inl, inr, ℕ, zero, suc, ◌+◌, ◌<◌, ◌≤◌, true, List, length, map, get_or, refl, ap, sym, ◌∙◌, subst, arith, cases_eq, nat_tests, length-map, get_or-map, get_or_default, length-range_with_len, range_with_len, Contains, IsSideOfEdge, side_of_edge, edge_has_side, ends_agree, partners_of_edge, table_edge, next_within, IsSide, side_number, side_after, tail_of, head_of, Edge, IsTableOf, IsEdgeOf, edge_in, FaceList, IsFaceList, next_corner, total_sides, ArePartners, IsCornerOfSide, Side}
 use Rattle.surf_model.specs.EdgeDarts.{IsNextInEdge}
 use Rattle.connectivity.specs.Classes.{joined_at, KeepsJoined}
-use Rattle.connectivity.specs.Links.{IsJoinedAcross}
+use Rattle.connectivity.specs.Links.{AreCornersAcross, AreMadeJoined, IsJoinedAcross}
 use Rattle.connectivity.specs.Partitions.{JoinsOnlyByCornerSteps, IsCornerStep, AreRings}
 use Rattle.connectivity.proofs.Joining.{length-joined_at, joined_at_ends, joined_at_keeps, joins_only-joined_at, joins_only-alone}
 use Rattle.connectivity.specs.Joined.{NoEdgeHasThreeSides}
 use Rattle.connectivity.proofs.EdgeLemmas.{few_in_table}
-use Rattle.connectivity.proofs.CornerLemmas.{number_below, number_once, corner_in_mesh, corner_end, one_corner, partners_swap, step_across}
+use Rattle.connectivity.proofs.CornerLemmas.{number_below, number_once, corner_in_mesh, each_across, partners_swap, step_across}
 
 -- the partner of a side, by its number; there is no other
 pub record HasPartner (mesh : FaceList) (side : Side) (n : ℕ) : Type 0 where
@@ -203,105 +203,40 @@ made_one mesh least v side partner corner other count partners from to =
           (step_across mesh v partner side other corner (partners_swap mesh side partner partners) to from);
     }
 
--- the classes before and after the corners of a side have been joined with those of its partner
-pub record AreMadeJoined (mesh : FaceList) (old new : List ℕ) (side partner : Side) : Type 0 where
-  pub count : length new ≡ total_sides mesh
-  pub joined : IsJoinedAcross mesh new side partner
-  pub kept : KeepsJoined old new
-  pub steps : JoinsOnlyByCornerSteps mesh old → JoinsOnlyByCornerSteps mesh new
-
--- the corners of the partner where the side starts and where it ends
-record HasCornersAcross (mesh : FaceList) (side partner first last : Side) : Type 0 where
-  partners : ArePartners mesh side partner
-  at_start : IsCornerOfSide mesh (tail_of mesh side) partner first
-  at_end : IsCornerOfSide mesh (head_of mesh side) partner last
-
+-- so it is once the corners of a side have been joined with those of its partner
 made_joined : (mesh : FaceList) (least : List ℕ) (side partner first last : Side) → IsFaceList mesh → length least ≡ total_sides mesh
-    → HasCornersAcross mesh side partner first last
+    → ArePartners mesh side partner → AreCornersAcross mesh side partner first last
     → AreMadeJoined mesh least
     (joined_at (joined_at least (side_number mesh side) (side_number mesh first)) (side_number mesh (side_after mesh side))
     (side_number mesh last)) side partner
-made_joined mesh least side partner first last valid count h =
+made_joined mesh least side partner first last valid count partners h =
     let once : List ℕ = joined_at least (side_number mesh side) (side_number mesh first) in
     let twice : List ℕ = joined_at once (side_number mesh (side_after mesh side)) (side_number mesh last) in
     let start : AreMadeOne mesh least once side first =
-    made_one mesh least (tail_of mesh side) side partner side first count h.partners (inl (refl, refl)) h.at_start in
+    made_one mesh least (tail_of mesh side) side partner side first count partners (inl (refl, refl)) h.at_start in
     let end : AreMadeOne mesh once twice (side_after mesh side) last =
-    made_one mesh once (head_of mesh side) side partner (side_after mesh side) last start.count h.partners (inr (refl, refl)) h.at_end in
-    let size : length once ≡ length least = start.count ∙ sym count in
-    let below : (v : ℕ) (s corner : Side) → IsSide mesh s → IsCornerOfSide mesh v s corner → side_number mesh corner < length once =
-    λ v s corner is of_side. omega (arith, start.count, number_below mesh corner (corner_in_mesh mesh v s corner is of_side)) in
+    made_one mesh once (head_of mesh side) side partner (side_after mesh side) last start.count partners (inr (refl, refl)) h.at_end in
+    let below : (s : Side) → IsSide mesh s → side_number mesh s < length once =
+    λ s is. omega (arith, start.count, number_below mesh s is) in
     let start_same : get_or twice (side_number mesh side) 0 ≡ get_or twice (side_number mesh first) 0 =
-    end.kept (side_number mesh side) (side_number mesh first) (below (tail_of mesh side) side side h.partners.first (inl (refl, refl)))
-    (below (tail_of mesh side) partner first h.partners.second h.at_start) start.same in
-    let as_these : (corner other this that : Side) → corner ≡ this → other ≡ that
-    → get_or twice (side_number mesh this) 0 ≡ get_or twice (side_number mesh that) 0
-    → get_or twice (side_number mesh corner) 0 ≡ get_or twice (side_number mesh other) 0 =
-    λ corner other this that is_this is_that same.
-    ap (λ s. get_or twice (side_number mesh s) 0) is_this ∙ same ∙ ap (λ s. get_or twice (side_number mesh s) 0) (sym is_that) in
+    end.kept (side_number mesh side) (side_number mesh first) (below side partners.first)
+    (below first (corner_in_mesh mesh (tail_of mesh side) partner first partners.second h.at_start)) start.same in
     record {
       count = end.count;
-      joined = λ v corner other from to.
-          elim (corner_end mesh v side corner from) [
-            | inl at ↦
-                as_these corner other side first (one_corner mesh v side corner side valid h.partners.first from (inl (at, refl)))
-                (one_corner mesh v partner other first valid h.partners.second to
-                (subst (λ u. IsCornerOfSide mesh u partner first) at h.at_start)) start_same
-            | inr at ↦
-                as_these corner other (side_after mesh side) last (one_corner mesh v side corner (side_after mesh side) valid
-                h.partners.first from (inr (at, refl)))
-                (one_corner mesh v partner other last valid h.partners.second to
-                (subst (λ u. IsCornerOfSide mesh u partner last) at h.at_end)) end.same
-          ];
-      kept = λ x y l k same. end.kept x y (omega (arith, size, l)) (omega (arith, size, k)) (start.kept x y l k same);
+      joined = each_across mesh side partner first last valid partners h
+          (λ corner other. get_or twice (side_number mesh corner) 0 ≡ get_or twice (side_number mesh other) 0) start_same end.same;
+      kept = λ x y l k same.
+          end.kept x y (omega (arith, start.count, count, l)) (omega (arith, start.count, count, k)) (start.kept x y l k same);
       steps = λ only. end.steps (start.steps only);
     }
 
--- partners that start at one vertex end at one
-corners_alike : (mesh : FaceList) (side partner : Side) → IsFaceList mesh → ArePartners mesh side partner
-    → tail_of mesh side ≡ tail_of mesh partner
-    → HasCornersAcross mesh side partner partner (side_after mesh partner)
-corners_alike mesh side partner valid partners same = record {
-  partners = partners;
-  at_start = inl (sym same, refl);
-  at_end = elim partners.one_edge [
-    | inl e ↦ inr (sym e.1, refl)
-    | inr e ↦ absurd (ends_differ mesh partner valid partners.second (sym same ∙ e.0))
-  ];
-}
-
--- other partners start where the other ends
-corners_opposite : (mesh : FaceList) (side partner : Side) → ArePartners mesh side partner → (tail_of mesh side ≡ tail_of mesh partner → ⊥)
-    → HasCornersAcross mesh side partner (side_after mesh partner) partner
-corners_opposite mesh side partner partners other =
-    elim partners.one_edge [
-      | inl e ↦ absurd (other e.0)
-      | inr e ↦ record { partners = partners; at_start = inr (sym e.0, refl); at_end = inl (sym e.1, refl) }
-    ]
-
--- the numbers of the corners of a side and of its partner, as they are read
-pub record AreCornersRead (mesh : FaceList) (side : Side) (start end : ℕ) : Type 0 where
-  pub start_is : start ≡ side_number mesh side
-  pub end_is : end ≡ side_number mesh (side_after mesh side)
-
-pub joined_alike : (mesh : FaceList) (least once twice : List ℕ) (side partner : Side) (a b c d : ℕ) → IsFaceList mesh
-    → length least ≡ total_sides mesh → ArePartners mesh side partner
-    → tail_of mesh side ≡ tail_of mesh partner → AreCornersRead mesh side a b → AreCornersRead mesh partner c d
-    → once ≡ joined_at least a c → twice ≡ joined_at once b d
-    → AreMadeJoined mesh least twice side partner
-joined_alike mesh least once twice side partner a b c d valid count partners same here there is_once is_twice =
-    rw (is_twice, is_once, here.start_is, here.end_is, there.start_is, there.end_is)
-    (made_joined mesh least side partner partner (side_after mesh partner) valid count
-    (corners_alike mesh side partner valid partners same))
-
-pub joined_opposite : (mesh : FaceList) (least once twice : List ℕ) (side partner : Side) (a b c d : ℕ) → IsFaceList mesh
-    → length least ≡ total_sides mesh → ArePartners mesh side partner
-    → (tail_of mesh side ≡ tail_of mesh partner → ⊥) → AreCornersRead mesh side a b → AreCornersRead mesh partner c d
-    → once ≡ joined_at least a d → twice ≡ joined_at once b c
-    → AreMadeJoined mesh least twice side partner
-joined_opposite mesh least once twice side partner a b c d valid count partners other here there is_once is_twice =
-    rw (is_twice, is_once, here.start_is, here.end_is, there.start_is, there.end_is)
-    (made_joined mesh least side partner (side_after mesh partner) partner valid count (corners_opposite mesh side partner partners other))
+-- the numbers of the corners as they are read
+pub joined_as_read : (mesh : FaceList) (least once twice : List ℕ) (side partner first last : Side) (a b c d : ℕ) → IsFaceList mesh
+    → length least ≡ total_sides mesh → ArePartners mesh side partner → AreCornersAcross mesh side partner first last
+    → a ≡ side_number mesh side → b ≡ side_number mesh first → c ≡ side_number mesh (side_after mesh side) → d ≡ side_number mesh last
+    → once ≡ joined_at least a b → twice ≡ joined_at once c d → AreMadeJoined mesh least twice side partner
+joined_as_read mesh least once twice side partner first last a b c d valid count partners h is_a is_b is_c is_d is_once is_twice =
+    rw (is_twice, is_once, is_a, is_b, is_c, is_d) (made_joined mesh least side partner first last valid count partners h)
 
 -- of the sides with numbers below n partners are joined across, and equal entries come by steps alone
 pub record JoinsSidesUpTo (mesh : FaceList) (least : List ℕ) (n : ℕ) : Type 0 where

@@ -1,9 +1,11 @@
 -- Corners in one class across an edge; and the link of a vertex, as its rings are met one by one, each at its least corner.
 use Rattle.std.specs.Prelude.{◌≡◌, ◌≢◌, ℕ, ◌<◌, List, length, slice_index, slice_index_or}
 use Rattle.surf_model.specs.FaceLists.{FaceList, total_sides}
-use Rattle.surf_model.specs.Darts.{side_number}
+use Rattle.surf_model.specs.Darts.{side_number, tail_of, head_of}
 use Rattle.surf_model.specs.Surfaces.{IsCornerAt, IsCornerOfSide}
 use Rattle.surf_model.specs.declared.edges.Side.{Side}
+use Rattle.connectivity.specs.Classes.{KeepsJoined}
+use Rattle.connectivity.specs.Partitions.{JoinsOnlyByCornerSteps}
 use Rattle.connectivity.specs.declared.corners.Link.{Link}
 use Rattle.connectivity.specs.declared.corners.Link.TheVariants.{NoRing, OneRing, Pinched}
 
@@ -12,6 +14,18 @@ abbrev pub IsJoinedAcross : FaceList → List ℕ → Side → Side → Type 0
 IsJoinedAcross mesh least side partner =
     (v : ℕ) (corner other : Side) → IsCornerOfSide mesh v side corner → IsCornerOfSide mesh v partner other
     → slice_index least (side_number mesh corner) ≡ slice_index least (side_number mesh other)
+
+-- the corners of the partner of a side, where the side starts and where it ends
+pub record AreCornersAcross (mesh : FaceList) (side partner first last : Side) : Type 0 where
+  pub at_start : IsCornerOfSide mesh (tail_of mesh side) partner first
+  pub at_end : IsCornerOfSide mesh (head_of mesh side) partner last
+
+-- the classes before and after the corners of a side are joined with those of its partner
+pub record AreMadeJoined (mesh : FaceList) (old new : List ℕ) (side partner : Side) : Type 0 where
+  pub count : length new ≡ total_sides mesh
+  pub joined : IsJoinedAcross mesh new side partner
+  pub kept : KeepsJoined old new
+  pub steps : JoinsOnlyByCornerSteps mesh old → JoinsOnlyByCornerSteps mesh new
 
 -- a link, once a ring more is met
 abbrev pub with_ring : Link → Link

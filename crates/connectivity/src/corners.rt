@@ -1,13 +1,13 @@
 //! Whether the corners at each used vertex make one ring, or one fan where the vertex is on the boundary.
-ghost use Rattle.std.specs.Prelude.{◌≡◌, ◌<◌, ◌^◌, ℕ, length, slice_set, IfOk, IfSome, IfNone, MatchOption, OnOk};
+ghost use Rattle.std.specs.Prelude.{◌≡◌, ◌==◌, ◌<◌, ◌^◌, ℕ, length, slice_set, IfOk, IfSome, IfNone, MatchOption, OnOk};
 ghost use Rattle.surf_model.specs.FaceLists.{IsFaceList, total_sides};
 ghost use Rattle.surf_model.specs.Edges.{IsTableOf};
-ghost use Rattle.surf_model.specs.Darts.{IsSide, side_number, side_after};
+ghost use Rattle.surf_model.specs.Darts.{IsSide, tail_of};
 ghost use Rattle.surf_model.specs.Surfaces.{ArePartners};
 ghost use Rattle.connectivity.specs.Joined.{NoEdgeHasThreeSides, EachVertexHasOneRing, IsLeastPinch};
-ghost use Rattle.connectivity.specs.Partitions.{AreRings, JoinsOnlyByCornerSteps};
-ghost use Rattle.connectivity.specs.Classes.{AreLeastMembers, KeepsJoined};
-ghost use Rattle.connectivity.specs.Links.{IsJoinedAcross, AreLinks, IsFirstPinched, with_ring, link_at};
+ghost use Rattle.connectivity.specs.Partitions.{AreRings};
+ghost use Rattle.connectivity.specs.Classes.{AreLeastMembers};
+ghost use Rattle.connectivity.specs.Links.{AreCornersAcross, AreMadeJoined, AreLinks, IsFirstPinched, with_ring, link_at};
 
 use crate::classes::Classes;
 use std::alloc::{AllocError, Global};
@@ -79,35 +79,32 @@ fn rings(alloc: Global, faces: &Faces, sides: &Sides) -> Result<Vec<u32>, AllocE
 fn join_across(corners: &mut Classes, faces: &Faces, side: Side, partner: Side)
     requires partners { ArePartners faces.now side partner }
     requires count { length corners.old ≡ total_sides faces.now }
-    ensures count { length corners.new ≡ total_sides faces.now }
-    ensures joined { IsJoinedAcross faces.now corners.new side partner }
-    ensures kept { KeepsJoined corners.old corners.new }
-    ensures steps { JoinsOnlyByCornerSteps faces.now corners.old → JoinsOnlyByCornerSteps faces.now corners.new }
+    ensures { AreMadeJoined faces.now corners.old corners.new side partner }
 {
-    let (start, end) = ends_of(faces, side);
-    let (partner_start, partner_end) = ends_of(faces, partner);
-    if faces.corner(side.face, side.at) == faces.corner(partner.face, partner.at) {
-        corners.join(start, partner_start);
-        corners.join(end, partner_end);
-    } else {
-        corners.join(start, partner_end);
-        corners.join(end, partner_start);
-    }
+    let (first, last, _) = corners_across(faces, side, partner);
+    corners.join(faces.dart(side).0, faces.dart(first).0);
+    corners.join(faces.dart(faces.after(side)).0, faces.dart(last).0);
 }
 
-/// The numbers of the two corners of a side: the one where it starts, and the one where it ends.
-fn ends_of(faces: &Faces, side: Side) -> (u32, u32)
-    requires { IsSide faces.now side }
-    ensures start { result.0 ≡ side_number faces.now side }
-    ensures end { result.1 ≡ side_number faces.now (side_after faces.now side) }
-    ensures start_below { result.0 < total_sides faces.now }
-    ensures end_below { result.1 < total_sides faces.now }
+/// The corners of the partner of a side, where the side starts and where it ends; and whether both sides start at one vertex.
+pub fn corners_across(faces: &Faces, side: Side, partner: Side) -> (Side, Side, bool)
+    requires { ArePartners faces.now side partner }
+    ensures corners { AreCornersAcross faces.now side partner result.0 result.1 }
+    ensures alike { result.2 ≡ (tail_of faces.now side == tail_of faces.now partner) }
+    // What holds of every side.
+    ensures first { IsSide faces.now result.0 }
+    ensures last { IsSide faces.now result.1 }
     // What holds of every face list.
     ensures valid { IsFaceList faces.now }
 {
-    let start = faces.dart(side).0;
-    let end = faces.dart(faces.after(side)).0;
-    (start, end)
+    // The proof reads what holds of every face list.
+    let _ = faces.len();
+    let after = faces.after(partner);
+    if faces.corner(side.face, side.at) == faces.corner(partner.face, partner.at) {
+        (partner, after, true)
+    } else {
+        (after, partner, false)
+    }
 }
 
 /// The link of each vertex. Each ring is met at its least corner.

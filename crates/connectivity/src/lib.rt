@@ -2,7 +2,7 @@
 //! at most two sides, closed or with boundary.
 //!
 //! A caller sees two calls, each of which names the least element that hangs apart, or says that there is none. Below both lie
-//! `Classes`: numbers in classes that are joined two by two.
+//! `Classes`: numbers in classes that are joined two by two, and `corners_across`: which corners of two sides of one edge face one another.
 //!
 //!     let sides = Sides::build(alloc, &faces)?;
 //!     let pinch = pinched_vertex(alloc, &faces, &sides)?;
@@ -14,5 +14,5 @@ pub mod corners;
 pub mod vertices;
 
 pub use classes::Classes;
-pub use corners::pinched_vertex;
+pub use corners::{corners_across, pinched_vertex};
 pub use vertices::{components, vertices_apart};

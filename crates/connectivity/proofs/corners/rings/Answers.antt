@@ -1,7 +1,7 @@
 use Rattle.connectivity.proofs.Common.{◌≡◌, ◌⊎◌, inl, inr, ◌+◌, ℕ, List, refl, ap, sym, ◌∙◌, subst, arith, range_with_len, first_side, IsSide, Side}
 use Rattle.surf_model.proofs.SideNumberLemmas.{first_side-more, first_side-all}
 use Rattle.connectivity.specs.Partitions.{AreRings}
-use Rattle.connectivity.proofs.RingLemmas.{HasPartner, IsAlone, AreMadeJoined, partner_or_alone, partners_by_number, JoinsSidesUpTo, sides_none, sides_fewer, side_alone, side_passed, side_joined, sides_all}
+use Rattle.connectivity.proofs.RingLemmas.{HasPartner, IsAlone, partner_or_alone, partners_by_number, JoinsSidesUpTo, sides_none, sides_fewer, side_alone, side_passed, side_joined, sides_all}
 use Rattle.connectivity.proofs.corners.rings.Goals as goal
 use Rattle.connectivity.proofs.corners.rings.Goals.{then-other-dart, else-other-dart}
 
@@ -46,20 +46,15 @@ loop-at-preserved c =
     let more : JoinsSidesUpTo mesh c.if-other-dart.corners (n + 1) =
     elim c.if-other-dart.branch [
       | then-other-dart w ↦
-          (let made : AreMadeJoined mesh c.loop-at.corners w.join_across.new.corners side w.side_at.result = record {
-            count = w.join_across.ensures.count;
-            joined = w.join_across.ensures.joined;
-            kept = w.join_across.ensures.kept;
-            steps = w.join_across.ensures.steps;
-          } in
           elim found [
             | inl partner ↦
                 subst (λ (least : List ℕ). JoinsSidesUpTo mesh least (n + 1)) (sym w.corners-is)
-                (side_joined mesh c.loop-at.corners w.join_across.new.corners side w.side_at.result n next is refl partner made
+                (side_joined mesh c.loop-at.corners w.join_across.new.corners side w.side_at.result n next is refl partner
+                w.join_across.ensures
                 (partners_by_number mesh side w.side_at.result next partner w.side_at.ensures.side w.side_at.ensures.number)
                 c.loop-at.invariant)
             | inr alone ↦ absurd (omega (arith, alone.0, w.if-other-dart.true))
-          ])
+          ]
       | else-other-dart w ↦
           subst (λ (least : List ℕ). JoinsSidesUpTo mesh least (n + 1)) (sym w.corners-is)
           (elim found [
