@@ -2,6 +2,7 @@
 pub use Rattle.connectivity.proofs.CornerLemmas.{partners_swap, used_corner}
 pub use Rattle.connectivity.proofs.EdgeLemmas.{HasSideBetween, side_between}
 pub use Rattle.std.proofs.Common.{Bool, List, ap, append_assoc, arith, false, get_or, inl, inr, length, length-append, map, not, refl, subst, suc, sym, take, true, zero, ℕ, [], ◌++◌, ◌+◌, ◌-◌, ◌<◌, ◌∙◌, ◌∷◌, ◌≡◌, ◌≢◌, ◌≤◌, ◌⊎◌}
+pub use Rattle.std.proofs.Math.Bool.{not-not}
 pub use Rattle.std.proofs.lemmas.Bool.{cases_lt, eq-eqb, ne_eqb}
 pub use Rattle.std.proofs.lemmas.Bool.Decides.{nat_tests}
 pub use Rattle.std.proofs.lemmas.List.{get_or-append_right, get_or-map, get_or_append_left, get_or_default, length-map, map-append}

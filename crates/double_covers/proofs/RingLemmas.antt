@@ -1,7 +1,7 @@
 -- The corners at a vertex are not twisted where no edge has three sides. A corner with a bit has one at most that is ahead of it, across
 -- the side that the bit does not name, and is ahead of one at most; and turned round, what is ahead is behind. So no way ahead leads from
 -- it to itself turned round.
-use Rattle.double_covers.proofs.Common.{partners_swap, ◌≡◌, ◌≢◌, ◌⊎◌, inl, inr, ℕ, zero, suc, ◌<◌, ◌≤◌, Bool, true, false, not, List, [], ◌∷◌, length, refl, ap, sym, ◌∙◌, subst, arith, eq-eqb, ne_eqb, if◌then◌else◌, ◌==◌, IsTrue, ends_differ, IsSide, side_after, tail_of, head_of, FaceList, IsFaceList, face_at, next_corner, is_edge, ArePartners, IsPath, sides_between, Side, next_back}
+use Rattle.double_covers.proofs.Common.{partners_swap, ◌≡◌, ◌≢◌, ◌⊎◌, inl, inr, ℕ, zero, suc, ◌<◌, ◌≤◌, Bool, true, false, not, List, [], ◌∷◌, length, refl, ap, sym, ◌∙◌, subst, arith, not-not, eq-eqb, ne_eqb, if◌then◌else◌, ◌==◌, IsTrue, ends_differ, IsSide, side_after, tail_of, head_of, FaceList, IsFaceList, face_at, next_corner, is_edge, ArePartners, IsPath, sides_between, Side, next_back}
 use Rattle.connectivity.specs.Joined.{NoEdgeHasThreeSides}
 use Rattle.orientation.proofs.Partners.{one_partner}
 use Rattle.double_covers.specs.WaysRound.{Claim, IsClaimStep, IsTwisted}
@@ -86,19 +86,12 @@ record IsNext (mesh : FaceList) (here there : Claim) : Type 0 where
 abbrev turned_round : Claim → Claim
 turned_round x = record { corner = x.corner; against = not x.against }
 
-not_not : (b : Bool) → not (not b) ≡ b
-not_not true = refl
-not_not false = refl
-
 not_itself : (b : Bool) → b ≢ not b
 not_itself true e = cc
 not_itself false e = cc
 
 same_not : (a b : Bool) → not a ≡ not b → a ≡ b
-same_not true true e = refl
-same_not false false e = refl
-same_not true false e = cc
-same_not false true e = cc
+same_not a b e = sym (not-not a) ∙ ap not e ∙ not-not b
 
 both : (x y : Claim) → x.corner ≡ y.corner → x.against ≡ y.against → x ≡ y
 both x y p q =
@@ -181,7 +174,7 @@ module _ (mesh : FaceList) (valid : IsFaceList mesh) (few : NoEdgeHasThreeSides 
       side = p.partner;
       partner = p.side;
       partners = partners_swap mesh p.side p.partner p.partners;
-      from = subst (λ (b : Bool). IsDoor mesh p.vertex y.corner b p.partner) (sym (not_not y.against)) p.to;
+      from = subst (λ (b : Bool). IsDoor mesh p.vertex y.corner b p.partner) (sym (not-not y.against)) p.to;
       to = p.from;
     };
     other = λ x e. not_itself x.against (ap (λ (y : Claim). y.against) e);

@@ -1,6 +1,6 @@
 -- Edges along which ways round the vertices do not agree lead home round each face, and their cover is listed coherently once its faces are
 -- turned that go against the way at one of their corners.
-use Rattle.double_covers.proofs.Common.{◌≡◌, ◌≢◌, inl, inr, ℕ, zero, suc, ◌+◌, ◌-◌, ◌<◌, Bool, true, false, not, List, [], ◌∷◌, ◌++◌, length, map, get_or, take, refl, ap, sym, ◌∙◌, arith, length-append, eq-eqb, ne_eqb, nat_tests, get_or_append_left, get_or-append_right, if◌then◌else◌, ◌==◌, ends_differ, step_within, IsSide, side_after, tail_of, head_of, FaceList, IsFaceList, face_at, next_corner, ArePartners, IsOrientable, RunOppositely, is_flipped, Side, walked}
+use Rattle.double_covers.proofs.Common.{◌≡◌, ◌≢◌, inl, inr, ℕ, zero, suc, ◌+◌, ◌-◌, ◌<◌, Bool, true, false, not, List, [], ◌∷◌, ◌++◌, length, map, get_or, take, refl, ap, sym, ◌∙◌, arith, length-append, not-not, eq-eqb, ne_eqb, nat_tests, get_or_append_left, get_or-append_right, if◌then◌else◌, ◌==◌, ends_differ, step_within, IsSide, side_after, tail_of, head_of, FaceList, IsFaceList, face_at, next_corner, ArePartners, IsOrientable, RunOppositely, is_flipped, Side, walked}
 use Rattle.std.proofs.lemmas.List.FromFn.{length-map-range_with_len, get_or-map-range_with_len}
 use Rattle.std.specs.List.{range_with_len}
 use Rattle.double_covers.specs.Covers.{sheet_behind, over, lifted, AreTurns, cover_of}
@@ -13,22 +13,12 @@ abbrev pub either : Bool → Bool → Bool
 either a b = if a then not b else b
 
 steps_cancel : (s a b c : Bool) → (if either b c then not (either (either a b) s) else either (either a b) s) ≡ either (either a c) s
-steps_cancel true true true true = refl
-steps_cancel true true true false = refl
-steps_cancel true true false true = refl
-steps_cancel true true false false = refl
-steps_cancel true false true true = refl
-steps_cancel true false true false = refl
-steps_cancel true false false true = refl
-steps_cancel true false false false = refl
-steps_cancel false true true true = refl
-steps_cancel false true true false = refl
-steps_cancel false true false true = refl
-steps_cancel false true false false = refl
-steps_cancel false false true true = refl
-steps_cancel false false true false = refl
-steps_cancel false false false true = refl
-steps_cancel false false false false = refl
+steps_cancel s a true true = refl
+steps_cancel s a false false = refl
+steps_cancel s true true false = refl
+steps_cancel s false false true = refl
+steps_cancel s false true false = not-not s
+steps_cancel s true false true = not-not s
 
 none_left : (a s : Bool) → either (either a a) s ≡ s
 none_left true s = refl
@@ -121,6 +111,24 @@ other_sign false true true e = cc
 other_sign false true false e = refl
 other_sign false false true e = refl
 other_sign false false false e = cc
+
+-- sides that run alike run oppositely under signs that differ, and sides that do not under signs that are one
+alike : (a b c d : ℕ) (p q : Bool) → q ≡ not p → a ≡ c → b ≡ d → (if p then b else a) ≡ (if q then c else d)
+alike a b c d true q e f g = rw e g
+alike a b c d false q e f g = rw e f
+
+pub runs_alike : (mesh : FaceList) (signs : List Bool) (side other : Side)
+    → is_flipped signs other.face.0 ≡ not (is_flipped signs side.face.0)
+    → tail_of mesh side ≡ tail_of mesh other → head_of mesh side ≡ head_of mesh other → RunOppositely mesh signs side other
+runs_alike mesh signs side other e p q = record { starts = alike _ _ _ _ _ _ e p q; ends = alike _ _ _ _ _ _ e q p }
+
+across : (a b c d : ℕ) (p q : Bool) → q ≡ p → a ≡ d → b ≡ c → (if p then b else a) ≡ (if q then c else d)
+across a b c d true q e f g = rw e g
+across a b c d false q e f g = rw e f
+
+pub runs_across : (mesh : FaceList) (signs : List Bool) (side other : Side) → is_flipped signs other.face.0 ≡ is_flipped signs side.face.0
+    → tail_of mesh side ≡ head_of mesh other → head_of mesh side ≡ tail_of mesh other → RunOppositely mesh signs side other
+runs_across mesh signs side other e p q = record { starts = across _ _ _ _ _ _ e p q; ends = across _ _ _ _ _ _ e q p }
 
 pub record SameOver (s t : Bool) (u v : ℕ) : Type 0 where
   pub sheets : s ≡ t
@@ -261,7 +269,7 @@ module _ (mesh : FaceList) (against : Side → Bool) (turns : ℕ → ℕ → Bo
             ∙ ap (λ (b : Bool). if b then not (against one.low) else against one.low) test in
             let turned : t ≡ not s =
             other_sign (against one.low) s t (tails.sheets ∙ ap (λ (a : Bool). either a t) rule) in
-            alike cover (signs_of mesh against) side other turned e.0 e.1)
+            runs_alike cover (signs_of mesh against) side other turned e.0 e.1)
         | inr e ↦
             (let first = apart_over mesh.count (either (against one.low) s) (either (against (side_after mesh two.low)) t)
             (tail_of mesh one.low) (head_of mesh two.low) (tail_below one.low one.low_in) (head_below two.low two.low_in)
@@ -285,40 +293,8 @@ module _ (mesh : FaceList) (against : Side → Bool) (turns : ℕ → ℕ → Bo
             ∙ ap (λ (b : Bool). if b then not (against one.low) else against one.low) test in
             let kept : s ≡ t =
             same_sign (against one.low) s t (first.sheets ∙ ap (λ (a : Bool). either a t) rule) in
-            across cover (signs_of mesh against) side other kept e.0 e.1)
+            runs_across cover (signs_of mesh against) side other (sym kept) e.0 e.1)
       ]
-    where
-      alike : (cover : FaceList) (signs : List Bool) (side other : Side)
-          → is_flipped signs other.face.0 ≡ not (is_flipped signs side.face.0)
-          → tail_of cover side ≡ tail_of cover other → head_of cover side ≡ head_of cover other → RunOppositely cover signs side other
-      alike cover signs side other e p q = record {
-        starts =
-            rw e (by (is_flipped signs side.face.0) (tail_of cover side) (head_of cover side) (tail_of cover other)
-            (head_of cover other) p q);
-        ends =
-            rw e (by (is_flipped signs side.face.0) (head_of cover side) (tail_of cover side) (head_of cover other)
-            (tail_of cover other) q p);
-      }
-        where
-          by : (s : Bool) (a b c d : ℕ) → a ≡ c → b ≡ d → (if s then b else a) ≡ (if not s then c else d)
-          by true a b c d p q = q
-          by false a b c d p q = p
-
-      across : (cover : FaceList) (signs : List Bool) (side other : Side)
-          → is_flipped signs side.face.0 ≡ is_flipped signs other.face.0
-          → tail_of cover side ≡ head_of cover other → head_of cover side ≡ tail_of cover other → RunOppositely cover signs side other
-      across cover signs side other e p q = record {
-        starts =
-            rw e (by (is_flipped signs other.face.0) (tail_of cover side) (head_of cover side) (tail_of cover other)
-            (head_of cover other) p q);
-        ends =
-            rw e (by (is_flipped signs other.face.0) (head_of cover side) (tail_of cover side) (head_of cover other)
-            (tail_of cover other) q p);
-      }
-        where
-          by : (s : Bool) (a b c d : ℕ) → a ≡ d → b ≡ c → (if s then b else a) ≡ (if s then c else d)
-          by true a b c d p q = q
-          by false a b c d p q = p
 
   pub cover_orientable : IsOrientable (cover_of mesh turns)
   cover_orientable =
