@@ -12,32 +12,34 @@ pub use Rattle.labellings.specs.WalkWords.{IsWordOf, in_pairs}
 pub use Rattle.settling.proofs.Rows.{along, upto, upto-cons}
 pub use Rattle.settling.proofs.Settling.{row-follows, upto-shut, within_budget}
 pub use Rattle.settling.specs.TurnRows.{IsCanonicalRow, entries}
+pub use Rattle.spoke_paths.proofs.StepsKeep.{KeepsSteps, LeadAlike, states-keep}
 pub use Rattle.spoke_rings.proofs.Along.{along-first, along-round, rotated, rotated-along, rotated-length}
 pub use Rattle.spoke_rings.proofs.Fine.{along-below}
-pub use Rattle.spoke_rings.proofs.RingTurns.{loop-rotated, place-below, stands-even, stands-odd, turn_at}
+pub use Rattle.spoke_rings.proofs.RingTurns.{place-below, stands-even, stands-odd, turn_at}
 pub use Rattle.spoke_rings.specs.CyclicWords.{IsCyclicallyCanonical, IsFullWheel, IsLoop, cyclic_turn, spoke_along, stands_before}
-pub use Rattle.spoke_rings.specs.LoopSteps.{LoopLeads, LoopStep, across, across_quad, after_loop_step, after_loop_steps, rotate, spur_comes, spur_in, spur_out}
+pub use Rattle.spoke_rings.specs.LoopSteps.{LoopLeads}
 pub use Rattle.spoke_rings.specs.Rotations.{IsRotation}
-pub use Rattle.std.proofs.Common.{All, Bool, List, ap, append_assoc, ap₂, arith, drop, eqb, false, get_or, inl, inr, length, ltb, not, refl, replicate, reverse, subst, suc, sym, take, true, zero, ℕ, [], ◌%◌, ◌&&◌, ◌*◌, ◌++◌, ◌+◌, ◌-◌, ◌<◌, ◌∙◌, ◌∷◌, ◌≡◌, ◌≢◌, ◌≤◌, ◌⊎◌}
+pub use Rattle.std.proofs.Common.{All, Bool, List, ap, append_assoc, ap₂, arith, drop, false, get_or, inl, inr, length, not, refl, replicate, reverse, subst, suc, sym, take, true, zero, ℕ, [], ◌%◌, ◌*◌, ◌++◌, ◌+◌, ◌-◌, ◌<◌, ◌∙◌, ◌∷◌, ◌≡◌, ◌≢◌, ◌≤◌, ◌⊎◌}
 pub use Rattle.std.proofs.Math.Seq.{drop-append_seam, get_or-append_seam, take-append_seam}
-pub use Rattle.std.proofs.lemmas.Bool.{and_parts, cases_Bool, cases_eq, cases_lt, eq-eqb, eqb-true, le-ltb, lt-ltb, ltb-true, ne_eqb}
+pub use Rattle.std.proofs.lemmas.Bool.{cases_Bool, cases_eq, cases_lt}
 pub use Rattle.std.proofs.lemmas.List.{append-nil, length-append, length-drop, length-reverse, length-take-le, nil_from_length, reverse-append, reverse-reverse, take-append-drop, take-append-le}
-pub use Rattle.std.proofs.lemmas.List.Elements.{All-append, All-nil, All-take}
+pub use Rattle.std.proofs.lemmas.List.Elements.{All-append, All-cons, All-nil, All-take}
 pub use Rattle.std.specs.Prelude.{Some, if◌then◌else◌, option_and_then, ℤ, ◌==◌}
 pub use Rattle.surf_model.proofs.ContextLemmas.{first_answer}
 pub use Rattle.surf_model.specs.FaceLists.{FaceList, IsFaceList}
 pub use Rattle.surf_model.specs.Moves.{apply_all}
 pub use Rattle.turn_words.proofs.Led.{led-append}
 pub use Rattle.turn_words.proofs.Reading.{IsSound, state}
-pub use Rattle.turn_words.proofs.Spokes.{Counts, Stands, counts-next, counts-turn}
-pub use Rattle.turn_words.specs.FormLaws.{StartsWell, StaysWell, led}
-pub use Rattle.turn_words.specs.HyperStates.{BelongsTo, HyperState, IsEven, IsHyperWheel, empty_state, hyper_next, turn_to, value_at}
+pub use Rattle.turn_words.proofs.Spokes.{Counts, Stands, canonical, counts-next, counts-turn}
+pub use Rattle.turn_words.specs.FormLaws.{IsQuad, led}
+pub use Rattle.turn_words.specs.HyperStates.{BelongsTo, HyperState, IsEven, empty_state, hyper_next, turn_to}
 pub use Rattle.turn_words.specs.Lemmas.FromEnd.{all-from, in-range-from, in-range-reverse}
 pub use Rattle.turn_words.specs.Lemmas.HyperLaws.{good_word, hyper_across, hyper_starts, hyper_stays, hyper_there_and_back, length-next, next_belongs}
 pub use Rattle.turn_words.specs.Lemmas.Lists.{InRange, reverse-cons, reverse-next}
 pub use Rattle.turn_words.specs.Lemmas.PutLaws.{cases, close, flip, other, put-back, spur}
-pub use Rattle.turn_words.specs.Lemmas.Sums.{add-cases, add-lt, add-minus, add-zero, minus-cases, minus-lt, minus-one, minus-two}
+pub use Rattle.turn_words.specs.Lemmas.Sums.{add-cases, add-lt, add-zero, minus-cases, minus-lt, minus-two}
 pub use Rattle.turn_words.specs.Lemmas.WordEnds.{IsCons, closed-two, flipped-end, flipped-run, good-cons, open-cases, open-other, open-two, put-close, put-else, put-flip}
 pub use Rattle.turn_words.specs.Modulo.{add, minus}
 pub use Rattle.turn_words.specs.PutTurns.{Put, closed, flipped, is_open, put, put_last}
-pub use Rattle.turn_words.specs.SpokePaths.{place_round}
+pub use Rattle.turn_words.specs.SpokePaths.{place_round, turn_word_of}
+pub use Rattle.turn_words.specs.StepTable.{Reaches}

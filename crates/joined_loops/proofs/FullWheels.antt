@@ -1,10 +1,6 @@
 -- A full wheel has the quads of a polygon. So lists of spokes are the same, in all that spurs and quads keep, where their turn words reach
 -- one word.
-use Rattle.joined_loops.proofs.Common.{IsFullWheel, ◌≡◌, ◌⊎◌, inl, inr, ℕ, ◌<◌, ◌≤◌, Bool, true, List, All, length, get_or, arith, cases_lt, add-lt, add}
-use Rattle.turn_words.specs.FormLaws.{IsQuad}
-use Rattle.turn_words.specs.SpokePaths.{turn_word_of}
-use Rattle.turn_words.specs.StepTable.{Reaches}
-use Rattle.spoke_paths.proofs.StepsKeep.{KeepsSteps}
+use Rattle.joined_loops.proofs.Common.{KeepsSteps, IsFullWheel, ◌⊎◌, inl, inr, ℕ, ◌<◌, ◌≤◌, Bool, true, List, All, length, get_or, arith, cases_lt, IsQuad, add-lt, add, turn_word_of, Reaches}
 use Rattle.spoke_paths.proofs.QuadWheels.{HasPlace, placed}
 use Rattle.spoke_paths.proofs.WordsKeep.{IsQuadWheel, one_partner, same_word}
 

@@ -1,11 +1,6 @@
 -- On a full wheel the number of a state that was reached from the start belongs to its word: elementary steps lead from the turn words of
 -- all lists that lead there to that word, and what these are made of, spurs and quads, keeps the state.
-use Rattle.joined_loops.proofs.Common.{IsFullWheel, ◌≡◌, ℕ, ◌<◌, ◌≤◌, arith, refl, sym, ◌∙◌, ap, subst, Bool, true, false, List, [], ◌∷◌, ◌++◌, All, All-append, All-nil, length, led, led-append, HyperState, IsEven, empty_state, hyper_next, BelongsTo, in-range-from, hyper_starts, hyper_stays, hyper_there_and_back, hyper_across, InRange, add-cases, minus-cases, add-lt, minus-lt, add, minus, place_round}
-use Rattle.std.proofs.lemmas.List.Elements.{All-cons}
-use Rattle.turn_words.proofs.Spokes.{canonical}
-use Rattle.turn_words.specs.SpokePaths.{turn_word_of}
-use Rattle.turn_words.specs.StepTable.{Reaches}
-use Rattle.spoke_paths.proofs.StepsKeep.{KeepsSteps, LeadAlike, states-keep}
+use Rattle.joined_loops.proofs.Common.{KeepsSteps, LeadAlike, states-keep, IsFullWheel, ◌≡◌, ℕ, ◌<◌, ◌≤◌, arith, refl, sym, ◌∙◌, ap, subst, Bool, true, false, List, [], ◌∷◌, ◌++◌, All, length, All-append, All-nil, All-cons, led-append, canonical, led, HyperState, IsEven, empty_state, hyper_next, BelongsTo, hyper_starts, hyper_stays, hyper_there_and_back, hyper_across, InRange, add-cases, minus-cases, add-lt, minus-lt, add, minus, place_round, turn_word_of, Reaches}
 use Rattle.joined_loops.proofs.FullWheels.{same_lists}
 
 module _ (d : ℕ) (five : 5 ≤ d) where

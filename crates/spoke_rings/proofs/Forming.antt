@@ -1,5 +1,5 @@
 -- A ring that was reduced, and taken across all quads beside it if its turns are all -2, is cyclically canonical.
-use Rattle.spoke_rings.proofs.Common.{◌≡◌, ℕ, ◌<◌, ◌≤◌, inl, inr, arith, refl, sym, ◌∙◌, ap, subst, true, List, [], length, cases_eq, nil_from_length, if◌then◌else◌, minus}
+use Rattle.spoke_rings.proofs.Common.{◌≡◌, ℕ, ◌<◌, ◌≤◌, inl, inr, arith, refl, sym, ◌∙◌, ap, subst, true, List, length, cases_eq, nil_from_length, if◌then◌else◌, minus}
 use Rattle.spoke_rings.specs.CyclicWords.{IsLoop, IsFullWheel, IsCyclicallyCanonical, turn_along, cyclic_turn}
 use Rattle.spoke_rings.specs.LoopSteps.{LoopLeads}
 use Rattle.spoke_rings.specs.Private.Rings.{RingView, ring_turn, from_vertex, Acts, IsFineRing, TurnsOver}

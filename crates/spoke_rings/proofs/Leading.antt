@@ -1,6 +1,5 @@
 -- Which loop steps lead from one closed list to another.
-use Rattle.spoke_rings.proofs.Common.{◌≡◌, ℕ, ◌+◌, ◌%◌, ◌<◌, arith, refl, sym, ◌∙◌, ap, ap₂, Bool, true, false, not, List, [], ◌∷◌, ◌++◌, length, Option, Some, None, append_assoc, drop-append_seam, take-append_seam, eq-eqb, lt-ltb, and_from, length-append, option_map, option_and_then, IsQuad, add}
-use Rattle.spoke_paths.specs.PathSteps.{is_quad, from_spoke, spur_goes}
+use Rattle.spoke_rings.proofs.Common.{is_quad, from_spoke, spur_goes, ◌≡◌, ℕ, ◌+◌, ◌%◌, ◌<◌, arith, refl, sym, ◌∙◌, ap, ap₂, Bool, true, false, not, List, [], ◌∷◌, ◌++◌, length, Option, Some, None, append_assoc, drop-append_seam, take-append_seam, eq-eqb, lt-ltb, and_from, length-append, option_map, option_and_then, IsQuad, add}
 use Rattle.spoke_rings.specs.LoopSteps.{LoopStep, spur_out, spur_in, across, rotate, spur_comes, after_loop_step, after_loop_steps, LoopLeads}
 
 module _ (places : List ℕ) where

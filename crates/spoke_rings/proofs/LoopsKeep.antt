@@ -1,12 +1,9 @@
 -- What spurs and quads keep, steps on closed lists keep too, where their rotations do; and closed lists of spokes of the wheel they stay.
-use Rattle.spoke_rings.proofs.Common.{◌≡◌, ℕ, ◌+◌, ◌%◌, ◌<◌, ◌⊎◌, inl, inr, arith, refl, sym, ◌∙◌, subst, Bool, true, false, List, [], ◌∷◌, ◌++◌, take, drop, length, Option, Some}
-use Rattle.std.proofs.lemmas.Bool.{and_parts, eqb-true, ltb-true}
+use Rattle.spoke_rings.proofs.Common.{spur_goes, ◌≡◌, ℕ, ◌+◌, ◌%◌, ◌<◌, ◌⊎◌, inl, inr, arith, refl, sym, ◌∙◌, subst, Bool, true, false, List, [], ◌∷◌, ◌++◌, take, drop, length, Some, and_parts, eqb-true, ltb-true, ◌==◌, ◌&&◌, nat_lt}
+use Rattle.spoke_paths.proofs.StepsKeep.{KeepsSteps, Keeps, spur-keeps, turn-keeps, from-keeps}
 use Rattle.std.proofs.lemmas.Option.{cond_some, option_and_then_some}
-use Rattle.std.specs.Prelude.{◌==◌, ◌&&◌, nat_lt}
 use Rattle.turn_words.specs.Lemmas.FromEnd.{all-from, in-range-from}
 use Rattle.turn_words.specs.Lemmas.Lists.{InRange}
-use Rattle.spoke_paths.specs.PathSteps.{spur_goes}
-use Rattle.spoke_paths.proofs.StepsKeep.{KeepsSteps, Keeps, spur-keeps, turn-keeps, from-keeps}
 use Rattle.spoke_rings.specs.CyclicWords.{IsLoop}
 use Rattle.spoke_rings.specs.LoopSteps.{LoopStep, spur_out, spur_in, across, rotate, spur_comes, across_quad, after_loop_step, after_loop_steps, LoopLeads}
 use Rattle.spoke_rings.specs.Rotations.{IsRotation}
