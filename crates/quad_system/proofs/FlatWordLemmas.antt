@@ -1,14 +1,14 @@
 -- Walks on a torus: with four sides, walks with common ends are homotopic exactly where their quad paths lead the flat form to one
 -- point. From one point to moves: a walk is the product of its spokes, and that product depends on the point alone.
-use Rattle.quad_system.proofs.Common.{spokes_of, sum_of_pairs, origin, dart_between, next_of, origin_of, OrientedMesh, IsOrientedSurface, rotations_of, PutLaws, moves_keep, spokes, spokes_by_labels, quad_path, IsGroup, quotient, four_places, IsWay, SameLoop, loop_mul, loop_inv, loop_one, loop_of, from_loops, spoke_product, Loops, spoke, group_of, up, tree_ways, walk_way, other_way, PolygonView, IsCutFrom, label_of, place_of, across, ◌≡◌, ◌↔◌, inl, inr, ℕ, suc, ◌<◌, true, ◌&&◌, eqb, List, [], ◌∷◌, ◌++◌, length, refl, ap, sym, ◌∙◌, subst, arith, cases_Bool, cases_eq, All, slice_index, Homotopic, IsWalk, HaveCommonEnds, SplitView, IsSplit, led, add-cases, add-lt, add, minus}
-use Rattle.flat_forms.proofs.SumsOfPairs.{leads-to-sum}
+use Rattle.quad_system.proofs.Common.{spokes_of, sum_of_pairs, origin, OrientedMesh, IsOrientedSurface, rotations_of, PutLaws, flat_wheel_of_good, quad_path_below, quad_path_in_pairs, quad_path_leads_to_sum, IsGood, LabellingView, quad_path, IsGroup, quotient, IsWay, SameLoop, loop_mul, loop_inv, loop_one, loop_of, from_loops, spoke_product, Loops, spoke, group_of, up, tree_ways, walk_way, other_way, PolygonView, IsCutFrom, place_of, across, ◌≡◌, ◌↔◌, inl, inr, ℕ, suc, ◌<◌, true, List, [], ◌∷◌, length, ap, sym, ◌∙◌, subst, arith, cases_eq, All, slice_index, Homotopic, IsWalk, HaveCommonEnds, SplitView, IsSplit, led, add-cases, add-lt, add, minus}
 use Rattle.flat_forms.specs.FlatStates.{IsEven, IsFlatWheel, flat_next}
 use Rattle.flat_forms.specs.Lemmas.FlatLaws.{flat_starts, flat_stays, flat_there_and_back, flat_across}
+use Rattle.labellings.proofs.KeepingLemmas.{moves_keep}
+use Rattle.labellings.specs.WalkWords.{in_pairs}
 use Rattle.quad_system.specs.PolygonLabellings.{labelling_from}
-use Rattle.quad_system.proofs.PolygonLabelLemmas.{polygon_good, up_is_add}
+use Rattle.quad_system.proofs.PolygonLabelLemmas.{polygon_good}
 use Rattle.quad_system.proofs.ReadingLemmas.{HasQuads}
-use Rattle.quad_system.proofs.SpokeProductLemmas.{DartSpokes, dart_spokes, polygon_quads, spoke_at, walk_product}
-use Rattle.quad_system.proofs.EqualWordLemmas.{path_below}
+use Rattle.quad_system.proofs.SpokeProductLemmas.{polygon_quads, spoke_at, walk_product}
 use Rattle.quad_system.proofs.PlaneGroupLemmas.{along_first, along_second, over_firsts, over_seconds, AreBelow, balance, undo, right_off, grid, Over, over_product, over_same}
 
 -- places that rise by one with the spokes
@@ -149,58 +149,10 @@ module _ {X : Type 0} (Same : X → X → Type 0) (mul : X → X → X) (inv : X
       (over_seconds along_second others)
       (pairs_over pairs h) (pairs_over others k) even.0 even.1
 
--- the quad path of a walk, in pairs
-path_pairs : (s : OrientedMesh) (split : SplitView) (polygon : PolygonView) → IsOrientedSurface s → IsSplit s split
-    → IsCutFrom s split polygon → 0 < polygon.degree
-    → (u v : ℕ) (rest : List ℕ) → IsWay s.mesh u v rest → (pairs : List (ℕ × ℕ))
-    × (quad_path s.mesh (labelling_from s polygon) (u ∷ rest) ≡ spokes_of pairs)
-path_pairs s split polygon o t c some u v [] way = ([], refl)
-path_pairs s split polygon o t c some u v (w ∷ rest) way =
-    let found = dart_between s o u w way.0 in
-    let d : ℕ = found.0 in
-    let labels : DartSpokes s polygon d = dart_spokes s split polygon o t c some d found.1.within in
-    let x : ℕ = label_of polygon d in
-    let y : ℕ = label_of polygon (next_of s d) in
-    let more = path_pairs s split polygon o t c some w v rest way.1 in
-    let path : quad_path s.mesh (labelling_from s polygon) (u ∷ w ∷ rest) ≡ spokes_by_labels x y labels.c labels.e ++ spokes_of more.0 =
-    ap (λ z. spokes s.mesh (labelling_from s polygon) z w ++ quad_path s.mesh (labelling_from s polygon) (w ∷ rest)) (sym found.1.starts)
-    ∙ ap (λ z. spokes s.mesh (labelling_from s polygon) (origin_of s d) z ++ quad_path s.mesh (labelling_from s polygon) (w ∷ rest))
-    (sym found.1.ends)
-    ∙ ap (λ (q : List ℕ). q ++ quad_path s.mesh (labelling_from s polygon) (w ∷ rest)) labels.are
-    ∙ ap (λ (q : List ℕ). spokes_by_labels x y labels.c labels.e ++ q) more.1 in
-    elim (cases_Bool (eqb x y && eqb labels.c labels.e)) [
-      | inl tree ↦ (more.0, path ∙ (rw tree refl))
-      | inr other ↦ ((x, y) ∷ more.0, path ∙ (rw other refl))
-    ]
-
 pairs_below : (n : ℕ) (pairs : List (ℕ × ℕ)) → All (λ i. i < n) (spokes_of pairs) → AreBelow n pairs
 pairs_below n [] h = tt
 pairs_below n (pair ∷ pairs) h =
     (h 0 pair.0 (omega arith), h 1 pair.1 (omega arith), pairs_below n pairs (λ k x l. h (suc (suc k)) x (omega arith)))
-
--- the places of a polygon with four sides
-flat_wheel : (s : OrientedMesh) (split : SplitView) (polygon : PolygonView) → IsOrientedSurface s → IsSplit s split
-    → IsCutFrom s split polygon → polygon.degree ≡ 4
-    → IsFlatWheel polygon.places × Rises (place_of polygon)
-flat_wheel s split polygon o t c four =
-    let some : 0 < polygon.degree = omega arith in
-    let h = c.places some in
-    let count : length polygon.places ≡ 4 = h.each_spoke ∙ four in
-    let below : (i : ℕ) → i < 4 → place_of polygon i < 4 = λ i l. subst (λ n. place_of polygon i < n) four (h.below i (omega arith)) in
-    let rises : Rises (place_of polygon) =
-    λ i l.
-    ap (place_of polygon) (up_is_add 4 i l) ∙ four_places s split polygon i o t c four l
-    ∙ sym (up_is_add 4 (place_of polygon i) (below i l)) in (
-      record {
-        four = count;
-        wheel = record {
-          inside = λ i l. subst (λ n. slice_index polygon.places i < n) (sym count) (below i (omega arith));
-          once = λ i j l k e. h.apart i j (omega arith) (omega arith) e;
-        };
-        rises = rises;
-      },
-      rises,
-    )
 
 -- walks from one vertex that lead to one point are homotopic
 one_point : (s : OrientedMesh) (split : SplitView) (polygon : PolygonView) (o : IsOrientedSurface s) (t : IsSplit s split)
@@ -211,40 +163,41 @@ one_point : (s : OrientedMesh) (split : SplitView) (polygon : PolygonView) (o : 
     → Homotopic s.mesh (u ∷ rest) (u ∷ others)
 one_point s split polygon o t c four u v rest others way along same =
     let some : 0 < polygon.degree = omega arith in
+    let labelling : LabellingView = labelling_from s polygon in
+    let good : IsGood s.mesh labelling = polygon_good s split polygon o t c some in
+    let flat : IsFlatWheel polygon.places = flat_wheel_of_good s.mesh labelling good four in
     let group = group_of s split t in
     let nothing : Loops s split t = loop_one s.mesh t.parents.root t.parents.root_used in
     let element : ℕ → Loops s split t = spoke s split o t polygon in
-    let p = path_pairs s split polygon o t c some u v rest way in
-    let q = path_pairs s split polygon o t c some u v others along in
+    let path : List ℕ → List ℕ = λ walk. quad_path s.mesh labelling (u ∷ walk) in
+    let p : List (ℕ × ℕ) = in_pairs (path rest) in
+    let q : List (ℕ × ℕ) = in_pairs (path others) in
+    let below : (walk : List ℕ) → AreBelow 4 (in_pairs (path walk)) =
+    λ walk. pairs_below 4 (in_pairs (path walk)) (subst (All (λ i. i < 4)) (sym (quad_path_in_pairs s.mesh labelling (u ∷ walk)))
+    (subst (λ n. All (λ i. i < n) (path walk)) flat.four (quad_path_below s.mesh labelling good (u ∷ walk)))) in
     let x : Loops s split t = loop_of s.mesh t.parents.root (up s split t) (tree_ways s split o t) u v rest way in
     let y : Loops s split t = loop_of s.mesh t.parents.root (up s split t) (tree_ways s split o t) u v others along in
     let product : List ℕ → Loops s split t = spoke_product loop_mul loop_inv nothing element true in
-    let p_below : AreBelow 4 p.0 = pairs_below 4 p.0 (subst (All (λ i. i < 4)) p.1
-    (subst (λ n. All (λ i. i < n) (quad_path s.mesh (labelling_from s polygon) (u ∷ rest))) four
-    (path_below s split polygon o t c some u v rest way))) in
-    let q_below : AreBelow 4 q.0 = pairs_below 4 q.0 (subst (All (λ i. i < 4)) q.1
-    (subst (λ n. All (λ i. i < n) (quad_path s.mesh (labelling_from s polygon) (u ∷ others))) four
-    (path_below s split polygon o t c some u v others along))) in
-    let sums : sum_of_pairs p.0 ≡ sum_of_pairs q.0 =
-    sym (leads-to-sum polygon.places p.0) ∙ ap (led flat_next polygon.places origin) (sym p.1) ∙ same
-    ∙ ap (led flat_next polygon.places origin) q.1 ∙ leads-to-sum polygon.places q.0 in
+    let sums : sum_of_pairs p ≡ sum_of_pairs q =
+    sym (quad_path_leads_to_sum s.mesh labelling (u ∷ rest)) ∙ same ∙ quad_path_leads_to_sum s.mesh labelling (u ∷ others) in
     let quads : HasQuads {X = Loops s split t} SameLoop loop_mul loop_inv element 4 (place_of polygon) (spoke_at polygon)
     (across (rotations_of s) polygon) =
     subst (λ n. HasQuads {X = Loops s split t} SameLoop loop_mul loop_inv element n (place_of polygon) (spoke_at polygon)
     (across (rotations_of s) polygon)) four
     (polygon_quads s split o t polygon c some) in
     let four_quads : Torus {X = Loops s split t} SameLoop loop_mul loop_inv element =
-    torus SameLoop loop_mul loop_inv element (place_of polygon) (spoke_at polygon) (across (rotations_of s) polygon) quads
-    (flat_wheel s split polygon o t c four).1 in
-    let equal : SameLoop (product (spokes_of p.0)) (product (spokes_of q.0)) =
-    same_product SameLoop loop_mul loop_inv nothing group element four_quads p.0 q.0 p_below q_below sums in
-    let first : SameLoop x (product (spokes_of p.0)) =
-    subst (λ w. SameLoop x (product w)) p.1 (walk_product s split o t polygon c some u v rest way) in
-    let second : SameLoop y (product (spokes_of q.0)) =
-    subst (λ w. SameLoop y (product w)) q.1 (walk_product s split o t polygon c some u v others along) in
+    torus SameLoop loop_mul loop_inv element (place_of polygon) (spoke_at polygon) (across (rotations_of s) polygon) quads flat.rises in
+    let equal : SameLoop (product (spokes_of p)) (product (spokes_of q)) =
+    same_product SameLoop loop_mul loop_inv nothing group element four_quads p q (below rest) (below others) sums in
+    let first : SameLoop x (product (spokes_of p)) =
+    subst (λ w. SameLoop x (product w)) (sym (quad_path_in_pairs s.mesh labelling (u ∷ rest)))
+    (walk_product s split o t polygon c some u v rest way) in
+    let second : SameLoop y (product (spokes_of q)) =
+    subst (λ w. SameLoop y (product w)) (sym (quad_path_in_pairs s.mesh labelling (u ∷ others)))
+    (walk_product s split o t polygon c some u v others along) in
     from_loops s.mesh t.parents.root (up s split t) (tree_ways s split o t) u v rest others way along
-    (group.on x (product (spokes_of p.0)) y first
-    (group.on (product (spokes_of p.0)) (product (spokes_of q.0)) y equal (group.turn y (product (spokes_of q.0)) second)))
+    (group.on x (product (spokes_of p)) y first
+    (group.on (product (spokes_of p)) (product (spokes_of q)) y equal (group.turn y (product (spokes_of q)) second)))
 
 -- walks with common ends are homotopic exactly where they lead to one point
 pub one_sum : (s : OrientedMesh) (split : SplitView) (polygon : PolygonView) (first second : List ℕ) → IsOrientedSurface s
@@ -261,16 +214,16 @@ one_sum s split polygon (u ∷ rest) [] o t c four w z ends =
     absurd (omega arith)
 one_sum s split polygon (u ∷ rest) (v ∷ others) o t c four w z ends = (
   (λ homotopic.
-      let own : IsFlatWheel polygon.places = (flat_wheel s split polygon o t c four).0 in
+      let good : IsGood s.mesh (labelling_from s polygon) = polygon_good s split polygon o t c (omega arith) in
       let laws : PutLaws polygon.places flat_next (λ _. IsFlatWheel polygon.places) IsEven = record {
         stays = λ x i b l. flat_stays.belongs polygon.places x i b l;
         vertex = λ x i j b e l m. flat_stays.at_vertex polygon.places x i j b e l m;
         back = λ x i b l. flat_there_and_back polygon.places x i b l;
         quad = λ x a d b e q. flat_across polygon.places x a d b e q;
       } in
-      moves_keep s.mesh (labelling_from s polygon) flat_next (λ _. IsFlatWheel polygon.places) IsEven laws o.faces
-      (polygon_good s split polygon o t c (omega arith))
-      homotopic.0 (u ∷ rest) (v ∷ others) w homotopic.1 origin (own, flat_starts.at_vertex)),
+      moves_keep s.mesh (labelling_from s polygon) flat_next (λ _. IsFlatWheel polygon.places) IsEven laws o.faces good
+      homotopic.0 (u ∷ rest) (v ∷ others) w homotopic.1 origin
+      (flat_wheel_of_good s.mesh (labelling_from s polygon) good four, flat_starts.at_vertex)),
   (λ same.
       subst (λ x. Homotopic s.mesh (u ∷ rest) (x ∷ others)) ends.starts
       (one_point s split polygon o t c four u (slice_index (u ∷ rest) (length rest)) rest others (walk_way s.mesh u rest w)

@@ -1,9 +1,8 @@
 -- The spokes of a walk with those of the side across in place of the last side's: every form that meets the two laws is led to the same
 -- state as by the quad path.
-use Rattle.quad_system.proofs.Common.{dart_between, rotation_system, darts_of, next_of, origin_of, edge_of, OrientedMesh, IsOrientedSurface, rotations_of, IsDartFrom, PutLaws, pair, pair_belongs, led-append, labels_do, spokes, spokes_by_labels, quad_path, labels_ride, IsWay, Crosses, sides_cross, up_plain, walk_way, PolygonView, IsCutFrom, label_of, place_of, across, one_up, HasFreeSpokes, HaveFreeSpokes, last_side, across_last, spokes_along, ◌≡◌, ◌≢◌, inl, inr, ℕ, ◌+◌, ◌-◌, ◌<◌, true, not, List, [], ◌∷◌, length, get_or, refl, ap, sym, ◌∙◌, subst, arith, cases_eq, nat_tests, All-append, All-nil, All-cons, All, slice_index, IsWalk, after_dart, SplitView, IsSplit, in_cotree, is_left, IsQuad, led, add}
+use Rattle.quad_system.proofs.Common.{dart_between, rotation_system, darts_of, next_of, origin_of, edge_of, OrientedMesh, IsOrientedSurface, rotations_of, IsDartFrom, PutLaws, pair, pair_belongs, led-append, labels_do, spokes, spokes_by_labels, quad_path, labels_ride, IsWay, Crosses, sides_cross, up_plain, walk_way, PolygonView, IsCutFrom, label_of, place_of, across, one_up, HasFreeSpokes, HaveFreeSpokes, last_side, across_last, spokes_along, IsQuadWheel, quad_of, ◌≡◌, ◌≢◌, inl, inr, ℕ, ◌+◌, ◌-◌, ◌<◌, true, not, List, [], ◌∷◌, length, refl, ap, sym, ◌∙◌, subst, arith, cases_eq, nat_tests, All-append, All-nil, All-cons, All, slice_index, IsWalk, after_dart, SplitView, IsSplit, in_cotree, is_left, IsQuad, led, add}
 use Rattle.quad_system.specs.PolygonLabellings.{labelling_from}
 use Rattle.quad_system.proofs.PolygonLabelLemmas.{up_is_add}
-use Rattle.spoke_paths.proofs.WordsKeep.{IsQuadWheel, quad_of}
 use Rattle.quad_system.proofs.SpokeProductLemmas.{DartSpokes, dart_spokes, places_quads, spoke_at}
 
 -- the wheel of the places of a polygon, by the number of places

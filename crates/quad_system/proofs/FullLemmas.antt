@@ -1,5 +1,5 @@
 -- The labelling of a polygon is full: the sides of its leftover edges are those of the polygon, each with its own number at its tail.
-use Rattle.quad_system.proofs.Common.{numbered, one_face, one_place, edge-twin, IsNumberOf, number_below, HasSide, side_with_number, twin-twin, partner_is_twin, darts_of, next_of, twin_of, edge_of, OrientedMesh, IsOrientedSurface, rotations_of, HasPartner, partner_of, LabellingView, tail_label, head_label, labels_ride, is_own_side, PolygonView, IsCutFrom, KindLabels, side_at, label_of, one_up, ◌≡◌, ◌≢◌, ◌⊎◌, inl, inr, ℕ, ◌+◌, ◌<◌, ◌≤◌, Bool, true, false, length, refl, ap, sym, ◌∙◌, subst, arith, IsSide, side_number, FaceList, Side, one_of_three, OneOfThree, tree_one, cotree_one, left_one, after_dart, SplitView, IsSplit, in_tree, in_cotree, is_left, add}
+use Rattle.quad_system.proofs.Common.{numbered, one_face, one_place, edge-twin, IsNumberOf, number_below, HasSide, side_with_number, twin-twin, partner_is_twin, darts_of, next_of, twin_of, edge_of, OrientedMesh, IsOrientedSurface, rotations_of, HasPartner, partner_of, LabellingView, tail_label, head_label, labels_ride, is_own_side, PolygonView, IsCutFrom, KindLabels, side_at, label_of, one_up, ◌≡◌, inl, inr, ℕ, ◌<◌, Bool, true, length, refl, ap, sym, ◌∙◌, subst, arith, IsSide, side_number, FaceList, Side, one_of_three, OneOfThree, tree_one, cotree_one, left_one, after_dart, SplitView, IsSplit, in_tree, in_cotree, is_left, add}
 use Rattle.quad_system.specs.PolygonLabellings.{labelling_from, IsFull, IsLeftoverSide}
 use Rattle.quad_system.proofs.PolygonLabelLemmas.{polygon_good, up_is_add, up_moves, two_up_moves, degree_is, LabelsOfSide, labels_of_side}
 

@@ -1,9 +1,7 @@
 -- Lists of spokes read as products in a group: each spoke puts its element at the vertex, and takes it away in the middle. Where the quads
 -- hold in the group, this is kept by spurs and quads.
-use Rattle.quad_system.proofs.Common.{IsGroup, quotient, spoke_product, ◌≡◌, ℕ, ◌<◌, Bool, true, false, not, List, [], ◌∷◌, length, get_or, refl, subst, IsQuad, add}
+use Rattle.quad_system.proofs.Common.{IsGroup, quotient, spoke_product, KeepsSteps, IsQuadWheel, partner_is, ℕ, ◌<◌, Bool, true, false, not, List, [], ◌∷◌, length, get_or, refl, subst, IsQuad, add}
 use Rattle.polygon_cut.proofs.GroupWordLemmas.{Var, Mul, Inv, by_words}
-use Rattle.spoke_paths.proofs.StepsKeep.{KeepsSteps}
-use Rattle.spoke_paths.proofs.WordsKeep.{IsQuadWheel, partner_is}
 
 -- the spokes of a wheel as elements of a group in which the two ways round each quad are one
 pub record HasQuads {X : Type 0} (Same : X → X → Type 0) (mul : X → X → X) (inv : X → X) (element : ℕ → X) (degree : ℕ)

@@ -1,17 +1,11 @@
 -- The spokes of a polygon make quads in the group of loops, and a walk is the product of the spokes of its quad path.
-use Rattle.quad_system.proofs.Common.{origin_under, target_under, dart_between, edge-twin, HasSide, side_with_number, rotation_system, origin-twin, darts_of, next_of, twin_of, origin_of, target_of, edge_of, OrientedMesh, IsOrientedSurface, rotations_of, SpokesOfSide, spokes_of_side, LabellingView, signs_of, tail_label, head_label, spokes, spokes_by_labels, quad_path, IsGroup, quotient, inverse_of_quotient, inverse_twice, labels_ride, back, leads_to, IsWay, HasWays, SameLoop, loop_mul, loop_inv, loop_one, loop_of, no_dart, first_dart, start_used, Crosses, sides_cross, is_own_side, spoke_product, Loops, value, value_is, value_twin, spoke, group_of, dart_is_two_spokes, dart_way, up, tree_ways, PolygonView, IsCutFrom, side_at, label_of, place_of, across, one_up, ◌≡◌, ◌≢◌, ◌⊎◌, inl, inr, ℕ, suc, ◌-◌, ◌<◌, true, false, not, ◌&&◌, eqb, cond, List, [], ◌∷◌, ◌++◌, refl, ap, sym, ◌∙◌, subst, arith, cases_Bool, cases_eq, both_ways, eqb-true, eq-eqb, and_parts, tail_of, head_of, Homotopic, start_under, end_under, is_flipped, Side, after_dart, SplitView, IsSplit, in_cotree, is_left, add}
+use Rattle.quad_system.proofs.Common.{origin_under, target_under, dart_between, edge-twin, HasSide, side_with_number, rotation_system, origin-twin, darts_of, next_of, twin_of, origin_of, target_of, edge_of, OrientedMesh, IsOrientedSurface, rotations_of, IsDartFrom, SpokesOfSide, spokes_of_side, LabellingView, signs_of, tail_label, head_label, spokes, spokes_by_labels, quad_path, value_along, IsGroup, quotient, inverse_of_quotient, inverse_twice, labels_ride, IsWay, SameLoop, loop_mul, loop_inv, loop_one, loop_of, no_dart, first_dart, start_used, homotopy, Crosses, sides_cross, is_own_side, spoke_product, Loops, value, value_twin, spoke, group_of, dart_is_two_spokes, up, tree_ways, PolygonView, IsCutFrom, side_at, label_of, place_of, across, one_up, KeepsSteps, ◌≡◌, ◌⊎◌, inl, inr, ℕ, ◌<◌, true, false, not, ◌&&◌, eqb, cond, List, [], ◌∷◌, ◌++◌, refl, ap, sym, ◌∙◌, subst, arith, cases_Bool, both_ways, eqb-true, eq-eqb, and_parts, tail_of, head_of, start_under, end_under, is_flipped, Side, after_dart, SplitView, IsSplit, in_cotree, is_left, add-lt, add, minus}
+use Rattle.spoke_paths.proofs.QuadWheels.{placed}
+use Rattle.std.specs.Prelude.{length}
 use Rattle.tree_cotree.proofs.ClassLemmas.{found_below, passes_below}
 use Rattle.tree_cotree.specs.RingCounts.{any_below}
 use Rattle.quad_system.specs.PolygonLabellings.{labelling_from}
 use Rattle.quad_system.proofs.PolygonLabelLemmas.{polygon_good, up_is_add, down_is_add, degree_is, LabelsOfSide, labels_of_side, flips_are}
-use Rattle.halfedge_map.specs.RotationSystems.{IsDartFrom}
-use Rattle.polygon_cut.proofs.DartLoopLemmas.{value_along}
-use Rattle.polygon_cut.proofs.LoopLemmas.{homotopy}
-use Rattle.spoke_paths.proofs.QuadWheels.{placed}
-use Rattle.spoke_paths.proofs.StepsKeep.{KeepsSteps}
-use Rattle.turn_words.specs.Lemmas.Sums.{add-lt}
-use Rattle.turn_words.specs.Modulo.{minus}
-use Rattle.std.specs.Prelude.{length}
 use Rattle.quad_system.proofs.ReadingLemmas.{HasQuads, products_keep}
 
 -- the number below a bound with a value, where there is one

@@ -1,7 +1,7 @@
 -- A walk is homotopic to the loop of its quad path, with the way up the tree before it and the way down behind it.
-use Rattle.quad_system.proofs.Common.{OrientedMesh, IsOrientedSurface, quad_path, SameLoop, homotopy, spoke_product, up, tree_ways, walk_way, PolygonView, IsCutFrom, AreWaysUp, by_loop, path_loop, ◌≡◌, ℕ, ◌-◌, ◌<◌, true, List, [], ◌∷◌, ◌++◌, length, ap, sym, ◌∙◌, subst, arith, slice_index, Homotopic, IsWalk, SplitView, IsSplit}
+use Rattle.quad_system.proofs.Common.{OrientedMesh, IsOrientedSurface, quad_path, one_of, SameLoop, homotopy, spoke_product, up, tree_ways, walk_way, PolygonView, IsCutFrom, AreWaysUp, by_loop, path_loop, ◌≡◌, ℕ, ◌-◌, ◌<◌, true, List, [], ◌∷◌, ◌++◌, length, ap, sym, ◌∙◌, subst, arith, slice_index, Homotopic, IsWalk, SplitView, IsSplit}
 use Rattle.polygon_cut.proofs.CongruenceLemmas.{by_own_loop}
-use Rattle.polygon_cut.proofs.DartLoopLemmas.{Loops, spoke, one_of}
+use Rattle.polygon_cut.proofs.DartLoopLemmas.{Loops, spoke}
 use Rattle.polygon_cut.proofs.FreeLawLemmas.{root_is, path_list, by_loop_is}
 use Rattle.polygon_cut.proofs.WayLemmas.{IsWay, start_used, end_used, back, loop_mul, loop_inv, loop_of}
 use Rattle.quad_system.specs.PolygonLabellings.{labelling_from}
