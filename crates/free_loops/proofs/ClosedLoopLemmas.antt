@@ -1,7 +1,5 @@
 -- A closed walk is freely homotopic to its loop at the root of the tree, and so to the product of the spokes of its quad path.
-use Rattle.free_loops.proofs.Common.{on, end_of, end_is, parts_turn, freely, FreelyHomotopic, OrientedMesh, IsOrientedSurface, LabellingView, quad_path, quad_path_in_pairs, in_pairs, behind, there_and_home, back, homotopy, IsWay, way_walk, way_on, way_home, Loop, HasWays, SameLoop, loop_mul, loop_of, start_used, Loops, up, tree_ways, PolygonView, IsCutFrom, loop_of_path, labelling_from, ◌≡◌, inl, inr, ℕ, ◌%◌, ◌<◌, ◌&&◌, eqb, List, [], ◌∷◌, ◌++◌, length, get_or, refl, ap, sym, ◌∙◌, subst, arith, append_assoc, cases_Bool, length-append, append-nil, Option, Some, None, FaceList, Homotopic, SplitView, IsSplit}
-use Rattle.quad_system.proofs.SpokeProductLemmas.{walk_product}
-use Rattle.flat_forms.specs.Pairs.{spokes_of}
+use Rattle.free_loops.proofs.Common.{on, end_of, end_is, parts_turn, freely, FreelyHomotopic, spokes_of, OrientedMesh, IsOrientedSurface, quad_path_in_pairs, LabellingView, quad_path, in_pairs, behind, there_and_home, back, homotopy, IsWay, way_walk, way_on, way_home, Loop, HasWays, SameLoop, loop_mul, loop_of, start_used, Loops, up, tree_ways, PolygonView, IsCutFrom, loop_of_path, walk_product, labelling_from, ◌≡◌, ℕ, ◌%◌, ◌<◌, List, [], ◌∷◌, ◌++◌, length, get_or, refl, ap, sym, ◌∙◌, subst, arith, append_assoc, append-nil, FaceList, Homotopic, SplitView, IsSplit}
 use Rattle.surf_model.specs.Walks.{HaveCommonEnds, darts}
 use Rattle.free_loops.proofs.LoopStepLemmas.{IsConjugacy}
 

@@ -1,9 +1,10 @@
 -- The wheel of a cut with five sides at least: each side has a partner, with which it makes a quad.
-use Rattle.free_loops.proofs.Common.{OrientedMesh, IsOrientedSurface, rotations_of, PolygonView, IsCutFrom, place_of, IsQuadWheel, spoke_at, IsFullWheel, ◌≡◌, ◌<◌, ◌≤◌, not, length, ap, sym, ◌∙◌, arith, SplitView, IsSplit, in_cotree, is_left}
+use Rattle.free_loops.proofs.Common.{OrientedMesh, IsOrientedSurface, PolygonView, IsCutFrom, place_of, across, spoke_at, IsFullWheel, ◌≡◌, ◌<◌, ◌≤◌, not, length, ap, sym, ◌∙◌, arith, SplitView, IsSplit, in_cotree, is_left}
 use Rattle.halfedge_map.proofs.SystemLemmas.{rotation_system}
+use Rattle.halfedge_map.specs.RotationSystems.{rotations_of}
 use Rattle.polygon_cut.proofs.PlaceLemmas.{Crosses, sides_cross}
-use Rattle.polygon_cut.specs.Polygons.{across}
 use Rattle.quad_system.proofs.FreePathLemmas.{places_wheel}
+use Rattle.quad_system.proofs.PushPathLemmas.{IsQuadWheel}
 use Rattle.spoke_paths.proofs.WordsKeep.{quad_of}
 use Rattle.tree_cotree.specs.SpanningTrees.{after_dart}
 

@@ -1,12 +1,10 @@
 -- Closed walks of a cut surface are freely homotopic where steps lead from their quad paths to closed lists that are rotations of one
 -- another; and on a sphere they always are.
-use Rattle.free_loops.proofs.Common.{on, turn, closes, end_is, freely, IsClosedWalk, FreelyHomotopic, OrientedMesh, IsOrientedSurface, quad_path, IsWay, HasWays, SameLoop, loop_mul, loop_inv, loop_one, loop_of, Loops, spoke, group_of, up, tree_ways, PolygonView, IsCutFrom, loop_of_path, labelling_from, leads-on, rotate, LoopLeads, IsLoop, IsRotation, All, ◌≡◌, ℕ, ◌+◌, ◌<◌, ◌%◌, List, [], ◌∷◌, length, ap, sym, ◌∙◌, subst, arith, eq-eqb, lt-ltb, Some, Homotopic, SplitView, IsSplit}
+use Rattle.free_loops.proofs.Common.{on, turn, closes, end_is, freely, IsClosedWalk, FreelyHomotopic, OrientedMesh, IsOrientedSurface, quad_path_below, quad_path, IsWay, HasWays, SameLoop, loop_mul, loop_inv, loop_one, loop_of, Loops, spoke, group_of, up, tree_ways, PolygonView, IsCutFrom, polygon_good, loop_of_path, loops_keep, labelling_from, leads-on, IsLoop, rotate, LoopLeads, IsRotation, ◌≡◌, ℕ, ◌+◌, ◌<◌, ◌%◌, List, [], ◌∷◌, length, ap, sym, ◌∙◌, subst, arith, eq-eqb, lt-ltb, Some, Homotopic, SplitView, IsSplit}
 use Rattle.polygon_cut.proofs.SphereLemmas.{all_homotopic}
 use Rattle.polygon_cut.proofs.WalkLemmas.{walk_way}
 use Rattle.polygon_cut.proofs.WayLemmas.{loop_start}
 use Rattle.free_loops.proofs.LoopStepLemmas.{steps_free}
-use Rattle.quad_system.proofs.EqualWordLemmas.{path_below}
-use Rattle.quad_system.proofs.SpokeProductLemmas.{loops_keep}
 use Rattle.free_loops.proofs.ClosedLoopLemmas.{SameFreeLoop, loops_turn, common_ends, even_path, free_loop, free_path}
 
 -- a closed walk is a way from its start to its start
@@ -57,8 +55,7 @@ module _ (s : OrientedMesh) (split : SplitView) (o : IsOrientedSurface s) (t : I
         let end : Loops s split t = loop_of_path s split o t polygon path in
         let way : IsWay s.mesh u u rest = closed_way s u rest h in
         let loop : IsLoop polygon.places quad = record {
-          below = subst (λ n. All (λ i. i < n) quad) (sym (cut.places some).each_spoke)
-              (path_below s split polygon o t cut some u u rest way);
+          below = quad_path_below s.mesh (labelling_from s polygon) (polygon_good s split polygon o t cut some) (u ∷ rest);
           even = even_path s.mesh (labelling_from s polygon) (u ∷ rest);
         } in
         let stepped : SameFreeLoop start end =

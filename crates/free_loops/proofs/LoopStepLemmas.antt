@@ -1,7 +1,7 @@
 -- What loop steps do to the product of a closed list of spokes: what spurs and quads keep they keep, and a rotation turns two factors
 -- round.
-use Rattle.free_loops.proofs.Common.{IsGroup, spoke_product, ends_at_vertex, spokes_on, LoopLeads, IsLoop, IsRotation, ◌≡◌, ℕ, ◌%◌, Bool, true, List, [], ◌∷◌, ◌++◌, length, take, drop, refl, ap, sym, ◌∙◌, subst, arith, length-append, length-take, take-append-drop}
-use Rattle.spoke_paths.proofs.StepsKeep.{KeepsSteps}
+use Rattle.free_loops.proofs.Common.{spoke_product, ends_at_vertex, spokes_on, KeepsSteps, IsLoop, LoopLeads, IsRotation, ◌≡◌, ℕ, ◌%◌, Bool, true, List, [], ◌∷◌, ◌++◌, length, take, drop, refl, ap, sym, subst, arith, length-append, length-take, take-append-drop}
+use Rattle.polygon_cut.proofs.GroupLemmas.{IsGroup}
 use Rattle.spoke_rings.proofs.LoopsKeep.{loops-keep}
 
 -- a list of even length ends where it starts

@@ -1,14 +1,12 @@
 -- On a torus closed walks with one sum are freely homotopic: the second one is made a walk from the start of the first, along a way
 -- there and back, which changes no sum.
-use Rattle.free_loops.proofs.Common.{on, parts_turn, freely, FreelyHomotopic, IsEven, IsFlatWheel, flat_next, Vector, origin, plus, less, unit_step, OrientedMesh, IsOrientedSurface, quad_path_in_pairs, flat_wheel_of_good, IsGood, LabellingView, spokes, quad_path, in_pairs, behind, there_and_home, home_and_there, back, homotopy, IsWay, way_walk, way_on, way_home, start_used, up, tree_ways, PolygonView, IsCutFrom, labelling_from, ◌≡◌, ℕ, List, [], ◌∷◌, ◌++◌, refl, ap, ap₂, sym, ◌∙◌, subst, arith, append_assoc, ℤ, append-nil, FaceList, IsFaceList, Homotopic, SplitView, IsSplit, led}
+use Rattle.free_loops.proofs.Common.{on, parts_turn, freely, FreelyHomotopic, IsEven, IsFlatWheel, flat_next, spokes_of, sum_of_pairs, Vector, origin, plus, less, unit_step, OrientedMesh, IsOrientedSurface, quad_path_in_pairs, flat_wheel_of_good, IsGood, LabellingView, spokes, quad_path, in_pairs, behind, there_and_home, home_and_there, back, homotopy, IsWay, way_walk, way_on, way_home, start_used, up, tree_ways, PolygonView, IsCutFrom, polygon_good, labelling_from, ◌≡◌, ℕ, List, [], ◌∷◌, ◌++◌, refl, ap, ap₂, sym, ◌∙◌, subst, arith, append_assoc, ℤ, append-nil, FaceList, IsFaceList, Homotopic, SplitView, IsSplit, led}
 use Rattle.flat_forms.proofs.SumsOfPairs.{leads-by}
 use Rattle.flat_forms.specs.Lemmas.FlatLaws.{flat_stays, flat_there_and_back, flat_across}
 use Rattle.flat_forms.specs.Lemmas.StepsInThePlane.{next-next, vertex-again}
-use Rattle.flat_forms.specs.Pairs.{spokes_of, sum_of_pairs}
 use Rattle.labellings.proofs.FoldLemmas.{PutLaws, led-append}
 use Rattle.labellings.proofs.KeepingLemmas.{moves_keep}
 use Rattle.quad_system.proofs.FlatWordLemmas.{one_sum}
-use Rattle.quad_system.proofs.PolygonLabelLemmas.{polygon_good}
 use Rattle.std.proofs.lemmas.Int.{ints}
 use Rattle.free_loops.proofs.ClosedLoopLemmas.{way_ends, common_ends}
 

@@ -1,5 +1,5 @@
 -- A turn word that is spelled out as spokes, entry by entry.
-use Rattle.free_loops.proofs.Common.{IsFullWheel, ◌≡◌, ℕ, suc, ◌+◌, ◌<◌, Bool, true, false, not, List, [], ◌∷◌, ◌++◌, length, take, get_or, refl, ap, sym, ◌∙◌, arith, append_assoc, add-one, append-nil, All, add-minus, add-zero, add_assoc, add_comm, minus-lt, ap₂, add, minus, place_round, turns_after, turn_word_of}
+use Rattle.free_loops.proofs.Common.{IsFullWheel, ◌≡◌, ℕ, suc, ◌+◌, ◌<◌, Bool, true, false, not, List, [], ◌∷◌, ◌++◌, length, take, get_or, refl, ap, sym, ◌∙◌, arith, append_assoc, add-one, ap₂, append-nil, All, add-minus, add-zero, add_assoc, add_comm, minus-lt, add, minus, place_round, turns_after, turn_word_of}
 use Rattle.std.proofs.Math.Seq.{take-suc, take-length}
 use Rattle.std.proofs.lemmas.List.Elements.{All-append, All-nil, All-cons}
 

@@ -1,8 +1,8 @@
 -- Loop steps lead from list to list behind whatever spokes; so do spurs and quads, and then elementary steps on turn words.
-use Rattle.free_loops.proofs.Common.{ends_at_vertex, from_spoke, leads-same, leads-on, spur-leaves, spur-enters, IsFullWheel, LoopStep, across, across_quad, after_loop_step, after_loop_steps, LoopLeads, ◌≡◌, ℕ, ◌<◌, Bool, true, false, not, List, [], ◌∷◌, ◌++◌, length, refl, ap, sym, ◌∙◌, subst, append_assoc, eq-eqb, All, Option, Some, option_map, IsQuad, add, turn_word_of, Reaches}
-use Rattle.spoke_paths.proofs.StepsKeep.{KeepsSteps, old_way, new_way}
-use Rattle.spoke_rings.proofs.Leading.{leads-nowhere, leads-step, quad-is}
+use Rattle.free_loops.proofs.Common.{ends_at_vertex, KeepsSteps, old_way, new_way, leads-on, spur-leaves, spur-enters, leads-nowhere, leads-step, quad-is, IsFullWheel, across_quad, LoopLeads, ◌≡◌, ℕ, ◌<◌, Bool, true, false, not, List, [], ◌∷◌, ◌++◌, length, refl, ap, ◌∙◌, subst, append_assoc, eq-eqb, All, Option, Some, option_map, IsQuad, add, turn_word_of, Reaches}
 use Rattle.joined_loops.proofs.FullWheels.{same_lists}
+use Rattle.spoke_paths.specs.PathSteps.{from_spoke}
+use Rattle.spoke_rings.specs.LoopSteps.{across}
 
 ends_on : (v : Bool) (before : List ℕ) (x : ℕ) → ends_at_vertex v (before ++ x ∷ []) ≡ not (ends_at_vertex v before)
 ends_on v [] x = refl
@@ -47,9 +47,9 @@ module _ (places : List ℕ) where
     itself = λ v p. ((λ before e. leads-nowhere places (before ++ p)), (λ before e. leads-nowhere places (before ++ p)));
     turn = λ v p q h. (h.1, h.0);
     on = λ v p q r h k. (
-        (λ before e. leads-on places (before ++ p) (before ++ q) (before ++ r) (h.0 before e) (k.0 before e)),
-        (λ before e. leads-on places (before ++ r) (before ++ q) (before ++ p) (k.1 before e) (h.1 before e)),
-        );
+      (λ before e. leads-on places (before ++ p) (before ++ q) (before ++ r) (h.0 before e) (k.0 before e)),
+      (λ before e. leads-on places (before ++ r) (before ++ q) (before ++ p) (k.1 before e) (h.1 before e)),
+    );
     behind = λ v x p q l h. (behind_one v x p q h.0, behind_one v x q p h.1);
     spur = λ v x p l. ((λ before e. spur-leaves places before p x), (λ before e. spur-enters places before p x l));
     quad = λ a c p q. (quad_leads a c p q false, quad_leads a c p q true);
