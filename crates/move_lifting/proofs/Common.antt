@@ -12,7 +12,6 @@ pub use Rattle.halfedge_map.specs.DartMaps.{darts_of, edge_of, face_of, next_of,
 pub use Rattle.halfedge_map.specs.OrientedMeshes.{IsOrientedSurface, OrientedMesh}
 pub use Rattle.halfedge_map.specs.RotationSystems.{IsDartFrom, IsRotationSystem, Rotations, rotations_of}
 pub use Rattle.polygon_cut.proofs.CongruenceLemmas.{before, behind, home_and_there, there_and_home, to_loops}
-pub use Rattle.polygon_cut.proofs.CountLemmas.{count_at_most}
 pub use Rattle.polygon_cut.proofs.DartLoopLemmas.{Loops, spoke, value}
 pub use Rattle.polygon_cut.proofs.FaceRoundLemmas.{at_face}
 pub use Rattle.polygon_cut.proofs.FreeLawLemmas.{backward_is, by_own_loop, last_list, last_loop_as, last_loops, led_back_round, led_round, loop_list, off_walk, parity, path_is, path_list, root_is, side_in, spoke_list, turned_parity, up_is}
@@ -72,7 +71,8 @@ pub use Rattle.surf_model.specs.declared.moves.Move.TheVariants.{Across, Insert,
 pub use Rattle.surf_model.specs.declared.names.DartName.{DartName}
 pub use Rattle.surf_model.specs.declared.names.FaceName.{FaceName}
 pub use Rattle.surf_model.specs.declared.names.VertexName.{VertexName}
-pub use Rattle.tree_cotree.proofs.SplittingLemmas.{option_cases}
+pub use Rattle.tree_cotree.proofs.SearchLemmas.{option_cases}
+pub use Rattle.tree_cotree.proofs.SplitWayLemmas.{above, above_path, faces_upward, not_itself, one_way_up, parents_upward, rank_step, root_below, upper_within}
 pub use Rattle.tree_cotree.specs.SpanningTrees.{after_dart}
 pub use Rattle.tree_cotree.specs.Splits.{IsSplit, SplitView, StepsToParent, StepsUp, below_edge, in_cotree, in_tree, is_cotree_kind, is_left, is_left_kind, is_tree_kind, kind_of, parent_dart}
 pub use Rattle.turn_words.specs.FormLaws.{IsQuad, led}

@@ -1,8 +1,9 @@
 -- The load of a walk: for each dart on a cotree edge the number of darts that hang below the edge, and one for each other dart. Where a
 -- dart is replaced by the rest of the face below it, the load falls.
-use Rattle.move_lifting.proofs.Common.{rotation_system, names_all, darts_of, OrientedMesh, IsOrientedSurface, Rotations, rotations_of, IsRotationSystem, count_at_most, ◌≡◌, ◌≢◌, inl, inr, ℕ, ◌+◌, ◌<◌, ◌≤◌, Bool, true, eqb, refl, ap, sym, ◌∙◌, subst, arith, eqb-true, Option, Some, None, count_below, option_cases, SplitView, IsSplit, below_edge, StepsUp}
+use Rattle.move_lifting.proofs.Common.{rotation_system, names_all, darts_of, OrientedMesh, IsOrientedSurface, Rotations, rotations_of, IsRotationSystem, ◌≡◌, ◌≢◌, inl, inr, ℕ, ◌+◌, ◌<◌, ◌≤◌, Bool, true, eqb, refl, ap, sym, ◌∙◌, subst, arith, eqb-true, Option, Some, None, count_below, option_cases, not_itself, SplitView, IsSplit, below_edge, StepsUp}
+use Rattle.polygon_cut.proofs.CountLemmas.{count_at_most}
 use Rattle.move_lifting.proofs.CountLemmas.{sum_below, sum_same, disjoint_counts, disjoint_counts_less, count_some, count_one}
-use Rattle.move_lifting.proofs.FaceTreeLemmas.{below, below_itself, below_higher, below_once, not_above, not_itself}
+use Rattle.move_lifting.proofs.FaceTreeLemmas.{below, below_itself, below_higher, below_once, not_above}
 
 -- whether a dart hangs below the edge of a dart; below an edge that is not of the cotree hangs the dart alone
 hangs_at : (s : OrientedMesh) (split : SplitView) → IsSplit s split → Option ℕ → ℕ → ℕ → Bool

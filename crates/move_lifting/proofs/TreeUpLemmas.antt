@@ -1,7 +1,7 @@
 -- Ways up the tree: how they go on, and how long they are at most.
-use Rattle.move_lifting.proofs.Common.{rotation_system, names_all, darts_of, origin_of, twin_of, OrientedMesh, IsOrientedSurface, rotations_of, count_at_most, root_is, up, up_path, one_path, AreWaysUp, ◌≡◌, ◌≢◌, ℕ, zero, suc, ◌-◌, ◌<◌, ◌≤◌, true, List, [], ◌∷◌, ◌++◌, length, get_or, refl, ap, sym, ◌∙◌, subst, arith, append_assoc, length-append, eqb, eqb-true, Some, None, is_used, count_below, IsPath, numbers, VertexName, SplitView, IsSplit, StepsToParent, parent_dart}
+use Rattle.move_lifting.proofs.Common.{rotation_system, names_all, darts_of, origin_of, twin_of, OrientedMesh, IsOrientedSurface, rotations_of, root_is, up, up_path, one_path, AreWaysUp, ◌≡◌, ℕ, ◌-◌, ◌<◌, ◌≤◌, true, List, [], ◌∷◌, ◌++◌, length, refl, ap, sym, ◌∙◌, subst, arith, append_assoc, length-append, Some, None, is_used, IsPath, numbers, VertexName, root_below, parents_upward, SplitView, IsSplit, StepsToParent, parent_dart}
+use Rattle.tree_cotree.proofs.UpwardLemmas.{few_steps}
 use Rattle.move_lifting.proofs.ExpandLemmas.{length-numbers}
-use Rattle.move_lifting.proofs.CountLemmas.{sum_below, sum_same, disjoint_counts, count_one}
 
 -- the dart to the parent leads to a vertex that is used, from which the way up goes on
 pub used_parent : (s : OrientedMesh) (split : SplitView) → IsOrientedSurface s → (t : IsSplit s split) → (v d : ℕ)
@@ -53,57 +53,16 @@ one_up_more s split o t root ways h v d whole laid more used is pushed so_far =
     ∙ sym (append_assoc laid (v ∷ []) (w ∷ ways w))
     ∙ ap (λ (l : List ℕ). l ++ (w ∷ ways w)) (sym pushed)
 
--- so many numbers below a bound, all different, are no more than the bound
-few_numbers : (f : ℕ → ℕ) (k n : ℕ) → ((j : ℕ) → j < k → f j < n) → ((i j : ℕ) → i < j → j < k → f i ≢ f j) → k ≤ n
-few_numbers f k n below apart =
-    let ones : sum_below (λ j. count_below (λ z. eqb z (f j)) n) k ≡ sum_below (λ j. 1) k =
-    sum_same (λ j. count_below (λ z. eqb z (f j)) n) (λ j. 1) k (λ j l. count_one n (f j) (below j l)) in
-    let most : sum_below (λ j. count_below (λ z. eqb z (f j)) n) k ≤ count_below (λ z. true) n =
-    disjoint_counts (λ j z. eqb z (f j)) (λ z. true) k n (λ j z l m is. refl)
-    (λ i j z l m z_in x y. apart i j l m (sym (eqb-true z (f i) x) ∙ eqb-true z (f j) y)) in
-    omega (arith, ones, most, count_at_most (λ z. true) n, as_many k)
-  where
-    as_many : (k : ℕ) → sum_below (λ j. 1) k ≡ k
-    as_many zero = refl
-    as_many (suc k) = omega (arith, as_many k)
-
--- what stands on a way up: a vertex of the mesh, from which the way goes on so far
-record IsOnWay (s : OrientedMesh) (split : SplitView) (t : IsSplit s split) (v left : ℕ) : Type 0 where
-  below : v < s.mesh.count
-  left_is : length (up s split t v) ≡ left
-
-on_way : (s : OrientedMesh) (split : SplitView) → IsOrientedSurface s → (t : IsSplit s split) → (v : ℕ) (path : List ℕ)
-    → is_used s.mesh v ≡ true
-    → IsPath (StepsToParent (rotations_of s) split) v path t.parents.root → (j : ℕ) → j ≤ length path
-    → IsOnWay s split t (get_or (v ∷ path) j 0) (length path - j)
-on_way s split o t v path used p zero l =
-    let dart = (names_all s o).each_vertex v used in
-    let whole : length path ≡ length path - 0 = omega arith in
-    record {
-      below = subst (λ (x : ℕ). x < s.mesh.count) dart.2 ((names_all s o).vertex_below dart.0 dart.1);
-      left_is = ap (λ (x : List ℕ). length x) (one_path s split o t v (up s split t v) path (up_path s split t v used) p) ∙ whole;
-    }
-on_way s split o t v [] used p (suc j) l = absurd (omega arith)
-on_way s split o t v (w ∷ path) used p (suc j) l =
-    let d : ℕ = p.0.0 in
-    let w_used : is_used s.mesh w ≡ true =
-    subst (λ (x : ℕ). is_used s.mesh x ≡ true) p.0.1.ends (used_parent s split o t v d p.0.1.is_parent) in
-    let count : length path - j ≡ length (w ∷ path) - suc j = omega arith in
-    let rest = on_way s split o t w path w_used p.1 j (omega arith) in
-    record { below = rest.below; left_is = rest.left_is ∙ count }
-
 -- a way up passes no vertex twice, so it is short
-pub way_short : (s : OrientedMesh) (split : SplitView) → IsOrientedSurface s → (t : IsSplit s split) → (v : ℕ) → is_used s.mesh v ≡ true
+way_short : (s : OrientedMesh) (split : SplitView) → IsOrientedSurface s → (t : IsSplit s split) → (v : ℕ) → is_used s.mesh v ≡ true
     → length (v ∷ up s split t v) ≤ s.mesh.count
 way_short s split o t v used =
-    let path : List ℕ = up s split t v in
-    let at : (j : ℕ) → j < length (v ∷ path) → IsOnWay s split t (get_or (v ∷ path) j 0) (length path - j) =
-    λ j l. on_way s split o t v path used (up_path s split t v used) j (omega arith) in
-    few_numbers (λ j. get_or (v ∷ path) j 0) (length (v ∷ path)) s.mesh.count (λ j l. (at j l).below)
-    (λ i j l m same.
-    let one : length path - i ≡ length path - j =
-    sym (at i (omega arith)).left_is ∙ ap (λ (x : ℕ). length (up s split t x)) same ∙ (at j m).left_is in
-    omega (arith, one))
+    let few : length (up s split t v) < s.mesh.count =
+    few_steps (StepsToParent (rotations_of s) split) t.parents.root s.mesh.count (parents_upward s split o t) (root_below s split o t)
+    (λ x y step. subst (λ z. z < s.mesh.count) (t.parents.starts x step.0 step.1.is_parent)
+    ((names_all s o).vertex_below step.0 (t.parents.within x step.0 step.1.is_parent)))
+    v (up s split t v) (up_path s split t v used) in
+    omega arith
 
 -- the same of any ways up
 pub way_ends : (s : OrientedMesh) (split : SplitView) → IsOrientedSurface s → (t : IsSplit s split) → (v last n : ℕ) (laid : List ℕ)
