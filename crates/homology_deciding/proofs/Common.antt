@@ -1,10 +1,12 @@
 -- What proofs of this crate cite of others, passed on from one place (by tools/imports). Declares nothing.
-pub use Rattle.halfedge_map.proofs.EdgeLemmas.{IsAtEdge, dart_joins, edge-twin, edge_has_ends, leads_back, leads_on}
+pub use Rattle.halfedge_map.proofs.DartLemmas.{face_at_number}
+pub use Rattle.halfedge_map.proofs.EdgeLemmas.{IsAtEdge, dart_joins, edge_has_ends, leads_back, leads_on}
+pub use Rattle.halfedge_map.proofs.NumberLemmas.{HasPlace, IsNumberOf, placed}
 pub use Rattle.halfedge_map.proofs.SystemLemmas.{names_all, rotation_system}
 pub use Rattle.halfedge_map.specs.DartMaps.{darts_of, edge_of, side_of, twin_of}
 unfoldable pub use Rattle.halfedge_map.specs.DartMaps.{face_of, origin_of, target_of}
 pub use Rattle.halfedge_map.specs.OrientedMeshes.{IsOrientedSurface, OrientedMesh}
-pub use Rattle.halfedge_map.specs.RotationSystems.{IsDartFrom, IsRotationSystem, Rotations, rotations_of}
+pub use Rattle.halfedge_map.specs.RotationSystems.{IsDartFrom, IsRotationSystem, rotations_of}
 pub use Rattle.homology.proofs.ChainVerdictLemmas.{chain_holds, left_over, within_more}
 pub use Rattle.homology.proofs.SizeLemmas.{sent, size-opposite, size-share, size-sum}
 pub use Rattle.homology.specs.Chains.{AreHomologous, boundary, count_difference}
@@ -17,9 +19,9 @@ pub use Rattle.std.proofs.lemmas.Bool.{both_ways, cases_Bool, cases_eq, cases_lt
 pub use Rattle.std.proofs.lemmas.Bool.Decides.{nat_tests}
 pub use Rattle.std.proofs.lemmas.Int.{fits_signed_from_abs, ints}
 pub use Rattle.std.proofs.lemmas.List.{get_or-set_other, get_or-set_same, get_or_append_left, get_or_past, length-set, length_push}
-pub use Rattle.std.specs.Prelude.{All, Err, FitsSigned, IfOk, None, Ok, Option, Result, Some, if◌then◌else◌, is_some, map, nat_eq, neg_ℤ, sum_by, unsigned_abs, unwrap_or, ◌&&◌, ◌==◌}
+pub use Rattle.std.specs.Prelude.{All, Err, FitsSigned, IfOk, MatchOption, None, Ok, Option, Result, Some, if◌then◌else◌, is_some, map, nat_eq, neg_ℤ, sum_by, unsigned_abs, unwrap_or, ◌&&◌, ◌==◌}
 pub use Rattle.surf_model.specs.Edges.{Edge, HasEnds, edge_in}
-pub use Rattle.surf_model.specs.FaceLists.{FaceList, FaceSide, HasFileSize, all_sides, face_at, joins}
+pub use Rattle.surf_model.specs.FaceLists.{FaceList, FaceSide, HasFileSize, all_sides, face_at, joins, total_sides}
 pub use Rattle.surf_model.specs.Surfaces.{IsPath, is_flipped}
 pub use Rattle.surf_model.specs.Walks.{IsWalk, darts}
 pub use Rattle.surf_model.specs.declared.names.DartName.{DartName}

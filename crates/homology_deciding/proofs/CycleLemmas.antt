@@ -1,5 +1,5 @@
 -- A closed way across faces gives a cocycle.
-use Rattle.homology_deciding.proofs.Common.{edge_has_ends, rotation_system, darts_of, face_of, edge_of, origin_of, twin_of, OrientedMesh, size-sum, size-opposite, count_difference, IsCocycle, dart_number, separation, share, along, round, AreNumbersOf, ◌≡◌, ◌≢◌, inl, inr, ℕ, ◌+◌, ◌<◌, ◌≤◌, List, [], ◌∷◌, length, refl, ap, ap₂, sym, ◌∙◌, subst, arith, ℤ, pos, negsuc, ◌+ℤ◌, ◌-ℤ◌, cases_order, nat_tests, ints, Option, neg_ℤ, unsigned_abs, face_at, darts, DartName}
+use Rattle.homology_deciding.proofs.Common.{edge_has_ends, rotation_system, darts_of, face_of, edge_of, origin_of, twin_of, OrientedMesh, size-sum, size-opposite, count_difference, IsCocycle, dart_number, separation, share, along, round, AreNumbersOf, ◌≡◌, ◌≢◌, inl, inr, ℕ, ◌+◌, ◌<◌, ◌≤◌, List, [], ◌∷◌, length, refl, ap, ap₂, sym, ◌∙◌, subst, arith, ℤ, pos, negsuc, ◌+ℤ◌, ◌-ℤ◌, cases_order, nat_tests, ints, neg_ℤ, unsigned_abs, face_at, darts, DartName, SplitView}
 use Rattle.homology.proofs.CocycleVerdictLemmas.{dart_is}
 use Rattle.homology_deciding.specs.FaceTrees.{face_across, IsTreeOfFaces, IsWayUp, dart_share, way_share}
 use Rattle.homology_deciding.specs.Heights.{dart_count, way_count}
@@ -59,8 +59,8 @@ way_share-minus s (dart ∷ way) u v =
     let here = share-minus (origin_of s dart.0) (origin_of s (twin_of s dart.0)) u v in
     omega (arith, ints, more, here)
 
-module _ (s : OrientedMesh) (root : ℕ) (ups : List (Option DartName)) (h : IsTreeOfFaces s root ups) where
-  round_way : (k : ℕ) → k < length s.mesh.faces → (f : ℕ) (way : List DartName) (g : ℕ) → IsWayUp s ups f way g
+module _ (s : OrientedMesh) (split : SplitView) (h : IsTreeOfFaces s split) where
+  round_way : (k : ℕ) → k < length s.mesh.faces → (f : ℕ) (way : List DartName) (g : ℕ) → IsWayUp s split f way g
       → along (way_share s (pos 1) way) (round (face_at s.mesh k)) ≡ sign_at s k f -ℤ sign_at s k g
   round_way k l f [] g w =
       let none = along-none (round (face_at s.mesh k)) in
@@ -69,14 +69,14 @@ module _ (s : OrientedMesh) (root : ℕ) (ups : List (Option DartName)) (h : IsT
   round_way k l f (dart ∷ way) g w =
       let more = round_way k l (face_across s dart.0) way g w.1 in
       let sum = along-sum (dart_share s (pos 1) dart.0) (way_share s (pos 1) way) (round (face_at s.mesh k)) in
-      let here = round_dart s h.valid k dart.0 l (h.within f dart w.0) in
-      let same : sign_at s k (face_of s dart.0) ≡ sign_at s k f = ap (sign_at s k) (h.inside f dart w.0) in
+      let here = round_dart s h.valid k dart.0 l w.0.within in
+      let same : sign_at s k (face_of s dart.0) ≡ sign_at s k f = ap (sign_at s k) w.0.inside in
       omega (arith, ints, more, sum, here, same)
 
   -- ---- the closed way
 
-  module _ (d : ℕ) (up down : List DartName) (l : d < darts_of s) (goes : IsWayUp s ups (face_across s d) up root)
-      (comes : IsWayUp s ups (face_of s d) down root) where
+  module _ (d : ℕ) (up down : List DartName) (l : d < darts_of s) (goes : IsWayUp s split (face_across s d) up split.root_face)
+      (comes : IsWayUp s split (face_of s d) down split.root_face) where
     along_cycle : (walk : List ℕ) → along (cycle_share s d up down) walk
         ≡ along (dart_share s (pos 1) d) walk +ℤ along (way_share s (pos 1) up) walk -ℤ along (way_share s (pos 1) down) walk
     along_cycle walk =
@@ -89,8 +89,8 @@ module _ (s : OrientedMesh) (root : ℕ) (ups : List (Option DartName)) (h : IsT
     round_cycle k m =
         let all = along_cycle (round (face_at s.mesh k)) in
         let here = round_dart s h.valid k d m l in
-        let there = round_way k m (face_across s d) up root goes in
-        let again = round_way k m (face_of s d) down root comes in
+        let there = round_way k m (face_across s d) up split.root_face goes in
+        let again = round_way k m (face_of s d) down split.root_face comes in
         omega (arith, ints, all, here, there, again)
 
     -- ---- read as numbers of edges
@@ -103,19 +103,19 @@ module _ (s : OrientedMesh) (root : ℕ) (ups : List (Option DartName)) (h : IsT
         share-turned amount (origin_of s e) (origin_of s (twin_of s e)) u v
         (λ q. (rotation_system s h.valid).no_loop e le (sym q))
 
-    way_share-turned : (amount : ℤ) (f : ℕ) (way : List DartName) (g u v : ℕ) → IsWayUp s ups f way g
+    way_share-turned : (amount : ℤ) (f : ℕ) (way : List DartName) (g u v : ℕ) → IsWayUp s split f way g
         → way_share s amount way v u ≡ neg_ℤ (way_share s amount way u v)
     way_share-turned amount f [] g u v w = refl
     way_share-turned amount f (dart ∷ way) g u v w =
         let more = way_share-turned amount (face_across s dart.0) way g u v w.1 in
-        let here = dart_share-turned amount dart.0 u v (h.within f dart w.0) in
+        let here = dart_share-turned amount dart.0 u v w.0.within in
         omega (arith, ints, more, here)
 
     cycle-turned : (u v : ℕ) → cycle_share s d up down v u ≡ neg_ℤ (cycle_share s d up down u v)
     cycle-turned u v =
         let a = dart_share-turned (pos 1) d u v l in
-        let b = way_share-turned (pos 1) (face_across s d) up root u v goes in
-        let c = way_share-turned (negsuc 0) (face_of s d) down root u v comes in
+        let b = way_share-turned (pos 1) (face_across s d) up split.root_face u v goes in
+        let c = way_share-turned (negsuc 0) (face_of s d) down split.root_face u v comes in
         omega (arith, ints, a, b, c)
 
     pub as_number : (u v : ℕ) → dart_number (cycle_share s d up down) u v ≡ cycle_share s d up down u v
@@ -181,7 +181,7 @@ module _ (s : OrientedMesh) (root : ℕ) (ups : List (Option DartName)) (h : IsT
         ∙ difference_number (origin_of s e) (origin_of s (twin_of s e))
         (λ q. (rotation_system s h.valid).no_loop e l (sym q))
 
-    pub way_count_is : (f : ℕ) (way : List DartName) (g : ℕ) → IsWayUp s ups f way g
+    pub way_count_is : (f : ℕ) (way : List DartName) (g : ℕ) → IsWayUp s split f way g
         → way_count s counts way ≡ along (way_share s (pos 1) way) first -ℤ along (way_share s (pos 1) way) second
     way_count_is f [] g w =
         let one = along-none first in
@@ -189,17 +189,17 @@ module _ (s : OrientedMesh) (root : ℕ) (ups : List (Option DartName)) (h : IsT
         omega (arith, ints, one, two)
     way_count_is f (dart ∷ way) g w =
         let more = way_count_is (face_across s dart.0) way g w.1 in
-        let here = dart_count_is dart.0 (h.within f dart w.0) in
+        let here = dart_count_is dart.0 w.0.within in
         let one = along-sum (dart_share s (pos 1) dart.0) (way_share s (pos 1) way) first in
         let two = along-sum (dart_share s (pos 1) dart.0) (way_share s (pos 1) way) second in
         omega (arith, ints, more, here, one, two)
 
     -- so no height passes the number of darts
-    pub height_small : (f : ℕ) (way : List DartName) (g : ℕ) → IsWayUp s ups f way g
+    pub height_small : (f : ℕ) (way : List DartName) (g : ℕ) → IsWayUp s split f way g
         → unsigned_abs (way_count s counts way) ≤ darts first + darts second
     height_small f way g w =
         let small : (u v : ℕ) → unsigned_abs (way_share s (pos 1) way u v) ≤ 1 =
-        λ u v. way_small s root ups h (pos 1) f way g u v (omega arith) w in
+        λ u v. way_small s split h (pos 1) f way g u v (omega arith) w in
         let one = along_darts (way_share s (pos 1) way) first small in
         let two = along_darts (way_share s (pos 1) way) second small in
         let minus : way_count s counts way

@@ -1,12 +1,12 @@
 -- What the loops over ways and faces do, step by step.
-use Rattle.homology_deciding.proofs.Common.{edge_has_ends, names_all, darts_of, face_of, edge_of, origin_of, twin_of, OrientedMesh, IsOrientedSurface, rotations_of, size-sum, size-share, size-opposite, sent, share, number_at, turned, GrewBy, AreWithin, MOST_NUMBER, ◌≡◌, ◌≢◌, ◌⊎◌, inl, inr, ℕ, ◌+◌, ◌*◌, ◌^◌, ◌<◌, ◌≤◌, true, List, [], ◌∷◌, ◌++◌, length, get_or, set, refl, ap, ap₂, sym, ◌∙◌, subst, arith, ℤ, pos, ◌+ℤ◌, to_z, of_z, w64, negsuc, cases_lt, cases_eq, nat_tests, ints, fits_signed_from_abs, get_or-set_same, get_or-set_other, get_or_past, get_or_append_left, length-set, FitsSigned, Option, Some, None, is_some, unwrap_or, Result, Ok, Err, IfOk, neg_ℤ, unsigned_abs, All, sum_by, Edge, edge_in, HasEnds, HasFileSize, DartName, SplitView, IsStepUp, below_edge}
+use Rattle.homology_deciding.proofs.Common.{edge_has_ends, darts_of, face_of, edge_of, origin_of, twin_of, OrientedMesh, IsOrientedSurface, size-sum, size-share, size-opposite, sent, share, number_at, turned, GrewBy, AreWithin, MOST_NUMBER, ◌≡◌, ◌≢◌, ◌⊎◌, inl, inr, ℕ, ◌+◌, ◌*◌, ◌^◌, ◌<◌, ◌≤◌, true, List, [], ◌∷◌, ◌++◌, length, get_or, set, refl, ap, ap₂, sym, ◌∙◌, subst, arith, ℤ, pos, ◌+ℤ◌, to_z, of_z, w64, negsuc, cases_lt, cases_eq, nat_tests, ints, fits_signed_from_abs, get_or-set_same, get_or-set_other, get_or_past, get_or_append_left, length-set, FitsSigned, Option, Some, None, is_some, unwrap_or, Result, Ok, Err, IfOk, neg_ℤ, unsigned_abs, All, sum_by, MatchOption, Edge, edge_in, HasEnds, HasFileSize, DartName}
 use Rattle.homology.proofs.TallyLemmas.{grown, grown_size}
 use Rattle.std.proofs.Math.Nat.{mul-suc}
 use Rattle.std.proofs.Math.Seq.{get_or-append_seam}
 use Rattle.std.proofs.lemmas.List.Elements.{All-head, All-tail}
 use Rattle.std.proofs.lemmas.List.Sums.{sum_by-cons}
 use Rattle.surf_model.specs.declared.limits.TheConstants.{MOST_SIDES}
-use Rattle.homology_deciding.specs.FaceTrees.{up_of, face_across, AreUps, IsTree, IsWayUp, dart_share, way_share}
+use Rattle.homology_deciding.specs.FaceTrees.{face_across, IsUp, IsTree, IsWayUp, dart_share, way_share}
 use Rattle.homology_deciding.specs.Heights.{height_of, dart_count, way_count, listed, AreHeights, EndsAtHeight, AreForced}
 use Rattle.homology_deciding.specs.Cuts.{IsCutAt}
 use Rattle.homology_deciding.specs.declared.face_tree.FaceTree.{FaceTree}
@@ -19,68 +19,6 @@ written xs i k x d l = elim (cases_eq k i) [
   | inl same ↦ inl (same, ap (λ n. get_or (set xs i x) n d) same ∙ get_or-set_same xs i x d l)
   | inr other ↦ inr (other, get_or-set_other xs i k x d other)
 ]
-
--- ---- the darts up
-
-module _ (s : OrientedMesh) (split : SplitView) (o : IsOrientedSurface s) where
-  -- before the first edge none is kept
-  pub ups_start : (ups : List (Option DartName)) → length ups ≡ length s.mesh.faces → ((f : ℕ) → up_of ups f ≡ None)
-      → AreUps s split 0 ups
-  ups_start ups long none = record {
-    each_face = long;
-    steps = λ f dart up. let clash : None ≡ Some dart = sym (none f) ∙ up in cc;
-    done = λ e f l below. absurd (omega (arith, l));
-  }
-
-  -- an edge with no face below it
-  pub ups_pass : (e : ℕ) (ups : List (Option DartName)) → AreUps s split e ups → below_edge split e ≡ None
-      → AreUps s split (e + 1) ups
-  ups_pass e ups h none = record {
-    each_face = h.each_face;
-    steps = h.steps;
-    done = λ k f l below. elim (cases_lt k e) [
-      | inl less ↦ h.done k f less below
-      | inr last ↦
-          let same : k ≡ e = omega arith in
-          let clash : None ≡ Some f = sym none ∙ ap (below_edge split) (sym same) ∙ below in
-          cc
-    ];
-  }
-
-  -- an edge with a face below it
-  pub ups_more : (e f : ℕ) (dart : DartName) (ups : List (Option DartName)) → AreUps s split e ups
-      → below_edge split e ≡ Some f → dart.0 < darts_of s → edge_of s dart.0 ≡ e → face_of s dart.0 ≡ f
-      → AreUps s split (e + 1) (set ups f (Some dart))
-  ups_more e f dart ups h below within edge face =
-      let room : f < length ups =
-      subst (λ x. x < length ups) face
-      (subst (λ n. face_of s dart.0 < n) (sym h.each_face) ((names_all s o).face_below dart.0 within)) in
-      record {
-        each_face = length-set ups f (Some dart) ∙ h.each_face;
-        steps = λ g other up. elim (written ups f g (Some dart) None room) [
-          | inr old ↦ h.steps g other (sym old.1 ∙ up)
-          | inl new ↦
-              let same : Some dart ≡ Some other = sym new.1 ∙ up in
-              let darts : dart ≡ other = cc in
-              subst (λ (x : DartName). IsStepUp (rotations_of s) split g (face_across s x.0) x.0) darts (record {
-                within = within;
-                below = ap (below_edge split) edge ∙ below ∙ ap Some (sym new.0);
-                inside = face ∙ sym new.0;
-                leads = refl;
-              })
-        ];
-        done = λ k g l is. elim (written ups f g (Some dart) None room) [
-          | inl new ↦ ap is_some new.1
-          | inr old ↦ ap is_some old.1 ∙ elim (cases_lt k e) [
-            | inl less ↦ h.done k g less is
-            | inr last ↦
-                let same : k ≡ e = omega arith in
-                let faces : Some g ≡ Some f = sym is ∙ ap (below_edge split) same ∙ below in
-                let one : g ≡ f = cc in
-                absurd (old.0 one)
-          ]
-        ];
-      }
 
 -- ---- shares of darts, edge by edge
 
@@ -178,12 +116,12 @@ module _ (tree : FaceTree) (h : IsTree tree) (counts : List ℤ) (small : AreWit
       omega (arith, sum, mul-suc MOST_NUMBER (length way))
 
   -- a face has fewer steps up than there are faces, and there are no more faces than sides
-  way_few : (f : ℕ) (way : List DartName) (g : ℕ) → f < length s.mesh.faces → IsWayUp s tree.ups.items f way g
+  way_few : (f : ℕ) (way : List DartName) (g : ℕ) → f < length s.mesh.faces → IsWayUp s tree.split.now f way g
       → length way < MOST_SIDES
   way_few f way g l w =
       omega (
         arith,
-        way_rank s tree.root.0 tree.ups.items h f way g w,
+        way_rank s tree.split.now h f way g w,
         h.few f l,
         few_faces s h.valid,
       )
@@ -194,7 +132,7 @@ module _ (tree : FaceTree) (h : IsTree tree) (counts : List ℤ) (small : AreWit
       let way = are.each f height is in
       let within : f < length s.mesh.faces = known_within f is in
       subst (λ z. unsigned_abs z ≤ MOST_NUMBER * MOST_SIDES) (sym way.2)
-      (omega (arith, count_size way.0, way_few f way.0 tree.root.0 within way.1))
+      (omega (arith, count_size way.0, way_few f way.0 tree.split.now.root_face within way.1))
     where
       known_within : (k : ℕ) → height_of heights k ≡ Some height → k < length s.mesh.faces
       known_within k e = elim (cases_lt k (length s.mesh.faces)) [
@@ -230,14 +168,14 @@ module _ (tree : FaceTree) (h : IsTree tree) (counts : List ℤ) (small : AreWit
 
   -- the height of a face from that of the face above
   pub height_more : (heights : List (Option ℤ)) (f : ℕ) (dart : DartName) (above height : ℤ) → AreHeights tree counts heights
-      → up_of tree.ups.items f ≡ Some dart → height_of heights (face_across s dart.0) ≡ Some above
+      → IsUp s tree.split.now f dart → height_of heights (face_across s dart.0) ≡ Some above
       → height ≡ above +ℤ dart_count s counts dart.0 → f < length s.mesh.faces
       → AreHeights tree counts (set heights f (Some height))
   height_more heights f dart above height are up there is l =
       let room : f < length heights = omega (arith, l, are.each_face) in
       record {
         each_face = length-set heights f (Some height) ∙ are.each_face;
-        root = elim (written heights f tree.root.0 (Some height) None room) [
+        root = elim (written heights f tree.split.now.root_face (Some height) None room) [
           | inl new ↦ ap is_some new.1
           | inr old ↦ ap is_some old.1 ∙ are.root
         ];
@@ -248,7 +186,7 @@ module _ (tree : FaceTree) (h : IsTree tree) (counts : List ℤ) (small : AreWit
               let same : Some height ≡ Some value = sym new.1 ∙ at in
               let values : height ≡ value = cc in (
                 dart ∷ way.0,
-                (ap (up_of tree.ups.items) new.0 ∙ up, way.1),
+                (subst (λ (x : ℕ). IsUp s tree.split.now x dart) (sym new.0) up, way.1),
                 sym values ∙ is ∙ omega (arith, ints, way.2),
               )
         ];
@@ -267,34 +205,38 @@ module _ (tree : FaceTree) (h : IsTree tree) (counts : List ℤ) (small : AreWit
 
   -- the top of a way that ends at a height
   pub record IsTopKnown (heights : List (Option ℤ)) (f : ℕ) (way : List DartName) (dart : DartName) : Type 0 where
-    pub below : IsWayUp s tree.ups.items f way (face_of s dart.0)
-    pub up : up_of tree.ups.items (face_of s dart.0) ≡ Some dart
+    pub below : IsWayUp s tree.split.now f way (face_of s dart.0)
+    pub up : IsUp s tree.split.now (face_of s dart.0) dart
     pub known : is_some (height_of heights (face_across s dart.0)) ≡ true
 
   pub top_known : (heights : List (Option ℤ)) (f : ℕ) (whole way : List DartName) (dart : DartName) → whole ≡ way ++ dart ∷ []
       → EndsAtHeight tree heights f whole → IsTopKnown heights f way dart
   top_known heights f whole way dart is ends =
-      let top : IsTop s tree.root.0 tree.ups.items h f way ends.0 dart =
-      way_pop s tree.root.0 tree.ups.items h f way ends.0 dart (subst (λ w. IsWayUp s tree.ups.items f w ends.0) is ends.1) in
+      let top : IsTop s tree.split.now h f way ends.0 dart =
+      way_pop s tree.split.now h f way ends.0 dart (subst (λ w. IsWayUp s tree.split.now f w ends.0) is ends.1) in
       record { below = top.below; up = top.up; known = ap (λ g. is_some (height_of heights g)) top.leads ∙ ends.2 }
 
--- a climb goes on, or ends
-module _ (tree : FaceTree) (h : IsTree tree) where
-  -- where there is no dart up, the face is the root
-  pub is_root : (f : ℕ) → f < length tree.surface.now.mesh.faces → up_of tree.ups.items f ≡ None → f ≡ tree.root.0
-  is_root f l none = elim (cases_eq f tree.root.0) [
-    | inl same ↦ same
-    | inr other ↦
-        let up = h.some f l other in
-        let clash : None ≡ Some up.0 = sym none ∙ up.1 in
-        cc
-  ]
+-- what is told of a face in which no dart leads up, and of one in which one does
+pub at_root : (tree : FaceTree) (f : ℕ) (o : Option DartName)
+    → MatchOption o (f ≡ tree.split.now.root_face) (IsUp tree.surface.now tree.split.now f) → o ≡ None → f ≡ tree.split.now.root_face
+at_root tree f None told is = told
+at_root tree f (Some other) told is = cc
 
+pub leads_up : (tree : FaceTree) (f : ℕ) (o : Option DartName) (dart : DartName)
+    → MatchOption o (f ≡ tree.split.now.root_face) (IsUp tree.surface.now tree.split.now f) → o ≡ Some dart
+    → IsUp tree.surface.now tree.split.now f dart
+leads_up tree f None dart told is = cc
+leads_up tree f (Some other) dart told is =
+    let same : other ≡ dart = cc in
+    subst (IsUp tree.surface.now tree.split.now f) same told
+
+-- a climb ends
+module _ (tree : FaceTree) (h : IsTree tree) where
   -- no way has as many darts as there are faces
   pub way_short : (f : ℕ) (way : List DartName) (g : ℕ) → f < length tree.surface.now.mesh.faces
-      → IsWayUp tree.surface.now tree.ups.items f way g → length way < length tree.surface.now.mesh.faces
+      → IsWayUp tree.surface.now tree.split.now f way g → length way < length tree.surface.now.mesh.faces
   way_short f way g l w =
-      omega (arith, way_rank tree.surface.now tree.root.0 tree.ups.items h f way g w, h.few f l)
+      omega (arith, way_rank tree.surface.now tree.split.now h f way g w, h.few f l)
 
 -- ---- a closed way
 
@@ -309,16 +251,16 @@ dart_within tree d old new zeros long grew =
 pub cut_at : (tree : FaceTree) (d above below : ℕ) (old one two new : List ℤ) → length old ≡ length tree.surface.now.table
     → ((k : ℕ) → number_at old k ≡ pos 0) → above ≡ face_across tree.surface.now d → below ≡ face_of tree.surface.now d
     → GrewBy tree.surface.now.table (dart_share tree.surface.now (pos 1) d) old one
-    → (up : List DartName) × IsWayUp tree.surface.now tree.ups.items above up tree.root.0
+    → (up : List DartName) × IsWayUp tree.surface.now tree.split.now above up tree.split.now.root_face
     × GrewBy tree.surface.now.table (way_share tree.surface.now (pos 1) up) one two
-    → (down : List DartName) × IsWayUp tree.surface.now tree.ups.items below down tree.root.0
+    → (down : List DartName) × IsWayUp tree.surface.now tree.split.now below down tree.split.now.root_face
     × GrewBy tree.surface.now.table (way_share tree.surface.now (negsuc 0) down) two new
     → AreWithin 3 new → IsCutAt tree d new
 cut_at tree d above below old one two new long zeros is_above is_below first up down small = record {
   up = up.0;
   down = down.0;
-  goes_up = subst (λ f. IsWayUp tree.surface.now tree.ups.items f up.0 tree.root.0) is_above up.1;
-  comes_down = subst (λ f. IsWayUp tree.surface.now tree.ups.items f down.0 tree.root.0) is_below down.1;
+  goes_up = subst (λ f. IsWayUp tree.surface.now tree.split.now f up.0 tree.split.now.root_face) is_above up.1;
+  comes_down = subst (λ f. IsWayUp tree.surface.now tree.split.now f down.0 tree.split.now.root_face) is_below down.1;
   each_edge = record {
     long = down.2.long ∙ up.2.long ∙ first.long ∙ long;
     each = λ k l.
@@ -369,7 +311,7 @@ forced_from tree counts numbers heights are all long each = record {
 }
   where
     at : (f : ℕ) (o : Option ℤ) → height_of heights f ≡ o → is_some o ≡ true
-        → (way : List DartName) × IsWayUp tree.surface.now tree.ups.items f way tree.root.0
+        → (way : List DartName) × IsWayUp tree.surface.now tree.split.now f way tree.split.now.root_face
         × (number_at numbers f ≡ listed tree.surface.now f (way_count tree.surface.now counts way))
     at f None is some = cc
     at f (Some height) is some =

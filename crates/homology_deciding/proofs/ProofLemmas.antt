@@ -61,7 +61,7 @@ module _ (tree : FaceTree) (h : IsTree tree) (first second : List ℕ) (numbers 
           (omega (
             arith,
             listed_size s k (way_count s counts way.0),
-            height_small s tree.root.0 tree.ups.items h counts first second are k way.0 tree.root.0 way.1,
+            height_small s tree.split.now h counts first second are k way.0 tree.split.now.root_face way.1,
           ))
       | inr past ↦
           let none : number_at numbers k ≡ pos 0 = get_or_past numbers k (pos 0) (omega (arith, forced.each_face, past)) in
@@ -79,14 +79,14 @@ module _ (tree : FaceTree) (h : IsTree tree) (first second : List ℕ) (numbers 
     }
 
     -- the number of a face is that of any way to the root
-    face_value : (f : ℕ) (way : List DartName) → f < length s.mesh.faces → IsWayUp s tree.ups.items f way tree.root.0
+    face_value : (f : ℕ) (way : List DartName) → f < length s.mesh.faces → IsWayUp s tree.split.now f way tree.split.now.root_face
         → listed s f (number_at numbers f) ≡ along (way_share s (pos 1) way) first -ℤ along (way_share s (pos 1) way) second
     face_value f way l w =
         let forced = leaves.forced.each f l in
-        let same : forced.0 ≡ way = one_way s tree.root.0 tree.ups.items h f forced.0 way forced.1 w in
+        let same : forced.0 ≡ way = one_way s tree.split.now h f forced.0 way forced.1 w in
         ap (listed s f) forced.2 ∙ listed_twice s f (way_count s leaves.counts forced.0)
         ∙ ap (way_count s leaves.counts) same
-        ∙ way_count_is s tree.root.0 tree.ups.items h leaves.counts first second leaves.are_counts f way tree.root.0 w
+        ∙ way_count_is s tree.split.now h leaves.counts first second leaves.are_counts f way tree.split.now.root_face w
 
     -- what is left at the edge of a dart, by the faces on its two sides
     left_at : ℕ → ℤ
@@ -151,7 +151,7 @@ module _ (tree : FaceTree) (h : IsTree tree) (first second : List ℕ) (numbers 
           (names_all s h.valid).face_below (twin_of s d) ((rotation_system s h.valid).twin_within d at.dart) in
           let down = face_value (face_of s d) is_cut.down here is_cut.comes_down in
           let up = face_value (face_across s d) is_cut.up there is_cut.goes_up in
-          let all = separation_is s tree.root.0 tree.ups.items h d is_cut.up is_cut.down at.dart is_cut.goes_up is_cut.comes_down first
+          let all = separation_is s tree.split.now h d is_cut.up is_cut.down at.dart is_cut.goes_up is_cut.comes_down first
           second in
           left_of_dart e d at differ (omega (arith, ints, down, up, all, none))
 
@@ -159,7 +159,7 @@ module _ (tree : FaceTree) (h : IsTree tree) (first second : List ℕ) (numbers 
       cocycle_proof = record {
         of_edge = cycle_share s d is_cut.up is_cut.down;
         each_edge = is_cut.each_edge;
-        cocycle = is_cocycle s tree.root.0 tree.ups.items h d is_cut.up is_cut.down at.dart is_cut.goes_up is_cut.comes_down;
+        cocycle = is_cocycle s tree.split.now h d is_cut.up is_cut.down at.dart is_cut.goes_up is_cut.comes_down;
         separates = separates;
         small = is_cut.small;
       }

@@ -1,48 +1,48 @@
 -- Ways up in a tree over the faces.
-use Rattle.homology_deciding.proofs.Common.{rotation_system, darts_of, face_of, origin_of, twin_of, OrientedMesh, rotations_of, IsRotationSystem, size-share, share, ◌≡◌, ◌⊎◌, inl, inr, ℕ, ◌+◌, ◌<◌, ◌≤◌, List, [], ◌∷◌, ◌++◌, length, refl, ap, sym, ◌∙◌, subst, arith, ℤ, pos, ◌+ℤ◌, cases_Bool, nat_tests, ints, Option, Some, None, unsigned_abs, nat_eq, ◌&&◌, DartName}
-use Rattle.homology_deciding.specs.FaceTrees.{up_of, face_across, IsTreeOfFaces, IsWayUp, dart_share, way_share}
+use Rattle.homology_deciding.proofs.Common.{rotation_system, darts_of, face_of, origin_of, twin_of, OrientedMesh, rotations_of, IsRotationSystem, size-share, share, ◌≡◌, ◌⊎◌, inl, inr, ℕ, ◌+◌, ◌<◌, ◌≤◌, List, [], ◌∷◌, ◌++◌, length, refl, ap, sym, ◌∙◌, subst, arith, ℤ, pos, ◌+ℤ◌, cases_Bool, nat_tests, ints, unsigned_abs, nat_eq, ◌&&◌, DartName, SplitView}
+use Rattle.homology_deciding.specs.FaceTrees.{face_across, IsUp, IsTreeOfFaces, IsWayUp, dart_share, way_share}
 
-module _ (s : OrientedMesh) (root : ℕ) (ups : List (Option DartName)) (h : IsTreeOfFaces s root ups) where
+module _ (s : OrientedMesh) (split : SplitView) (h : IsTreeOfFaces s split) where
   abbrev r : IsRotationSystem (rotations_of s)
   r = rotation_system s h.valid
 
-  pub way_rank : (f : ℕ) (way : List DartName) (g : ℕ) → IsWayUp s ups f way g → h.rank f ≡ length way + h.rank g
+  pub way_rank : (f : ℕ) (way : List DartName) (g : ℕ) → IsWayUp s split f way g → h.rank f ≡ length way + h.rank g
   way_rank f [] g w = let same : h.rank f ≡ h.rank g = ap h.rank w in omega (arith, same)
   way_rank f (dart ∷ way) g w =
       let more = way_rank (face_across s dart.0) way g w.1 in
       omega (arith, more, h.rises f dart w.0)
 
   -- one dart more at the upper end
-  pub way_push : (f : ℕ) (way : List DartName) (g : ℕ) (dart : DartName) → IsWayUp s ups f way g → up_of ups g ≡ Some dart
-      → IsWayUp s ups f (way ++ dart ∷ []) (face_across s dart.0)
-  way_push f [] g dart w up = (ap (up_of ups) w ∙ up, refl)
+  pub way_push : (f : ℕ) (way : List DartName) (g : ℕ) (dart : DartName) → IsWayUp s split f way g → IsUp s split g dart
+      → IsWayUp s split f (way ++ dart ∷ []) (face_across s dart.0)
+  way_push f [] g dart w up = (subst (λ (x : ℕ). IsUp s split x dart) (sym w) up, refl)
   way_push f (first ∷ way) g dart w up = (w.0, way_push (face_across s first.0) way g dart w.1 up)
 
   -- the dart at the upper end taken off
   pub record IsTop (f : ℕ) (way : List DartName) (g : ℕ) (dart : DartName) : Type 0 where
-    pub below : IsWayUp s ups f way (face_of s dart.0)
-    pub up : up_of ups (face_of s dart.0) ≡ Some dart
+    pub below : IsWayUp s split f way (face_of s dart.0)
+    pub up : IsUp s split (face_of s dart.0) dart
     pub leads : face_across s dart.0 ≡ g
 
-  pub way_pop : (f : ℕ) (way : List DartName) (g : ℕ) (dart : DartName) → IsWayUp s ups f (way ++ dart ∷ []) g → IsTop f way g dart
+  pub way_pop : (f : ℕ) (way : List DartName) (g : ℕ) (dart : DartName) → IsWayUp s split f (way ++ dart ∷ []) g → IsTop f way g dart
   way_pop f [] g dart w =
-      let here : face_of s dart.0 ≡ f = h.inside f dart w.0 in
-      record { below = sym here; up = ap (up_of ups) here ∙ w.0; leads = w.1 }
+      let here : face_of s dart.0 ≡ f = w.0.inside in
+      record { below = sym here; up = subst (λ (x : ℕ). IsUp s split x dart) (sym here) w.0; leads = w.1 }
   way_pop f (first ∷ way) g dart w =
       let more : IsTop (face_across s first.0) way g dart = way_pop (face_across s first.0) way g dart w.1 in
       record { below = (w.0, more.below); up = more.up; leads = more.leads }
 
   -- one way leads to the root
-  pub one_way : (f : ℕ) (way other : List DartName) → IsWayUp s ups f way root → IsWayUp s ups f other root → way ≡ other
+  pub one_way : (f : ℕ) (way other : List DartName) → IsWayUp s split f way split.root_face → IsWayUp s split f other split.root_face
+      → way ≡ other
   one_way f [] [] v w = refl
-  one_way f [] (dart ∷ other) v w = let clash : None ≡ Some dart = sym h.none ∙ ap (up_of ups) (sym v) ∙ w.0 in cc
-  one_way f (dart ∷ way) [] v w = let clash : None ≡ Some dart = sym h.none ∙ ap (up_of ups) (sym w) ∙ v.0 in cc
+  one_way f [] (dart ∷ other) v w = absurd (h.none dart (subst (λ (x : ℕ). IsUp s split x dart) v w.0))
+  one_way f (dart ∷ way) [] v w = absurd (h.none dart (subst (λ (x : ℕ). IsUp s split x dart) w v.0))
   one_way f (dart ∷ way) (next ∷ other) v w =
-      let same : Some dart ≡ Some next = sym v.0 ∙ w.0 in
-      let darts : dart ≡ next = cc in
+      let darts : dart ≡ next = h.one f dart next v.0 w.0 in
       let rest : way ≡ other =
       one_way (face_across s dart.0) way other v.1
-      (subst (λ (d : DartName). IsWayUp s ups (face_across s d.0) other root) (sym darts) w.1) in
+      (subst (λ (d : DartName). IsWayUp s split (face_across s d.0) other split.root_face) (sym darts) w.1) in
       cc
 
   -- ---- a way crosses each edge once at most
@@ -74,8 +74,8 @@ module _ (s : OrientedMesh) (root : ℕ) (ups : List (Option DartName)) (h : IsT
       (r.one_dart (twin_of s d) e (r.twin_within d l) k (p.1 ∙ sym q.0) (ap (origin_of s) (r.twin_back d l) ∙ p.0 ∙ sym q.1)))
 
   -- a way above a dart that joins them does not
-  above_off : (amount : ℤ) (f : ℕ) (dart : DartName) (g : ℕ) (way : List DartName) (top u v : ℕ) → up_of ups f ≡ Some dart
-      → Joins dart.0 u v → IsWayUp s ups g way top → h.rank g < h.rank f → way_share s amount way u v ≡ pos 0
+  above_off : (amount : ℤ) (f : ℕ) (dart : DartName) (g : ℕ) (way : List DartName) (top u v : ℕ) → IsUp s split f dart
+      → Joins dart.0 u v → IsWayUp s split g way top → h.rank g < h.rank f → way_share s amount way u v ≡ pos 0
   above_off amount f dart g [] top u v up joins w less = refl
   above_off amount f dart g (next ∷ way) top u v up joins w less =
       let more : way_share s amount way u v ≡ pos 0 =
@@ -83,14 +83,14 @@ module _ (s : OrientedMesh) (root : ℕ) (ups : List (Option DartName)) (h : IsT
       elim (joins_or_nothing amount next.0 u v) [
         | inr nothing ↦ omega (arith, ints, nothing, more)
         | inl also ↦
-            elim (same_edge dart.0 next.0 u v (h.within f dart up) (h.within g next w.0) joins also) [
+            elim (same_edge dart.0 next.0 u v up.within w.0.within joins also) [
               | inl same ↦
-                  let one_face : f ≡ g = sym (h.inside f dart up) ∙ ap (face_of s) (sym same) ∙ h.inside g next w.0 in
+                  let one_face : f ≡ g = sym up.inside ∙ ap (face_of s) (sym same) ∙ w.0.inside in
                   absurd (omega (arith, less, ap h.rank one_face))
               | inr twin ↦
                   let lower : face_across s next.0 ≡ f =
-                  ap (λ x. face_of s (twin_of s x)) twin ∙ ap (face_of s) (r.twin_back dart.0 (h.within f dart up))
-                  ∙ h.inside f dart up in
+                  ap (λ x. face_of s (twin_of s x)) twin ∙ ap (face_of s) (r.twin_back dart.0 up.within)
+                  ∙ up.inside in
                   absurd (omega (
                     arith,
                     less,
@@ -100,7 +100,7 @@ module _ (s : OrientedMesh) (root : ℕ) (ups : List (Option DartName)) (h : IsT
             ]
       ]
 
-  pub way_small : (amount : ℤ) (f : ℕ) (way : List DartName) (g u v : ℕ) → unsigned_abs amount ≤ 1 → IsWayUp s ups f way g
+  pub way_small : (amount : ℤ) (f : ℕ) (way : List DartName) (g u v : ℕ) → unsigned_abs amount ≤ 1 → IsWayUp s split f way g
       → unsigned_abs (way_share s amount way u v) ≤ 1
   way_small amount f [] g u v one w = omega arith
   way_small amount f (dart ∷ way) g u v one w = elim (joins_or_nothing amount dart.0 u v) [

@@ -16,7 +16,7 @@ cycle_share surface dart up down u v =
 pub record IsCutAt (tree : FaceTree) (dart : ℕ) (numbers : List ℤ) : Type 0 where
   pub up : List DartName
   pub down : List DartName
-  pub goes_up : IsWayUp tree.surface.now tree.ups.items (face_across tree.surface.now dart) up tree.root.0
-  pub comes_down : IsWayUp tree.surface.now tree.ups.items (face_of tree.surface.now dart) down tree.root.0
+  pub goes_up : IsWayUp tree.surface.now tree.split.now (face_across tree.surface.now dart) up tree.split.now.root_face
+  pub comes_down : IsWayUp tree.surface.now tree.split.now (face_of tree.surface.now dart) down tree.split.now.root_face
   pub each_edge : AreNumbersOf tree.surface.now.table numbers (cycle_share tree.surface.now dart up down)
   pub small : AreWithin 3 numbers

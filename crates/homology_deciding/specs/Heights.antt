@@ -26,15 +26,15 @@ height_of heights f = slice_index_or heights f None
 -- the heights that are known are those of the ways to the root
 pub record AreHeights (tree : FaceTree) (counts : List ℤ) (heights : List (Option ℤ)) : Type 0 where
   pub each_face : length heights ≡ length tree.surface.now.mesh.faces
-  pub root : is_some (height_of heights tree.root.0) ≡ true
+  pub root : is_some (height_of heights tree.split.now.root_face) ≡ true
   pub each : (f : ℕ) (height : ℤ) → height_of heights f ≡ Some height
-      → (way : List DartName) × IsWayUp tree.surface.now tree.ups.items f way tree.root.0
+      → (way : List DartName) × IsWayUp tree.surface.now tree.split.now f way tree.split.now.root_face
       × (height ≡ way_count tree.surface.now counts way)
 
 -- the way leads from the face to one whose height is known
 abbrev pub EndsAtHeight : FaceTree → List (Option ℤ) → ℕ → List DartName → Type 0
 EndsAtHeight tree heights f way =
-    (g : ℕ) × IsWayUp tree.surface.now tree.ups.items f way g × (is_some (height_of heights g) ≡ true)
+    (g : ℕ) × IsWayUp tree.surface.now tree.split.now f way g × (is_some (height_of heights g) ≡ true)
 
 -- a number of a face as it is listed: with a minus sign where the face is flipped
 abbrev pub listed : OrientedMesh → ℕ → ℤ → ℤ
@@ -44,5 +44,5 @@ listed surface f number = if is_flipped surface.signs f then neg_ℤ number else
 pub record AreForced (tree : FaceTree) (counts numbers : List ℤ) : Type 0 where
   pub each_face : length numbers ≡ length tree.surface.now.mesh.faces
   pub each : (f : ℕ) → f < length tree.surface.now.mesh.faces
-      → (way : List DartName) × IsWayUp tree.surface.now tree.ups.items f way tree.root.0
+      → (way : List DartName) × IsWayUp tree.surface.now tree.split.now f way tree.split.now.root_face
       × (number_at numbers f ≡ listed tree.surface.now f (way_count tree.surface.now counts way))

@@ -49,13 +49,13 @@ fn cross_up(numbers: &mut [i64], tree: &FaceTree<'_>, face: FaceName, amount: i6
     requires long { length numbers.old ≡ length tree.now.surface.now.table }
     requires small { unsigned_abs amount ≤ 1 }
     requires room { AreWithin (2 ^ 32) numbers.old }
-    ensures way { (way : List DartName) × IsWayUp tree.now.surface.now tree.now.ups.items face.0 way tree.now.root.0
+    ensures way { (way : List DartName) × IsWayUp tree.now.surface.now tree.now.split.now face.0 way tree.now.split.now.root_face
         × GrewBy tree.now.surface.now.table (way_share tree.now.surface.now amount way) numbers.old numbers.new }
     ensures size { (bound : ℕ) → AreWithin bound numbers.old → AreWithin (bound + 1) numbers.new }
 {
     let mut at = face;
     // A way up passes each face once at most.
-    for _step in 0..tree.ups.len() {
+    for _step in 0..tree.surface.faces().len() {
         let Some(up) = tree.up(at) else {
             return;
         };

@@ -48,7 +48,7 @@ pub fn homologous(
     ensures exact { IfOk result (λ proof. (is_chain proof ≡ true) ↔ AreHomologous surface.now.mesh first.now second.now) }
 {
     let mut counts = count_differences(alloc, surface.faces(), surface.sides(), first, second)?;
-    let tree = FaceTree::of_split(alloc, surface, split)?;
+    let tree = FaceTree { surface, split };
     prove(alloc, &tree, &mut counts)
 }
 

@@ -27,7 +27,7 @@ pub(crate) fn heights_of(
     ensures all { IfOk result (λ heights.
         (f : ℕ) → f < length tree.now.surface.now.mesh.faces → is_some (height_of heights.items f) ≡ true) }
 {
-    let mut heights = vec![in alloc; None; tree.ups.len()]?;
+    let mut heights = vec![in alloc; None; tree.surface.faces().len() as usize]?;
     settle_all(alloc, &mut heights, tree, counts)?;
     Ok(heights)
 }
@@ -47,7 +47,7 @@ fn settle_all(
     ensures heights { OnOk result (AreHeights tree.now counts.now heights.new) }
     ensures all { OnOk result ((f : ℕ) → f < length tree.now.surface.now.mesh.faces → is_some (height_of heights.new f) ≡ true) }
 {
-    heights[tree.root.0 as usize] = Some(0);
+    heights[tree.split.root_face().0 as usize] = Some(0);
     let mut way = Vec::new(alloc);
     for face in 0..tree.surface.faces().len() {
         climb(&mut way, heights, tree, FaceName(face))?;
@@ -67,12 +67,12 @@ fn climb(
     requires face { face.0 < length tree.now.surface.now.mesh.faces }
     requires empty { way.old.items ≡ [] }
     requires long { length heights.now ≡ length tree.now.surface.now.mesh.faces }
-    requires root { is_some (height_of heights.now tree.now.root.0) ≡ true }
+    requires root { is_some (height_of heights.now tree.now.split.now.root_face) ≡ true }
     ensures { OnOk result (EndsAtHeight tree.now heights.now face.0 way.new.items) }
 {
     let mut at = face;
     // A way up passes each face once at most.
-    for _step in 0..tree.ups.len() {
+    for _step in 0..tree.surface.faces().len() {
         match tree.up(at) {
             Some(up) if heights[at.0 as usize].is_none() => {
                 way.push(up)?;

@@ -2,6 +2,12 @@ use Rattle.homology_deciding.proofs.Common.{within_more, ◌+◌, arith}
 use Rattle.homology_deciding.proofs.LoopLemmas.{dart_within, cut_at}
 use Rattle.homology_deciding.proofs.cutting.cross_all.Goals as goal
 
+pub cross_up-requires-clause-room : goal.cross_up-requires-clause-room
+cross_up-requires-clause-room c =
+    within_more 1 4294967296 c.cross.new.numbers
+    (dart_within c.args.tree.now c.args.dart.0 c.args.numbers.now c.cross.new.numbers c.requires.zeros c.requires.long c.cross.ensures)
+    (omega arith)
+
 pub cross_up-requires-2-clause-room : goal.cross_up-requires-2-clause-room
 cross_up-requires-2-clause-room c =
     within_more (1 + 1) 4294967296 c.cross_up.new.numbers

@@ -1,6 +1,6 @@
-use Rattle.homology_deciding.proofs.Common.{OrientedMesh, within_more, sent, GrewBy, AreWithin, ◌+◌, ◌<◌, ℕ, [], ◌∷◌, ◌++◌, length, sym, ◌∙◌, subst, arith, to_z, of_z, w64, length_push, DartName}
+use Rattle.homology_deciding.proofs.Common.{OrientedMesh, within_more, sent, GrewBy, AreWithin, ◌+◌, ◌<◌, ℕ, [], ◌∷◌, ◌++◌, length, ap, sym, subst, arith, to_z, of_z, w64, length_push, FaceList, DartName}
 use Rattle.homology_deciding.specs.FaceTrees.{IsWayUp, way_share}
-use Rattle.homology_deciding.proofs.LoopLemmas.{within_grown, way_grown, is_root, way_short}
+use Rattle.homology_deciding.proofs.LoopLemmas.{within_grown, way_grown, way_short, at_root, leads_up}
 use Rattle.homology_deciding.proofs.WayLemmas.{way_push, way_small}
 use Rattle.homology_deciding.proofs.cutting.cross_up.Goals as goal
 use Rattle.homology_deciding.proofs.cutting.cross_up.Goals.{In-loop-step, After-loop-step}
@@ -20,7 +20,7 @@ within c bound small =
     let s : OrientedMesh = tree.surface.now in
     let i = c.loop-step.invariant in
     within_grown s.table (way_share s c.args.amount i.1.0) c.args.numbers.now c.loop-step.numbers bound 1 small (grew c) c.requires.long
-    (λ low high. way_small s tree.root.0 tree.ups.items c.requires.tree c.args.amount c.args.face.0 i.1.0 c.loop-step.at.0 low high
+    (λ low high. way_small s tree.split.now c.requires.tree c.args.amount c.args.face.0 i.1.0 c.loop-step.at.0 low high
     c.requires.small i.1.1)
 
 -- the way has fewer darts than there are faces
@@ -33,9 +33,9 @@ pub returns-in_default-clause-way : goal.returns-in_default-clause-way
 returns-in_default-clause-way c =
     let tree = c.args.tree.now in
     let i = c.loop-step.invariant in
-    let root = is_root tree c.requires.tree c.loop-step.at.0 i.0 (sym c.up.ensures ∙ c.in_default.is) in (
+    let root = at_root tree c.loop-step.at.0 c.up.result c.up.ensures c.in_default.is in (
       i.1.0,
-      subst (IsWayUp tree.surface.now tree.ups.items c.args.face.0 i.1.0) root i.1.1,
+      subst (IsWayUp tree.surface.now tree.split.now c.args.face.0 i.1.0) root i.1.1,
       grew (goal.at.returns-in_default-clause-way c).In-loop-step,
     )
 
@@ -56,9 +56,9 @@ loop-step-preserved c =
       c.above-at.ensures.within,
       (
         i.1.0 ++ up ∷ [],
-        subst (IsWayUp s tree.ups.items c.args.face.0 (i.1.0 ++ up ∷ [])) (sym c.above-at.ensures.face)
-            (way_push s tree.root.0 tree.ups.items c.requires.tree c.args.face.0 i.1.0 c.loop-step.at.0 up i.1.1
-            (sym c.up.ensures ∙ c.in-Some.is)),
+        subst (IsWayUp s tree.split.now c.args.face.0 (i.1.0 ++ up ∷ [])) (sym c.above-at.ensures.face)
+            (way_push s tree.split.now c.requires.tree c.args.face.0 i.1.0 c.loop-step.at.0 up i.1.1
+            (leads_up tree c.loop-step.at.0 c.up.result up c.up.ensures c.in-Some.is)),
         omega (arith, length_push i.1.0 up, i.1.2),
         way_grown s (to_z w64 (of_z w64 c.args.amount)) i.1.0 up c.args.numbers.now c.loop-step.numbers c.cross.new.numbers i.1.3
             c.cross.ensures,
@@ -68,9 +68,23 @@ loop-step-preserved c =
 pub returns-clause-way : goal.returns-clause-way
 returns-clause-way c =
     let at = (goal.at.returns-clause-way c).After-loop-step in
-    absurd (omega (arith, short at, at.loop-step.invariant.1.2, c.loop-step-test.false, c.len-step-end.ensures, c.requires.tree.each_face))
+    absurd (omega (
+      arith,
+      short at,
+      at.loop-step.invariant.1.2,
+      c.loop-step-test.false,
+      c.len-step-end.ensures.count,
+      ap (λ (m : FaceList). length m.faces) c.faces.ensures.mesh,
+    ))
 
 pub returns-clause-size : goal.returns-clause-size
 returns-clause-size c =
     let at = (goal.at.returns-clause-size c).After-loop-step in
-    absurd (omega (arith, short at, at.loop-step.invariant.1.2, c.loop-step-test.false, c.len-step-end.ensures, c.requires.tree.each_face))
+    absurd (omega (
+      arith,
+      short at,
+      at.loop-step.invariant.1.2,
+      c.loop-step-test.false,
+      c.len-step-end.ensures.count,
+      ap (λ (m : FaceList). length m.faces) c.faces.ensures.mesh,
+    ))

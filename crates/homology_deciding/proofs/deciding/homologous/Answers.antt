@@ -1,31 +1,35 @@
-use Rattle.homology_deciding.proofs.Common.{OrientedMesh, count_difference, AreNumbersOf, ℤ, List, sym, subst, IfOk, Edge}
-use Rattle.homology_deciding.specs.Proofs.{CountsOf, IsProofFor}
+use Rattle.homology_deciding.proofs.Common.{count_difference, AreNumbersOf, ℤ, List, sym, subst, IfOk, Edge}
+use Rattle.homology_deciding.specs.Proofs.{IsProofFor}
+use Rattle.homology_deciding.proofs.TreeLemmas.{tree_of}
 use Rattle.homology_deciding.proofs.LoopLemmas.{if_ok}
 use Rattle.homology_deciding.proofs.ProofLemmas.{exact_proof}
 use Rattle.homology_deciding.proofs.deciding.homologous.Goals as goal
 use Rattle.homology_deciding.proofs.deciding.homologous.Goals.{After-deref_mut}
 
 -- so much more is counted of the first walk than of the second
-counted : (c : After-deref_mut) → CountsOf c.in_ok-tree.tree c.args.first.now c.args.second.now c.deref_mut.result.now
-counted c = record {
-  are_counts =
-      subst (λ (s : OrientedMesh). AreNumbersOf s.table c.deref_mut.result.now (count_difference c.args.first.now c.args.second.now))
-      (sym c.in_ok-tree.ensures.surface)
-      (subst (λ (xs : List ℤ). AreNumbersOf c.args.surface.now.table xs (count_difference c.args.first.now c.args.second.now))
-      (sym c.deref_mut.ensures.value)
-      (subst (λ (t : List Edge). AreNumbersOf t c.in_ok-counts.counts.items (count_difference c.args.first.now c.args.second.now))
-      c.sides.ensures.table c.in_ok-counts.ensures.counts));
-  few = c.requires.few;
-}
+counted : (c : After-deref_mut)
+    → AreNumbersOf c.args.surface.now.table c.deref_mut.result.now (count_difference c.args.first.now c.args.second.now)
+counted c =
+    subst (λ (xs : List ℤ). AreNumbersOf c.args.surface.now.table xs (count_difference c.args.first.now c.args.second.now))
+    (sym c.deref_mut.ensures.value)
+    (subst (λ (t : List Edge). AreNumbersOf t c.in_ok-counts.counts.items (count_difference c.args.first.now c.args.second.now))
+    c.sides.ensures.table c.in_ok-counts.ensures.counts)
+
+pub prove-requires-clause-tree : goal.prove-requires-clause-tree
+prove-requires-clause-tree c =
+    tree_of c.args.surface.now c.args.split.now c.sides.ensures.valid c.requires.split c.sides.ensures.small
 
 pub prove-requires-clause-walks : goal.prove-requires-clause-walks
-prove-requires-clause-walks c =
-    (c.args.first.now, c.args.second.now, counted (goal.at.prove-requires-clause-walks c).After-deref_mut)
+prove-requires-clause-walks c = (
+  c.args.first.now,
+  c.args.second.now,
+  record { are_counts = counted (goal.at.prove-requires-clause-walks c).After-deref_mut; few = c.requires.few },
+)
 
 pub returns-clause-proof : goal.returns-clause-proof
 returns-clause-proof c =
-    subst (λ (s : OrientedMesh). IfOk c.prove.result (IsProofFor s c.args.first.now c.args.second.now)) c.in_ok-tree.ensures.surface
-    (c.prove.ensures c.args.first.now c.args.second.now (counted (goal.at.returns-clause-proof c).After-deref_mut))
+    c.prove.ensures c.args.first.now c.args.second.now
+    (record { are_counts = counted (goal.at.returns-clause-proof c).After-deref_mut; few = c.requires.few })
 
 pub returns-clause-exact : goal.returns-clause-exact
 returns-clause-exact c =

@@ -1,5 +1,5 @@
 use Rattle.homology_deciding.proofs.Common.{darts_of, face_of, OrientedMesh, ◌≡◌, ◌<◌, ℕ, ℤ, List, [], length, ap, refl, sym, ◌∙◌, subst, arith, rules, to_z, of_z, w64, ◌+ℤ◌, is_some, DartName}
-use Rattle.homology_deciding.specs.FaceTrees.{up_of, IsWayUp}
+use Rattle.homology_deciding.specs.FaceTrees.{IsUp, IsWayUp}
 use Rattle.homology_deciding.specs.Heights.{height_of, dart_count, EndsAtHeight}
 use Rattle.homology_deciding.proofs.LoopLemmas.{IsTopKnown, top_known, known, height_small, height_more, height_kept, height_there, added_fits, added_is}
 use Rattle.homology_deciding.proofs.heights.settle.Goals as goal
@@ -13,8 +13,7 @@ top c f ends =
     c.pop.new.self.items c.in-Some.up c.in-Some.ensures.items (c.loop-up.invariant.ends f ends)
 
 within : (c : In-Some) → c.in-Some.up.0 < darts_of c.args.tree.now.surface.now
-within c =
-    c.requires.tree.within (face_of c.args.tree.now.surface.now c.in-Some.up.0) c.in-Some.up (top c c.requires.way.0 c.requires.way.1).up
+within c = (top c c.requires.way.0 c.requires.way.1).up.within
 
 pub above-requires : goal.above-requires
 above-requires c = within (goal.at.above-requires c).In-Some
@@ -52,13 +51,13 @@ loop-up-preserved-in-Some-heights c =
     let room : f < length heights = omega (arith, c.face_of-face.ensures.within, c.loop-up.invariant.heights.each_face) in
     record {
       heights = height_more tree c.requires.tree counts c.requires.small heights f up height sum c.loop-up.invariant.heights
-          (ap (up_of tree.ups.items) face ∙ (top at c.requires.way.0 c.requires.way.1).up)
+          (subst (λ (x : ℕ). IsUp s tree.split.now x up) (sym face) (top at c.requires.way.0 c.requires.way.1).up)
           (ap (height_of heights) (sym c.above.ensures.face) ∙ c.in-Some-heights.is) is c.face_of-face.ensures.within;
       kept = λ g is_known.
           height_kept tree c.requires.tree counts c.requires.small heights f g sum room (c.loop-up.invariant.kept g is_known);
       ends = λ g ends. (
         f,
-        subst (IsWayUp s tree.ups.items g c.pop.new.self.items) (sym face) (top at g ends).below,
+        subst (IsWayUp s tree.split.now g c.pop.new.self.items) (sym face) (top at g ends).below,
         height_there tree c.requires.tree counts c.requires.small heights f sum room,
       );
     }
@@ -77,5 +76,5 @@ returns-clause-found c = λ f ends.
     let empty : c.loop-up.way.items ≡ [] = search rules in
     let e = c.loop-up.invariant.ends f ends in
     let here : f ≡ e.0 =
-    subst (λ (w : List DartName). IsWayUp c.args.tree.now.surface.now c.args.tree.now.ups.items f w e.0) empty e.1 in
+    subst (λ (w : List DartName). IsWayUp c.args.tree.now.surface.now c.args.tree.now.split.now f w e.0) empty e.1 in
     ap (λ g. is_some (height_of c.loop-up.heights g)) here ∙ e.2
