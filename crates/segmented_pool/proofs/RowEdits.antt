@@ -43,13 +43,17 @@ module _ (lists : List (Option (List ℕ))) (ss : List Segment) (parts : List (L
     pub listed : list_under lists s.chain.0 ≡ part parts k
     listed = list_under-is lists s.chain.0 (part parts k) here.has
 
-    -- one segment has another list
-    pub changed : (new : List (Option (List ℕ))) (len : ℕ) (l : List ℕ) → under new s.chain.0 ≡ Some l → len ≡ length l
+    -- the list of one segment is edited
+    pub changed : (new : List (Option (List ℕ))) (len : ℕ) (edit : List ℕ → List ℕ)
+        → under new s.chain.0 ≡ Some (edit (list_under lists s.chain.0))
+        → (s.len ≡ length (part parts k) → len ≡ length (edit (part parts k)))
         → ((other : ℕ) → other ≢ s.chain.0 → under new other ≡ under lists other)
-        → AreSegments new (set ss k (record { chain = s.chain; len = len })) (set parts k l)
-    changed new len l has counted others =
-        row_set lists new ss parts k s (record { chain = s.chain; len = len }) l seen (omega (arith, count))
-        (ap (λ (x : Segment). x.chain) at) (record { has = has; counted = counted }) (kept_by_one lists new s.chain.0 ss others)
+        → AreSegments new (set ss k (record { chain = s.chain; len = len })) (set parts k (edit (part parts k)))
+    changed new len edit has counted others =
+        row_set lists new ss parts k s (record { chain = s.chain; len = len }) (edit (part parts k)) seen (omega (arith, count))
+        (ap (λ (x : Segment). x.chain) at)
+        (record { has = has ∙ ap (λ (l : List ℕ). Some (edit l)) listed; counted = counted here.counted })
+        (kept_by_one lists new s.chain.0 ss others)
 
     -- one segment is two
     pub parted : (new : List (Option (List ℕ))) (place : ℕ) (t : Segment) → place ≤ length (part parts k) → under lists t.chain.0 ≡ None

@@ -1,23 +1,21 @@
-use Rattle.segmented_pool.proofs.Common.{cut, Some, List, ℕ, ◌-◌, set, ap, ◌∙◌, arith}
+use Rattle.segmented_pool.proofs.Common.{cut, List, ℕ, ◌-◌, set, ap, arith}
 use Rattle.segmented_pool.specs.Segments.{Parts, part, AreSegments}
 use Rattle.segmented_pool.specs.declared.segments.Segment.{Segment}
 use Rattle.segmented_pool.proofs.Rows.{parts_are}
-use Rattle.segmented_pool.proofs.RowEdits.{here, live, listed, changed, sound}
+use Rattle.segmented_pool.proofs.RowEdits.{here, live, changed, sound}
 use Rattle.segmented_pool.proofs.Lists.{length-cut}
 use Rattle.segmented_pool.proofs.segments.Segments.cut_between.Goals as goal
 
 pub cut_between-requires-clause-live : goal.cut_between-requires-clause-live
 cut_between-requires-clause-live c =
-    live c.self.inside.pool.lists c.self.inside.row.items c.args.self.now.parts c.self.invariant
-    (ap (λ (v : Parts). v.parts) c.self.view_is) c.args.index c.index_mut-segment.result.now c.requires.index
+    live _ _ _ c.self.invariant (ap (λ (v : Parts). v.parts) c.self.view_is) c.args.index _ c.requires.index
     c.index_mut-segment.ensures.value
 
 pub overflow_sub-segment-2 : goal.overflow_sub-segment-2
 overflow_sub-segment-2 c =
     omega (
       arith,
-      (here c.self.inside.pool.lists c.self.inside.row.items c.args.self.now.parts c.self.invariant
-          (ap (λ (v : Parts). v.parts) c.self.view_is) c.args.index c.index_mut-segment.result.now c.requires.index
+      (here _ _ _ c.self.invariant (ap (λ (v : Parts). v.parts) c.self.view_is) c.args.index _ c.requires.index
           c.index_mut-segment.ensures.value).counted,
     )
 
@@ -35,22 +33,10 @@ parts c = set c.args.self.now.parts c.args.index (cut (part c.args.self.now.part
 edited : (c : goal.After-self-1) → AreSegments c.cut_between.new.self.lists (row c) (parts c)
 edited c =
     let list : List ℕ = part c.args.self.now.parts c.args.index in
-    changed c.self.inside.pool.lists c.self.inside.row.items c.args.self.now.parts c.self.invariant
-    (ap (λ (v : Parts). v.parts) c.self.view_is) c.args.index c.index_mut-segment.result.now c.requires.index
+    changed _ _ _ c.self.invariant (ap (λ (v : Parts). v.parts) c.self.view_is) c.args.index _ c.requires.index
     c.index_mut-segment.ensures.value
-    c.cut_between.new.self.lists _ (cut list c.args.from c.args.to)
-    (c.cut_between.ensures.list.here
-    ∙ ap (λ (l : List ℕ). Some (cut l c.args.from c.args.to))
-    (listed c.self.inside.pool.lists c.self.inside.row.items c.args.self.now.parts c.self.invariant
-    (ap (λ (v : Parts). v.parts) c.self.view_is) c.args.index c.index_mut-segment.result.now c.requires.index
-    c.index_mut-segment.ensures.value))
-    (omega (
-      arith,
-      (here c.self.inside.pool.lists c.self.inside.row.items c.args.self.now.parts c.self.invariant
-          (ap (λ (v : Parts). v.parts) c.self.view_is) c.args.index c.index_mut-segment.result.now c.requires.index
-          c.index_mut-segment.ensures.value).counted,
-      length-cut list c.args.from c.args.to c.requires.order c.requires.place,
-    ))
+    c.cut_between.new.self.lists _ (λ (l : List ℕ). cut l c.args.from c.args.to) c.cut_between.ensures.list.here
+    (λ counted. omega (arith, counted, length-cut list c.args.from c.args.to c.requires.order c.requires.place))
     c.cut_between.ensures.list.others
 
 pub invariant_of-self : goal.invariant_of-self

@@ -8,22 +8,19 @@ use Rattle.segmented_pool.proofs.segments.Segments.join.Goals as goal
 
 pub splice-requires-clause-live : goal.splice-requires-clause-live
 splice-requires-clause-live c =
-    live c.self.inside.pool.lists c.self.inside.row.items c.args.self.now.parts c.self.invariant
-    (ap (λ (v : Parts). v.parts) c.self.view_is) c.args.index c.index-segment.result.now (omega
-    (arith, c.requires.index)) c.index-segment.ensures
+    live _ _ _ c.self.invariant (ap (λ (v : Parts). v.parts) c.self.view_is)
+    c.args.index _ (omega (arith, c.requires.index)) c.index-segment.ensures
 
 pub splice-requires-clause-other_live : goal.splice-requires-clause-other_live
 splice-requires-clause-other_live c =
-    live c.self.inside.pool.lists c.self.inside.row.items c.args.self.now.parts c.self.invariant
-    (ap (λ (v : Parts). v.parts) c.self.view_is) (suc c.args.index) c.remove-other.result (omega (arith, c.requires.index))
+    live _ _ _ c.self.invariant (ap (λ (v : Parts). v.parts) c.self.view_is) (suc c.args.index) _ (omega (arith, c.requires.index))
     (subst (λ (k : ℕ). c.remove-other.result ≡ get_or c.self.inside.row.items k c.remove-other.result)
     (add-one c.args.index) c.remove-other.ensures.value)
 
 pub splice-requires-clause-differ : goal.splice-requires-clause-differ
 splice-requires-clause-differ c =
-    differ c.self.inside.pool.lists c.self.inside.row.items c.args.self.now.parts c.self.invariant
-    (ap (λ (v : Parts). v.parts) c.self.view_is) c.args.index c.index-segment.result.now (omega
-    (arith, c.requires.index)) c.index-segment.ensures c.remove-other.result (omega (arith, c.requires.index))
+    differ _ _ _ c.self.invariant (ap (λ (v : Parts). v.parts) c.self.view_is)
+    c.args.index _ (omega (arith, c.requires.index)) c.index-segment.ensures _ (omega (arith, c.requires.index))
     (subst (λ (k : ℕ). c.remove-other.result ≡ get_or c.self.inside.row.items k c.remove-other.result)
     (add-one c.args.index) c.remove-other.ensures.value)
 
@@ -31,12 +28,10 @@ pub splice-requires-clause-place : goal.splice-requires-clause-place
 splice-requires-clause-place c =
     omega (
       arith,
-      (here c.self.inside.pool.lists c.self.inside.row.items c.args.self.now.parts c.self.invariant
-          (ap (λ (v : Parts). v.parts) c.self.view_is) c.args.index c.index-segment.result.now (omega
-          (arith, c.requires.index)) c.index-segment.ensures).counted,
-      ap (λ (l : List ℕ). length l) (listed c.self.inside.pool.lists c.self.inside.row.items c.args.self.now.parts c.self.invariant
-          (ap (λ (v : Parts). v.parts) c.self.view_is) c.args.index c.index-segment.result.now (omega
-          (arith, c.requires.index)) c.index-segment.ensures),
+      (here _ _ _ c.self.invariant (ap (λ (v : Parts). v.parts) c.self.view_is)
+          c.args.index _ (omega (arith, c.requires.index)) c.index-segment.ensures).counted,
+      ap (λ (l : List ℕ). length l) (listed _ _ _ c.self.invariant (ap (λ (v : Parts). v.parts) c.self.view_is)
+          c.args.index _ (omega (arith, c.requires.index)) c.index-segment.ensures),
     )
 
 pub overflow_add-segment : goal.overflow_add-segment
@@ -47,11 +42,9 @@ overflow_add-segment c =
       arith,
       c.requires.few,
       more,
-      (here c.self.inside.pool.lists c.self.inside.row.items c.args.self.now.parts c.self.invariant
-          (ap (λ (v : Parts). v.parts) c.self.view_is) c.args.index c.index-segment.result.now (omega
-          (arith, c.requires.index)) c.index-segment.ensures).counted,
-      (here c.self.inside.pool.lists c.self.inside.row.items c.args.self.now.parts c.self.invariant
-          (ap (λ (v : Parts). v.parts) c.self.view_is) (suc c.args.index) c.remove-other.result (omega (arith, c.requires.index))
+      (here _ _ _ c.self.invariant (ap (λ (v : Parts). v.parts) c.self.view_is)
+          c.args.index _ (omega (arith, c.requires.index)) c.index-segment.ensures).counted,
+      (here _ _ _ c.self.invariant (ap (λ (v : Parts). v.parts) c.self.view_is) (suc c.args.index) _ (omega (arith, c.requires.index))
           (subst (λ (k : ℕ). c.remove-other.result ≡ get_or c.self.inside.row.items k c.remove-other.result)
           (add-one c.args.index) c.remove-other.ensures.value)).counted,
     )
@@ -71,14 +64,12 @@ edited c =
     subst (λ (l : List Segment). AreSegments c.splice.new.self.lists (set l c.args.index segment)
     (joined_at c.args.self.now.parts c.args.index))
     (sym items)
-    (united c.self.inside.pool.lists c.self.inside.row.items c.args.self.now.parts c.self.invariant
-    (ap (λ (v : Parts). v.parts) c.self.view_is) c.args.index c.index-segment.result.now (omega
-    (arith, c.requires.index)) c.index-segment.ensures c.remove-other.result (omega (arith, c.requires.index))
+    (united _ _ _ c.self.invariant (ap (λ (v : Parts). v.parts) c.self.view_is)
+    c.args.index _ (omega (arith, c.requires.index)) c.index-segment.ensures _ (omega (arith, c.requires.index))
     (subst (λ (k : ℕ). c.remove-other.result ≡ get_or c.self.inside.row.items k c.remove-other.result) (add-one c.args.index)
     c.remove-other.ensures.value)
     c.splice.new.self.lists _ c.splice.ensures.list refl
-    (here c.self.inside.pool.lists c.self.inside.row.items c.args.self.now.parts c.self.invariant
-    (ap (λ (v : Parts). v.parts) c.self.view_is) (suc c.args.index) c.remove-other.result (omega (arith, c.requires.index))
+    (here _ _ _ c.self.invariant (ap (λ (v : Parts). v.parts) c.self.view_is) (suc c.args.index) _ (omega (arith, c.requires.index))
     (subst (λ (k : ℕ). c.remove-other.result ≡ get_or c.self.inside.row.items k c.remove-other.result)
     (add-one c.args.index) c.remove-other.ensures.value))
     c.splice.ensures.others)

@@ -5,5 +5,4 @@ use Rattle.segmented_pool.proofs.segments.Segments.len.Goals as goal
 
 pub returns : goal.returns
 returns c =
-    (here c.self.inside.pool.lists c.self.inside.row.items c.args.self.now.parts c.self.invariant
-    (ap (λ (v : Parts). v.parts) c.self.view_is) c.args.index c.index.result.now c.requires c.index.ensures).counted
+    (here _ _ _ c.self.invariant (ap (λ (v : Parts). v.parts) c.self.view_is) c.args.index _ c.requires c.index.ensures).counted

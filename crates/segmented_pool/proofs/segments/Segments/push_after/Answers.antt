@@ -1,23 +1,21 @@
-use Rattle.segmented_pool.proofs.Common.{inserted, Some, List, ℕ, ◌+◌, set, ap, ◌∙◌, arith}
+use Rattle.segmented_pool.proofs.Common.{inserted, List, ℕ, ◌+◌, set, ap, arith}
 use Rattle.segmented_pool.specs.Segments.{Parts, part, AreSegments}
 use Rattle.segmented_pool.specs.declared.segments.Segment.{Segment}
 use Rattle.segmented_pool.proofs.Rows.{parts_are}
-use Rattle.segmented_pool.proofs.RowEdits.{here, live, listed, changed, sound}
+use Rattle.segmented_pool.proofs.RowEdits.{here, live, changed, sound}
 use Rattle.segmented_pool.proofs.Lists.{length-inserted}
 use Rattle.segmented_pool.proofs.segments.Segments.push_after.Goals as goal
 
 pub push_after-requires-clause-live : goal.push_after-requires-clause-live
 push_after-requires-clause-live c =
-    live c.self.inside.pool.lists c.self.inside.row.items c.args.self.now.parts c.self.invariant
-    (ap (λ (v : Parts). v.parts) c.self.view_is) c.args.index c.index_mut-segment.result.now c.requires.index
+    live _ _ _ c.self.invariant (ap (λ (v : Parts). v.parts) c.self.view_is) c.args.index _ c.requires.index
     c.index_mut-segment.ensures.value
 
 pub overflow_add-segment : goal.overflow_add-segment
 overflow_add-segment c =
     omega (
       arith,
-      (here c.self.inside.pool.lists c.self.inside.row.items c.args.self.now.parts c.self.invariant
-          (ap (λ (v : Parts). v.parts) c.self.view_is) c.args.index c.index_mut-segment.result.now c.requires.index
+      (here _ _ _ c.self.invariant (ap (λ (v : Parts). v.parts) c.self.view_is) c.args.index _ c.requires.index
           c.index_mut-segment.ensures.value).counted,
     )
 
@@ -32,23 +30,10 @@ parts c = set c.args.self.now.parts c.args.index (inserted (part c.args.self.now
 edited : (c : goal.After-self-1) → AreSegments c.push_after.new.self.lists (row c) (parts c)
 edited c =
     let list : List ℕ = part c.args.self.now.parts c.args.index in
-    changed c.self.inside.pool.lists c.self.inside.row.items c.args.self.now.parts c.self.invariant
-    (ap (λ (v : Parts). v.parts) c.self.view_is) c.args.index c.index_mut-segment.result.now c.requires.index
+    changed _ _ _ c.self.invariant (ap (λ (v : Parts). v.parts) c.self.view_is) c.args.index _ c.requires.index
     c.index_mut-segment.ensures.value
-    c.push_after.new.self.lists _ (inserted list c.args.place c.args.value)
-    (c.push_after.ensures.list.here
-    ∙ ap (λ (l : List ℕ). Some (inserted l c.args.place c.args.value))
-    (listed c.self.inside.pool.lists c.self.inside.row.items c.args.self.now.parts c.self.invariant
-    (ap (λ (v : Parts). v.parts) c.self.view_is) c.args.index c.index_mut-segment.result.now c.requires.index
-    c.index_mut-segment.ensures.value))
-    (omega (
-      arith,
-      (here c.self.inside.pool.lists c.self.inside.row.items c.args.self.now.parts c.self.invariant
-          (ap (λ (v : Parts). v.parts) c.self.view_is) c.args.index c.index_mut-segment.result.now c.requires.index
-          c.index_mut-segment.ensures.value).counted,
-      length-inserted list c.args.place c.args.value,
-    ))
-    c.push_after.ensures.list.others
+    c.push_after.new.self.lists _ (λ (l : List ℕ). inserted l c.args.place c.args.value) c.push_after.ensures.list.here
+    (λ counted. omega (arith, counted, length-inserted list c.args.place c.args.value)) c.push_after.ensures.list.others
 
 pub invariant_of-self : goal.invariant_of-self
 invariant_of-self c = sound c.push_after.new.self.lists (row c) (parts c) (edited c)

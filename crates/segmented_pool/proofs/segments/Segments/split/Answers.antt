@@ -8,15 +8,13 @@ use Rattle.segmented_pool.proofs.segments.Segments.split.Goals as goal
 
 pub take_off-chain-requires-clause-live : goal.take_off-chain-requires-clause-live
 take_off-chain-requires-clause-live c =
-    live c.self.inside.pool.lists c.self.inside.row.items c.args.self.now.parts c.self.invariant
-    (ap (λ (v : Parts). v.parts) c.self.view_is) c.args.index c.index-segment.result.now c.requires.index c.index-segment.ensures
+    live _ _ _ c.self.invariant (ap (λ (v : Parts). v.parts) c.self.view_is) c.args.index _ c.requires.index c.index-segment.ensures
 
 pub overflow_sub-other : goal.overflow_sub-other
 overflow_sub-other c =
     omega (
       arith,
-      (here c.self.inside.pool.lists c.self.inside.row.items c.args.self.now.parts c.self.invariant
-          (ap (λ (v : Parts). v.parts) c.self.view_is) c.args.index c.index-segment.result.now c.requires.index
+      (here _ _ _ c.self.invariant (ap (λ (v : Parts). v.parts) c.self.view_is) c.args.index _ c.requires.index
           c.index-segment.ensures).counted,
     )
 
@@ -29,20 +27,18 @@ row_after c =
     ≡ insert (set c.self.inside.row.items c.args.index (record { chain = c.index-segment.result.now.chain; len = c.args.place }))
     (suc c.args.index) other =
     (rw (ok, add-one c.args.index) at c.insert.ensures.items) in
-    let list = listed c.self.inside.pool.lists c.self.inside.row.items c.args.self.now.parts c.self.invariant
-    (ap (λ (v : Parts). v.parts) c.self.view_is) c.args.index c.index-segment.result.now c.requires.index c.index-segment.ensures in
+    let list = listed _ _ _ c.self.invariant (ap (λ (v : Parts). v.parts) c.self.view_is)
+    c.args.index _ c.requires.index c.index-segment.ensures in
     subst (λ (l : List Segment). AreSegments c.take_off-chain.new.pool.lists l (split_at c.args.self.now.parts c.args.index c.args.place))
     (sym items)
-    (parted c.self.inside.pool.lists c.self.inside.row.items c.args.self.now.parts c.self.invariant
-    (ap (λ (v : Parts). v.parts) c.self.view_is) c.args.index c.index-segment.result.now c.requires.index c.index-segment.ensures
+    (parted _ _ _ c.self.invariant (ap (λ (v : Parts). v.parts) c.self.view_is) c.args.index _ c.requires.index c.index-segment.ensures
     c.take_off-chain.new.pool.lists c.args.place other c.requires.place c.take_off-chain.ensures.was
     (c.take_off-chain.ensures.kept ∙ ap (λ (l : List ℕ). Some (take c.args.place l)) list)
     (c.take_off-chain.ensures.taken ∙ ap (λ (l : List ℕ). Some (drop c.args.place l)) list)
     (omega (
       arith,
       c.requires.place,
-      (here c.self.inside.pool.lists c.self.inside.row.items c.args.self.now.parts c.self.invariant
-          (ap (λ (v : Parts). v.parts) c.self.view_is) c.args.index c.index-segment.result.now c.requires.index
+      (here _ _ _ c.self.invariant (ap (λ (v : Parts). v.parts) c.self.view_is) c.args.index _ c.requires.index
           c.index-segment.ensures).counted,
     ))
     c.take_off-chain.ensures.others)
