@@ -1,15 +1,8 @@
 -- First faults exclude each other, and a closed manifold.
-use Rattle.manifold_check.proofs.Common.{◌≡◌, ◌⊎◌, inl, inr, ℕ, ◌<◌, refl, ap, sym, ◌∙◌, arith, cases_order, IsPairBefore, FaceList, IsClosedManifold, sides_between, VertexName}
-use Rattle.connectivity.specs.Joined.{IsLeastPinch}
+use Rattle.manifold_check.proofs.Common.{same_name, equal_pairs, one_pinch, ◌≡◌, ℕ, refl, ap, sym, ◌∙◌, arith, FaceList, IsClosedManifold, sides_between}
 use Rattle.manifold_check.specs.Faults.{IsFirstFault, IsLeastUnevenEdge}
 use Rattle.manifold_check.specs.declared.fault.SurfaceFault.{SurfaceFault}
 use Rattle.manifold_check.specs.declared.fault.SurfaceFault.TheVariants.{NoFace, EdgeSides, Pinched, OutOfMemory}
-
-same_name : (v w : VertexName) → v.0 ≡ w.0 → v ≡ w
-same_name v w h = let name : ℕ → VertexName = λ x. record { 0 = x } in ap name h
-
-pair_cases : (a b c d : ℕ) → IsPairBefore a b c d ⊎ (IsPairBefore c d a b ⊎ ((a ≡ c) × (b ≡ d)))
-pair_cases a b c d = grind arith
 
 uneven_not_two : (mesh : FaceList) (low high sides : ℕ) → IsLeastUnevenEdge mesh low high sides → sides_between mesh low high ≡ 2 → ⊥
 uneven_not_two mesh low high sides h two = h.uneven (h.number ∙ two)
@@ -17,23 +10,9 @@ uneven_not_two mesh low high sides h two = h.uneven (h.number ∙ two)
 pub one_edge : (mesh : FaceList) (a b s c d t : ℕ) → IsLeastUnevenEdge mesh a b s → IsLeastUnevenEdge mesh c d t → (a ≡ c) × (b ≡ d)
     × (s ≡ t)
 one_edge mesh a b s c d t h k =
-    elim (pair_cases a b c d) [
-      | inl before ↦ absurd (uneven_not_two mesh a b s h (k.least a b h.ordered h.edge before))
-      | inr rest ↦ elim rest [
-        | inl after ↦ absurd (uneven_not_two mesh c d t k (h.least c d k.ordered k.edge after))
-        | inr same ↦ (same.0, same.1, h.number ∙ ap (λ x. sides_between mesh x b) same.0 ∙ ap (sides_between mesh c) same.1 ∙ sym k.number)
-      ]
-    ]
-
-equal : (v w : ℕ) → (v < w → ⊥) → (w < v → ⊥) → v ≡ w
-equal v w not_less not_more =
-    elim (cases_order v w) [
-      | inl same ↦ same
-      | inr apart ↦ elim apart [ inl less ↦ absurd (not_less less) | inr more ↦ absurd (not_more more) ]
-    ]
-
-one_pinch : (mesh : FaceList) (v w : ℕ) → IsLeastPinch mesh v → IsLeastPinch mesh w → v ≡ w
-one_pinch mesh v w h k = equal v w (λ less. h.pinched (k.least v less h.used)) (λ more. k.pinched (h.least w more k.used))
+    let same = equal_pairs a b c d (λ before. uneven_not_two mesh a b s h (k.least a b h.ordered h.edge before))
+    (λ after. uneven_not_two mesh c d t k (h.least c d k.ordered k.edge after)) in
+    (same.0, same.1, h.number ∙ ap (λ x. sides_between mesh x b) same.0 ∙ ap (sides_between mesh c) same.1 ∙ sym k.number)
 
 -- there is at most one first fault
 pub one_fault : (mesh : FaceList) (fault other : SurfaceFault) → IsFirstFault mesh fault → IsFirstFault mesh other → fault ≡ other

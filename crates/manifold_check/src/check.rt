@@ -22,6 +22,15 @@ pub fn check_closed(alloc: Global, faces: &Faces, sides: &Sides) -> Result<(), S
     ensures refused { (fault : SurfaceFault) → IsFirstFault faces.now fault
         → (result ≡ Err fault) ⊎ (result ≡ Err SurfaceFault.OutOfMemory) }
 {
+    meet_conditions(alloc, faces, sides)
+}
+
+/// Goes over the conditions in their order.
+fn meet_conditions(alloc: Global, faces: &Faces, sides: &Sides) -> Result<(), SurfaceFault>
+    requires { IsTableOf faces.now sides.now }
+    ensures closed { OnOk result (IsClosedManifold faces.now) }
+    ensures fault { IfErr result (λ fault. (fault ≡ SurfaceFault.OutOfMemory) ⊎ IsFirstFault faces.now fault) }
+{
     if faces.len() == 0 {
         return Err(SurfaceFault::NoFace);
     }

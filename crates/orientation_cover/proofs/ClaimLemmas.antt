@@ -1,6 +1,7 @@
 -- Claims at the corners of two sides of one edge, and their classes as these are joined.
-use Rattle.orientation_cover.proofs.Common.{number_below, number_once, corner_in_mesh, corner_end, one_corner, partners_swap, length-joined_at, joined_at_ends, joined_at_keeps, joins_only-joined_at, joined_at, KeepsJoined, SameOver, apart_over, over, ◌≡◌, ◌≢◌, inl, inr, ℕ, ◌+◌, ◌<◌, Bool, true, false, not, List, length, get_or, refl, ap, sym, ◌∙◌, subst, arith, eq-eqb, ne_eqb, cases_eq, ◌==◌, if◌then◌else◌, ends_differ, IsSide, side_number, side_after, tail_of, head_of, FaceList, IsFaceList, total_sides, ArePartners, IsCornerOfSide, Side}
-use Rattle.orientation_cover.specs.Claims.{Claim, IsClaim, claim_number, carried, IsClaimStep, JoinsOnlyByClaimSteps, with_corners, IsCarriedAcross}
+use Rattle.orientation_cover.proofs.Common.{number_below, number_once, corner_in_mesh, partners_swap, each_across, length-joined_at, joined_at_ends, joined_at_keeps, joins_only-joined_at, joined_at, KeepsJoined, SameOver, apart_over, over, ◌≡◌, inl, inr, ℕ, ◌+◌, ◌<◌, Bool, true, false, not, List, length, get_or, refl, ap, sym, ◌∙◌, arith, eq-eqb, ne_eqb, cases_eq, ◌==◌, if◌then◌else◌, IsSide, side_number, side_after, tail_of, head_of, FaceList, IsFaceList, total_sides, ArePartners, IsCornerOfSide, Side}
+use Rattle.connectivity.specs.Links.{AreCornersAcross}
+use Rattle.orientation_cover.specs.Claims.{Claim, IsClaim, claim_number, carried, IsClaimStep, JoinsOnlyByClaimSteps, with_corners, AreMadeJoined}
 
 -- ---- claims and their numbers
 
@@ -138,107 +139,44 @@ made_one mesh least side partner corner other alike count h =
 
 -- ---- both ends of an edge are joined
 
--- the classes before and after the corners of a side have been joined with those of its partner
-pub record AreMadeJoined (mesh : FaceList) (old new : List ℕ) (side partner : Side) : Type 0 where
-  pub count : length new ≡ length old
-  pub carried : IsCarriedAcross mesh new side partner
-  pub kept : KeepsJoined old new
-  pub steps : JoinsOnlyByClaimSteps mesh old → JoinsOnlyByClaimSteps mesh new
-
--- the corners of the partner where the side starts and where it ends
-record AreAcross (mesh : FaceList) (side partner first last : Side) (alike : Bool) : Type 0 where
-  partners : ArePartners mesh side partner
-  at_start : IsCornerOfSide mesh (tail_of mesh side) partner first
-  at_end : IsCornerOfSide mesh (head_of mesh side) partner last
-  told : (tail_of mesh side == tail_of mesh partner) ≡ alike
-
-made_joined : (mesh : FaceList) (least : List ℕ) (side partner first last : Side) (alike : Bool) → IsFaceList mesh
-    → length least ≡ total_sides mesh + total_sides mesh → AreAcross mesh side partner first last alike
-    → AreMadeJoined mesh least (with_corners mesh (with_corners mesh least side first alike) (side_after mesh side) last alike) side partner
-made_joined mesh least side partner first last alike valid count h =
+pub made_joined : (mesh : FaceList) (least : List ℕ) (side partner first last : Side) → IsFaceList mesh
+    → length least ≡ total_sides mesh + total_sides mesh → ArePartners mesh side partner → AreCornersAcross mesh side partner first last
+    → (let alike = tail_of mesh side == tail_of mesh partner in
+    AreMadeJoined mesh least (with_corners mesh (with_corners mesh least side first alike) (side_after mesh side) last alike) side partner)
+made_joined mesh least side partner first last valid count partners h =
+    let alike : Bool = tail_of mesh side == tail_of mesh partner in
     let once : List ℕ = with_corners mesh least side first alike in
     let after : Side = side_after mesh side in
     let twice : List ℕ = with_corners mesh once after last alike in
     let start : AreMadeOne mesh least once side first alike =
     made_one mesh least side partner side first alike count
-    (record { vertex = tail_of mesh side; partners = h.partners; from = inl (refl, refl); to = h.at_start; told = h.told }) in
+    (record { vertex = tail_of mesh side; partners = partners; from = inl (refl, refl); to = h.at_start; told = refl }) in
     let end : AreMadeOne mesh once twice after last alike =
     made_one mesh once side partner after last alike (start.count ∙ count)
-    (record { vertex = head_of mesh side; partners = h.partners; from = inr (refl, refl); to = h.at_end; told = h.told }) in
-    let is_side : IsSide mesh side = h.partners.first in
-    let is_first : IsSide mesh first = corner_in_mesh mesh (tail_of mesh side) partner first h.partners.second h.at_start in
-    let stays : (b : Bool) → get_or twice (number side b) 0 ≡ get_or twice (number first (turned b)) 0 =
+    (record { vertex = head_of mesh side; partners = partners; from = inr (refl, refl); to = h.at_end; told = refl }) in
+    let is_first : IsSide mesh first = corner_in_mesh mesh (tail_of mesh side) partner first partners.second h.at_start in
+    let number : Side → Bool → ℕ = λ s b. over (total_sides mesh) b (side_number mesh s) in
+    let within : (s : Side) (b : Bool) → IsSide mesh s → number s b < length once =
+    λ s b is. omega (arith, start.count, count, over_below (total_sides mesh) b (side_number mesh s) (number_below mesh s is)) in
+    let stays : (b : Bool) → get_or twice (number side b) 0 ≡ get_or twice (number first (carried mesh side partner b)) 0 =
     λ b.
-    end.kept (number side b) (number first (turned b)) (within once (start.count ∙ count) side b is_side)
-    (within once (start.count ∙ count) first (turned b) is_first) (start.same b) in
+    end.kept (number side b) (number first (carried mesh side partner b)) (within side b partners.first)
+    (within first (carried mesh side partner b) is_first) (start.same b) in
     record {
       count = end.count ∙ start.count;
       carried = λ v corner other b from to.
-          elim (corner_end mesh v side corner from) [
-            | inl at ↦
-                as_these corner other side first b twice (one_corner mesh v side corner side valid is_side from (inl (at, refl)))
-                (one_corner mesh v partner other first valid h.partners.second to
-                (subst (λ (u : ℕ). IsCornerOfSide mesh u partner first) at h.at_start)) (stays b)
-            | inr at ↦
-                as_these corner other after last b twice (one_corner mesh v side corner after valid is_side from (inr (at, refl)))
-                (one_corner mesh v partner other last valid h.partners.second to
-                (subst (λ (u : ℕ). IsCornerOfSide mesh u partner last) at h.at_end)) (end.same b)
-          ];
+          each_across mesh side partner first last valid partners h
+          (λ s t. (b : Bool) → get_or twice (number s b) 0 ≡ get_or twice (number t (carried mesh side partner b)) 0) stays end.same v
+          corner other from to b;
       kept = λ x y l k same. end.kept x y (omega (arith, start.count, l)) (omega (arith, start.count, k)) (start.kept x y l k same);
       steps = λ only. end.steps (start.steps only);
     }
-  where
-    number : Side → Bool → ℕ
-    number s b = over (total_sides mesh) b (side_number mesh s)
 
-    turned : Bool → Bool
-    turned b = if alike then not b else b
-
-    within : (list : List ℕ) → length list ≡ total_sides mesh + total_sides mesh → (s : Side) (b : Bool) → IsSide mesh s
-        → number s b < length list
-    within list size s b is = omega (arith, size, over_below (total_sides mesh) b (side_number mesh s) (number_below mesh s is))
-
-    as_these : (corner other this that : Side) (b : Bool) (list : List ℕ) → corner ≡ this → other ≡ that
-        → get_or list (number this b) 0 ≡ get_or list (number that (turned b)) 0
-        → get_or list (number corner b) 0 ≡ get_or list (number other (carried mesh side partner b)) 0
-    as_these corner other this that b list is_this is_that same =
-        ap (λ (s : Side). get_or list (number s b) 0) is_this ∙ same
-        ∙ ap (λ (s : Side). get_or list (number s (turned b)) 0) (sym is_that)
-        ∙ ap (λ (t : Bool). get_or list (number other (if t then not b else b)) 0) (sym h.told)
-
--- partners that start at one vertex end at one
-pub joined_alike : (mesh : FaceList) (least once twice : List ℕ) (side partner after partner_after : Side) → IsFaceList mesh
-    → length least ≡ total_sides mesh + total_sides mesh → ArePartners mesh side partner
-    → tail_of mesh side ≡ tail_of mesh partner → after ≡ side_after mesh side → partner_after ≡ side_after mesh partner
-    → once ≡ with_corners mesh least side partner true → twice ≡ with_corners mesh once after partner_after true
+-- so it is as the corners are read
+pub joined_as_read : (mesh : FaceList) (least once twice : List ℕ) (side partner first last after : Side) (alike : Bool) → IsFaceList mesh
+    → length least ≡ total_sides mesh + total_sides mesh → ArePartners mesh side partner → AreCornersAcross mesh side partner first last
+    → alike ≡ (tail_of mesh side == tail_of mesh partner) → after ≡ side_after mesh side
+    → once ≡ with_corners mesh least side first alike → twice ≡ with_corners mesh once after last alike
     → AreMadeJoined mesh least twice side partner
-joined_alike mesh least once twice side partner after partner_after valid count partners same is_after is_other is_once is_twice =
-    rw (is_twice, is_once, is_after, is_other)
-    (made_joined mesh least side partner partner (side_after mesh partner) true valid count (record {
-      partners = partners;
-      at_start = inl (sym same, refl);
-      at_end = elim partners.one_edge [
-        | inl e ↦ inr (sym e.1, refl)
-        | inr e ↦ absurd (ends_differ mesh partner valid partners.second (sym same ∙ e.0))
-      ];
-      told = eq-eqb (tail_of mesh side) (tail_of mesh partner) same;
-    }))
-
--- other partners start where the other ends
-pub joined_opposite : (mesh : FaceList) (least once twice : List ℕ) (side partner after partner_after : Side) → IsFaceList mesh
-    → length least ≡ total_sides mesh + total_sides mesh → ArePartners mesh side partner
-    → tail_of mesh side ≢ tail_of mesh partner → after ≡ side_after mesh side → partner_after ≡ side_after mesh partner
-    → once ≡ with_corners mesh least side partner_after false → twice ≡ with_corners mesh once after partner false
-    → AreMadeJoined mesh least twice side partner
-joined_opposite mesh least once twice side partner after partner_after valid count partners other is_after is_other is_once is_twice =
-    elim partners.one_edge [
-      | inl e ↦ absurd (other e.0)
-      | inr e ↦
-          rw (is_twice, is_once, is_after, is_other)
-          (made_joined mesh least side partner (side_after mesh partner) partner false valid count (record {
-            partners = partners;
-            at_start = inr (sym e.0, refl);
-            at_end = inl (sym e.1, refl);
-            told = ne_eqb (tail_of mesh side) (tail_of mesh partner) other;
-          }))
-    ]
+joined_as_read mesh least once twice side partner first last after alike valid count partners h is_alike is_after is_once is_twice =
+    rw (is_twice, is_once, is_after, is_alike) (made_joined mesh least side partner first last valid count partners h)

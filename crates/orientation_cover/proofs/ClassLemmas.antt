@@ -5,8 +5,8 @@ use Rattle.connectivity.specs.Partitions.{IsCornerStep}
 use Rattle.double_covers.proofs.RingLemmas.{not_twisted}
 use Rattle.surf_model.proofs.SideNumberLemmas.{IsNumbered, numbered}
 use Rattle.orientation_cover.specs.Ways.{told_by, IsLedToLeast, AreWays}
-use Rattle.orientation_cover.specs.Claims.{Claim, IsClaim, claim_number, carried, IsClaimStep, JoinsOnlyByClaimSteps, AreClaimClasses, IsCarriedAcross}
-use Rattle.orientation_cover.proofs.ClaimLemmas.{over_below, claim_below, claim_once, carried_back, AreMadeJoined}
+use Rattle.orientation_cover.specs.Claims.{Claim, IsClaim, claim_number, carried, IsClaimStep, JoinsOnlyByClaimSteps, AreClaimClasses, AreMadeJoined, IsCarriedAcross}
+use Rattle.orientation_cover.proofs.ClaimLemmas.{over_below, claim_below, claim_once, carried_back}
 
 abbrev pub no_side : Side
 no_side = record { face = record { 0 = 0 }; at = 0 }

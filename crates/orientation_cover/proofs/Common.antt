@@ -1,5 +1,5 @@
 -- What proofs of this crate cite of others, passed on from one place (by tools/imports). Declares nothing.
-pub use Rattle.connectivity.proofs.CornerLemmas.{after_in_mesh, corner_end, corner_in_mesh, number_below, number_once, one_corner, partners_swap, step_across}
+pub use Rattle.connectivity.proofs.CornerLemmas.{after_in_mesh, corner_in_mesh, corners_there, each_across, number_below, number_once, partners_swap, step_across}
 pub use Rattle.connectivity.proofs.Joining.{joined_at_ends, joined_at_keeps, joined_keep, joined_refl, joined_step, joined_sym, joined_trans, joins_only-alone, joins_only-joined_at, least_joined_at, least_range, length-joined_at}
 pub use Rattle.connectivity.specs.Classes.{AreLeastMembers, KeepsJoined, joined_at}
 pub use Rattle.connectivity.specs.Joined.{NoEdgeHasThreeSides}
@@ -11,7 +11,7 @@ pub use Rattle.double_covers.specs.WaysRound.{AreTurnsOf, AreWaysRound}
 pub use Rattle.doubling.proofs.BuildingLemmas.{corner_more, more_room}
 pub use Rattle.doubling.specs.Building.{HasNoRoom, with_face}
 pub use Rattle.std.proofs.Common.{Bool, List, ap, arith, drop, false, get_or, inl, inr, length, ltb, map, min, not, refl, rules, subst, suc, sym, take, true, zero, ℕ, [], ◌&&◌, ◌++◌, ◌+◌, ◌-◌, ◌<◌, ◌∙◌, ◌∷◌, ◌≡◌, ◌≢◌, ◌≤◌, ◌⊎◌}
-pub use Rattle.std.proofs.lemmas.Bool.{and_from, both_ways, cases_Bool, cases_eq, cases_lt, eq-eqb, eqb-true, ne_eqb}
+pub use Rattle.std.proofs.lemmas.Bool.{and_from, both_ways, cases_Bool, cases_eq, cases_lt, eq-eqb, ne_eqb}
 pub use Rattle.std.proofs.lemmas.Bool.Decides.{nat_tests}
 pub use Rattle.std.proofs.lemmas.List.{ext_get_or, get_or_default, take-append-drop, take_all, take_more}
 pub use Rattle.std.proofs.lemmas.List.FromFn.{get_or-map-range_with_len, length-map-range_with_len, length-range_with_len}

@@ -1,9 +1,9 @@
 -- Where no edge has three sides, there are ways round the vertices: the classes of claims are made edge by edge.
-use Rattle.orientation_cover.proofs.Common.{after_in_mesh, number_below, length-joined_at, least_range, least_joined_at, AreLeastMembers, joined_at, NoEdgeHasThreeSides, over, ◌≡◌, inl, inr, ℕ, zero, suc, ◌+◌, ◌<◌, ◌≤◌, Bool, true, false, not, ltb, List, length, get_or, map, refl, ◌∙◌, subst, arith, cases_eq, length-map-range_with_len, get_or-map-range_with_len, range_with_len, partners_of_edge, IsSide, side_after, side_number, tail_of, Edge, IsTableOf, edge_in, FaceList, IsFaceList, total_sides, ArePartners, Side}
+use Rattle.orientation_cover.proofs.Common.{after_in_mesh, corner_in_mesh, number_below, corners_there, length-joined_at, least_range, least_joined_at, AreLeastMembers, joined_at, NoEdgeHasThreeSides, over, ◌≡◌, inl, inr, ℕ, zero, suc, ◌+◌, ◌<◌, ◌≤◌, Bool, true, false, not, ltb, List, length, get_or, map, refl, ◌∙◌, subst, arith, cases_eq, length-map-range_with_len, get_or-map-range_with_len, range_with_len, ◌==◌, partners_of_edge, IsSide, side_after, side_number, tail_of, head_of, Edge, IsTableOf, edge_in, FaceList, IsFaceList, total_sides, ArePartners, Side}
 use Rattle.surf_model.proofs.EdgeTables.{some_table}
-use Rattle.orientation_cover.specs.Claims.{with_corners}
+use Rattle.orientation_cover.specs.Claims.{AreMadeJoined, with_corners}
 use Rattle.orientation_cover.specs.Ways.{AreWays}
-use Rattle.orientation_cover.proofs.ClaimLemmas.{over_below, AreMadeJoined, joined_alike, joined_opposite}
+use Rattle.orientation_cover.proofs.ClaimLemmas.{over_below, made_joined}
 use Rattle.orientation_cover.proofs.ClassLemmas.{no_side, side_in, CarriesUpTo, edges_none, edge_passed, edge_joined, edges_all, tells_all}
 
 -- classes of claims once the first k edges are passed
@@ -44,30 +44,20 @@ module _ (mesh : FaceList) (valid : IsFaceList mesh) where
   both_joined : (least : List ℕ) (side partner : Side) → length least ≡ total_sides mesh + total_sides mesh → ArePartners mesh side partner
       → AreLeastMembers least → HasBothJoined least side partner
   both_joined least side partner size partners h =
+      let across = corners_there mesh side partner partners in
+      let first : Side = across.0 in
+      let last : Side = across.1 in
       let after : Side = side_after mesh side in
-      let beyond : Side = side_after mesh partner in
-      let is_after : IsSide mesh after = after_in_mesh mesh side partners.first in
-      let is_beyond : IsSide mesh beyond = after_in_mesh mesh partner partners.second in
-      elim (cases_eq (tail_of mesh side) (tail_of mesh partner)) [
-        | inl same ↦
-            (let once : List ℕ = with_corners mesh least side partner true in
-            record {
-              new = with_corners mesh once after beyond true;
-              made = joined_alike mesh least once (with_corners mesh once after beyond true) side partner after beyond valid size partners
-                  same refl refl refl refl;
-              members = stay_least once after beyond true (same_length least side partner true ∙ size) is_after is_beyond
-                  (stay_least least side partner true size partners.first partners.second h);
-            })
-        | inr other ↦
-            (let once : List ℕ = with_corners mesh least side beyond false in
-            record {
-              new = with_corners mesh once after partner false;
-              made = joined_opposite mesh least once (with_corners mesh once after partner false) side partner after beyond valid size
-                  partners other refl refl refl refl;
-              members = stay_least once after partner false (same_length least side beyond false ∙ size) is_after partners.second
-                  (stay_least least side beyond false size partners.first is_beyond h);
-            })
-      ]
+      let alike : Bool = tail_of mesh side == tail_of mesh partner in
+      let once : List ℕ = with_corners mesh least side first alike in
+      record {
+        new = with_corners mesh once after last alike;
+        made = made_joined mesh least side partner first last valid size partners across.2;
+        members = stay_least once after last alike (same_length least side first alike ∙ size) (after_in_mesh mesh side partners.first)
+            (corner_in_mesh mesh (head_of mesh side) partner last partners.second across.2.at_end)
+            (stay_least least side first alike size partners.first
+            (corner_in_mesh mesh (tail_of mesh side) partner first partners.second across.2.at_start) h);
+      }
 
   classes_upto : (table : List Edge) (k : ℕ) → IsTableOf mesh table → k ≤ length table → HasClasses mesh table k
   classes_upto table zero h l =

@@ -4,7 +4,7 @@ use Rattle.surf_model.specs.FaceLists.{FaceList, total_sides}
 use Rattle.surf_model.specs.Darts.{IsSide, side_number}
 use Rattle.surf_model.specs.Surfaces.{IsCornerOfSide}
 use Rattle.surf_model.specs.declared.edges.Side.{Side}
-use Rattle.connectivity.specs.Classes.{joined_at}
+use Rattle.connectivity.specs.Classes.{joined_at, KeepsJoined}
 use Rattle.connectivity.specs.Partitions.{IsPartition, JoinsOnlyBySteps}
 use Rattle.double_covers.specs.Covers.{over}
 pub use Rattle.double_covers.specs.WaysRound.{Claim, carried, IsClaimStep}
@@ -38,3 +38,10 @@ IsCarriedAcross mesh least side partner =
     (v : ℕ) (corner other : Side) (against : Bool) → IsCornerOfSide mesh v side corner → IsCornerOfSide mesh v partner other
     → slice_index least (over (total_sides mesh) against (side_number mesh corner))
     ≡ slice_index least (over (total_sides mesh) (carried mesh side partner against) (side_number mesh other))
+
+-- the classes before and after the claims on the corners of a side are joined with those on the corners of its partner
+pub record AreMadeJoined (mesh : FaceList) (old new : List ℕ) (side partner : Side) : Type 0 where
+  pub count : length new ≡ length old
+  pub carried : IsCarriedAcross mesh new side partner
+  pub kept : KeepsJoined old new
+  pub steps : JoinsOnlyByClaimSteps mesh old → JoinsOnlyByClaimSteps mesh new

@@ -7,12 +7,12 @@ ghost use Rattle.surf_model.specs.FaceLists.{total_sides};
 ghost use Rattle.surf_model.specs.Edges.{IsTableOf};
 ghost use Rattle.surf_model.specs.Darts.{IsSide};
 ghost use Rattle.surf_model.specs.Surfaces.{ArePartners};
-ghost use Rattle.connectivity.specs.Classes.{AreLeastMembers, KeepsJoined};
+ghost use Rattle.connectivity.specs.Classes.{AreLeastMembers};
 ghost use Rattle.connectivity.specs.Joined.{NoEdgeHasThreeSides};
-ghost use Rattle.orientation_cover.specs.Claims.{AreClaimClasses, IsCarriedAcross, JoinsOnlyByClaimSteps, with_corners};
+ghost use Rattle.orientation_cover.specs.Claims.{AreClaimClasses, AreMadeJoined, with_corners};
 
 use crate::sheets::over;
-use connectivity::Classes;
+use connectivity::{Classes, corners_across};
 use std::alloc::{AllocError, Global};
 use surf_model::{EdgeName, Faces, Side, Sides};
 
@@ -43,21 +43,11 @@ pub(crate) fn claim_classes(
 fn join_across(claims: &mut Classes, faces: &Faces, side: Side, partner: Side)
     requires partners { ArePartners faces.now side partner }
     requires count { length claims.old ≡ total_sides faces.now + total_sides faces.now }
-    ensures count { length claims.new ≡ length claims.old }
-    ensures carried { IsCarriedAcross faces.now claims.new side partner }
-    ensures kept { KeepsJoined claims.old claims.new }
-    ensures steps { JoinsOnlyByClaimSteps faces.now claims.old → JoinsOnlyByClaimSteps faces.now claims.new }
+    ensures { AreMadeJoined faces.now claims.old claims.new side partner }
 {
-    // The proof reads what holds of every face list.
-    let _ = faces.len();
-    let (after, partner_after) = (faces.after(side), faces.after(partner));
-    if faces.corner(side.face, side.at) == faces.corner(partner.face, partner.at) {
-        join_corners(claims, faces, side, partner, true);
-        join_corners(claims, faces, after, partner_after, true);
-    } else {
-        join_corners(claims, faces, side, partner_after, false);
-        join_corners(claims, faces, after, partner, false);
-    }
+    let (first, last, alike) = corners_across(faces, side, partner);
+    join_corners(claims, faces, side, first, alike);
+    join_corners(claims, faces, faces.after(side), last, alike);
 }
 
 /// Joins the two claims on a corner with those on another: contrary ones where the two sides between the corners run alike.

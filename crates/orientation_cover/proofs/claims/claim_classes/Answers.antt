@@ -1,7 +1,6 @@
 use Rattle.orientation_cover.proofs.Common.{◌≡◌, ◌+◌, ℕ, List, ap, sym, ◌∙◌, subst, arith, get_or_from_slice_get, range_with_len, partners_of_edge, edge_in, ArePartners}
 use Rattle.orientation_cover.specs.Claims.{AreClaimClasses}
 use Rattle.orientation_cover.proofs.ClassLemmas.{no_side, side_in, CarriesUpTo, edges_none, edge_passed, edge_joined, edges_all}
-use Rattle.orientation_cover.proofs.ClaimLemmas.{AreMadeJoined}
 use Rattle.orientation_cover.proofs.claims.claim_classes.Goals as goal
 use Rattle.orientation_cover.proofs.claims.claim_classes.Goals.{then-sides_of-eq2, else-sides_of-eq2}
 
@@ -30,19 +29,12 @@ loop-edge-preserved c =
     let k : ℕ = c.loop-edge.edge in
     elim c.if-sides_of-eq2.branch [
       | then-sides_of-eq2 w ↦
-          (let made : AreMadeJoined mesh c.loop-edge.claims w.join_across.new.claims w.side.result
-          w.side-then-sides_of-eq2.result = record {
-            count = w.join_across.ensures.count;
-            carried = w.join_across.ensures.carried;
-            kept = w.join_across.ensures.kept;
-            steps = w.join_across.ensures.steps;
-          } in
           subst (λ (least : List ℕ). CarriesUpTo mesh table least (k + 1)) (sym w.claims-is)
           (edge_joined mesh table c.loop-edge.claims w.join_across.new.claims k w.side.result w.side-then-sides_of-eq2.result
           c.requires.table (omega arith)
           (get_or_from_slice_get (edge_in table k).sides 0 w.side.result no_side w.side.ensures)
           (get_or_from_slice_get (edge_in table k).sides 1 w.side-then-sides_of-eq2.result no_side w.side-then-sides_of-eq2.ensures)
-          made c.loop-edge.invariant))
+          w.join_across.ensures c.loop-edge.invariant)
       | else-sides_of-eq2 w ↦
           subst (λ (least : List ℕ). CarriesUpTo mesh table least (k + 1)) (sym w.claims-is)
           (edge_passed mesh table c.loop-edge.claims k c.requires.table (omega arith) (λ two. omega arith) c.loop-edge.invariant)
