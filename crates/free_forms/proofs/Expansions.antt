@@ -97,7 +97,7 @@ pub parent_in_mesh : (surface : OpenView) (f : ℕ) → HasParents surface → f
     → IsSide surface.mesh (parent_of surface f)
 parent_in_mesh surface f has l = record { face = l; place = has.within f l }
 
-ends_same : (t h u v low high : ℕ) → ((t ≡ low) × (h ≡ high)) ⊎ ((t ≡ high) × (h ≡ low))
+pub ends_same : (t h u v low high : ℕ) → ((t ≡ low) × (h ≡ high)) ⊎ ((t ≡ high) × (h ≡ low))
     → ((u ≡ low) × (v ≡ high)) ⊎ ((u ≡ high) × (v ≡ low))
     → ((t ≡ u) × (h ≡ v)) ⊎ ((t ≡ v) × (h ≡ u))
 ends_same t h u v low high first second = grind arith

@@ -1,38 +1,18 @@
 -- First faults exclude each other, and an open surface.
-use Rattle.free_forms.proofs.Common.{NoEdgeHasThreeSides, IsLeastPinch, IsLeastUsed, AreLeastApart, ◌≡◌, ◌⊎◌, inl, inr, ℕ, ◌<◌, refl, ap, sym, ◌∙◌, subst, arith, cases_order, IsPairBefore, FaceList, sides_between, VertexName}
+use Rattle.free_forms.proofs.Common.{equal, equal_pairs, one_pinch, same_name, NoEdgeHasThreeSides, IsLeastUsed, AreLeastApart, ◌≡◌, ℕ, refl, ap, sym, ◌∙◌, subst, arith, FaceList, sides_between}
 use Rattle.free_forms.specs.OpenSurfaces.{IsOpenSurface}
 use Rattle.free_forms.specs.OpenFaults.{IsFirstFault, IsLeastCrowdedEdge}
 use Rattle.free_forms.specs.declared.fault.OpenFault.{OpenFault}
 use Rattle.free_forms.specs.declared.fault.OpenFault.TheVariants.{NoFace, EdgeSides, NoBoundary, Pinched, Apart, OutOfMemory}
-
-same_name : (v w : VertexName) → v.0 ≡ w.0 → v ≡ w
-same_name v w h = let name : ℕ → VertexName = λ x. record { 0 = x } in ap name h
-
-pair_cases : (a b c d : ℕ) → IsPairBefore a b c d ⊎ (IsPairBefore c d a b ⊎ ((a ≡ c) × (b ≡ d)))
-pair_cases a b c d = grind arith
 
 not_few : (mesh : FaceList) (low high sides : ℕ) → IsLeastCrowdedEdge mesh low high sides → NoEdgeHasThreeSides mesh → ⊥
 not_few mesh low high sides h few = omega (arith, h.number, h.crowded, few low high)
 
 one_edge : (mesh : FaceList) (a b s c d t : ℕ) → IsLeastCrowdedEdge mesh a b s → IsLeastCrowdedEdge mesh c d t → (a ≡ c) × (b ≡ d) × (s ≡ t)
 one_edge mesh a b s c d t h k =
-    elim (pair_cases a b c d) [
-      | inl before ↦ absurd (omega (arith, h.number, h.crowded, k.least a b h.ordered before))
-      | inr rest ↦ elim rest [
-        | inl after ↦ absurd (omega (arith, k.number, k.crowded, h.least c d k.ordered after))
-        | inr same ↦ (same.0, same.1, h.number ∙ ap (λ x. sides_between mesh x b) same.0 ∙ ap (sides_between mesh c) same.1 ∙ sym k.number)
-      ]
-    ]
-
-equal : (v w : ℕ) → (v < w → ⊥) → (w < v → ⊥) → v ≡ w
-equal v w not_less not_more =
-    elim (cases_order v w) [
-      | inl same ↦ same
-      | inr apart ↦ elim apart [ inl less ↦ absurd (not_less less) | inr more ↦ absurd (not_more more) ]
-    ]
-
-one_pinch : (mesh : FaceList) (v w : ℕ) → IsLeastPinch mesh v → IsLeastPinch mesh w → v ≡ w
-one_pinch mesh v w h k = equal v w (λ less. h.pinched (k.least v less h.used)) (λ more. k.pinched (h.least w more k.used))
+    let same = equal_pairs a b c d (λ before. omega (arith, h.number, h.crowded, k.least a b h.ordered before))
+    (λ after. omega (arith, k.number, k.crowded, h.least c d k.ordered after)) in
+    (same.0, same.1, h.number ∙ ap (λ x. sides_between mesh x b) same.0 ∙ ap (sides_between mesh c) same.1 ∙ sym k.number)
 
 one_least : (mesh : FaceList) (v w : ℕ) → IsLeastUsed mesh v → IsLeastUsed mesh w → v ≡ w
 one_least mesh v w h k = equal v w (λ less. k.least v less h.used) (λ more. h.least w more k.used)

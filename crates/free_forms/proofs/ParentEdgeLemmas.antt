@@ -1,21 +1,13 @@
 -- The parent on an edge, found by the table of the mesh; and the way along it.
-use Rattle.free_forms.proofs.Common.{◌≡◌, ◌⊎◌, inl, inr, ℕ, zero, suc, ◌-◌, ◌<◌, ◌≤◌, Bool, true, false, not, eqb, List, [], ◌∷◌, ◌++◌, length, get_or, refl, ap, sym, ◌∙◌, subst, arith, eqb-true, eq-eqb, both_ways, reverse-append, get_or_from_slice_get, All, Some, slice_get, reverse, cond, step_within, IsSideOfEdge, IsEdgeOfSide, side_of_edge, edge_has_side, edge_of_side, table_edge, corner_after, meet, IsSide, tail_of, Edge, IsTableOf, HasEnds, edge_in, FaceList, face_at, next_corner, Side, after_back, beyond_more, beyond}
+use Rattle.free_forms.proofs.Common.{◌≡◌, ◌⊎◌, inl, inr, ℕ, zero, suc, ◌-◌, ◌<◌, ◌≤◌, Bool, true, false, not, eqb, List, [], ◌∷◌, ◌++◌, length, get_or, refl, ap, sym, ◌∙◌, subst, arith, eqb-true, eq-eqb, both_ways, reverse-append, get_or_from_slice_get, All, Some, slice_get, reverse, cond, step_within, IsSideOfEdge, IsEdgeOfSide, side_of_edge, edge_has_side, edge_of_side, table_edge, ends_agree, corner_after, meet, IsSide, tail_of, Edge, IsTableOf, HasEnds, edge_in, FaceList, face_at, next_corner, Side, after_back, beyond_more, beyond}
 use Rattle.free_forms.specs.Parents.{OpenView, HasParents, Joins, IsParentEdge, parent_of, expansion}
 use Rattle.free_forms.specs.Reductions.{IsWayAlong}
-use Rattle.free_forms.proofs.Expansions.{from_tail, from_head, parent_in_mesh}
+use Rattle.free_forms.proofs.Expansions.{ends_same, from_tail, from_head, parent_in_mesh}
 
 sides_meet : (t h u v low high : ℕ) → ((t ≡ low) × (h ≡ high)) ⊎ ((t ≡ high) × (h ≡ low))
     → ((low ≡ u) × (high ≡ v)) ⊎ ((low ≡ v) × (high ≡ u))
     → ((t ≡ u) × (h ≡ v)) ⊎ ((t ≡ v) × (h ≡ u))
 sides_meet t h u v low high first second = grind arith
-
-ends_meet : (t h u v low high : ℕ) → ((t ≡ low) × (h ≡ high)) ⊎ ((t ≡ high) × (h ≡ low)) → ((t ≡ u) × (h ≡ v)) ⊎ ((t ≡ v) × (h ≡ u))
-    → ((low ≡ u) × (high ≡ v)) ⊎ ((low ≡ v) × (high ≡ u))
-ends_meet t h u v low high first second = grind arith
-
-ends_of_joined : (t h u v low high : ℕ) → ((t ≡ u) × (h ≡ v)) ⊎ ((t ≡ v) × (h ≡ u)) → ((low ≡ u) × (high ≡ v)) ⊎ ((low ≡ v) × (high ≡ u))
-    → ((t ≡ low) × (h ≡ high)) ⊎ ((t ≡ high) × (h ≡ low))
-ends_of_joined t h u v low high first second = grind arith
 
 -- a side of the edge of two vertices joins them
 pub record IsSideBetween (mesh : FaceList) (u v : ℕ) (side : Side) : Type 0 where
@@ -42,7 +34,7 @@ no_edge_no_parent surface table u v has h none parent =
     let side : Side = parent_of surface parent.0 in
     let found : IsEdgeOfSide surface.mesh table side =
     edge_of_side surface.mesh table side h (parent_in_mesh surface parent.0 has parent.1) in
-    none found.edge _ found.in_table (ends_meet _ _ u v _ _ found.ends parent.2)
+    none found.edge _ found.in_table (ends_agree _ _ _ _ u v parent.2 found.ends)
 
 -- nor do those whose edge has no parent among its sides
 pub no_side_no_parent : (surface : OpenView) (table : List Edge) (k u v : ℕ) → HasParents surface → IsTableOf surface.mesh table
@@ -54,7 +46,7 @@ no_side_no_parent surface table k u v has h l ends none parent =
     let edge : Edge = edge_in table k in
     let side : Side = parent_of surface parent.0 in
     let found = edge_has_side surface.mesh edge side (table_edge surface.mesh table k h l) (parent_in_mesh surface parent.0 has parent.1)
-    (ends_of_joined _ _ u v edge.low edge.high parent.2 ends) in
+    (ends_same _ _ edge.low edge.high u v parent.2 ends) in
     none found.0 side found.1
     (ap (λ (s : Side). get_or surface.places s.face.0 0) found.2 ∙ sym (ap (λ (s : Side). s.at) found.2))
 

@@ -22,6 +22,15 @@ pub fn check_open(alloc: Global, faces: &Faces, sides: &Sides) -> Result<(), Ope
     ensures refused { (fault : OpenFault) → IsFirstFault faces.now fault
         → (result ≡ Err fault) ⊎ (result ≡ Err OpenFault.OutOfMemory) }
 {
+    meet_conditions(alloc, faces, sides)
+}
+
+/// Goes over the conditions in their order.
+fn meet_conditions(alloc: Global, faces: &Faces, sides: &Sides) -> Result<(), OpenFault>
+    requires { IsTableOf faces.now sides.now }
+    ensures surface { OnOk result (IsOpenSurface faces.now) }
+    ensures fault { IfErr result (λ fault. (fault ≡ OpenFault.OutOfMemory) ⊎ IsFirstFault faces.now fault) }
+{
     if faces.len() == 0 {
         return Err(OpenFault::NoFace);
     }
