@@ -4,7 +4,7 @@ pub use Rattle.connectivity.proofs.CornerLemmas.{after_in_mesh, corner_below, co
 pub use Rattle.double_covers.proofs.CoverFaces.{IsOver, all_faces, begins_on, each_over, edge_lifted, face_over, over_below, over_is}
 pub use Rattle.double_covers.proofs.LiftedMoves.{cover_valid}
 pub use Rattle.double_covers.proofs.Sheets.{LeadsHome, back, entry, length-lifted, sheet_at, sheets_apart, step}
-pub use Rattle.double_covers.proofs.WayLemmas.{apart_over, corner_of, cover_orientable, either, lead_home}
+pub use Rattle.double_covers.proofs.WayLemmas.{apart_over, corner_of, cover_orientable, either, lead_home, runs_across, runs_alike}
 pub use Rattle.double_covers.specs.Covers.{AreTurns, cover_of, lifted, over, sheet_behind}
 pub use Rattle.std.proofs.Common.{Bool, List, ap, ap₂, arith, false, get_or, inl, inr, length, map, not, refl, subst, suc, sym, true, zero, ℕ, [], ◌*◌, ◌+◌, ◌-◌, ◌<◌, ◌∙◌, ◌∷◌, ◌≡◌, ◌≢◌, ◌≤◌, ◌⊎◌}
 pub use Rattle.std.proofs.lemmas.Bool.{cases_eq, eq-eqb, ne_eqb}

@@ -1,7 +1,7 @@
 -- The cover of a mesh in one piece that has no coherent signs is in one piece. For where the two vertices over one are not joined, each
 -- vertex of the mesh has one over it that is joined to the lower of these: and by the sheets of those there are ways round the vertices
 -- with which each face goes throughout, or against which it goes throughout.
-use Rattle.closed_covers.proofs.Common.{corner_vertex, corner_used, used_corner, edge_lifted, cover_valid, either, corner_of, lead_home, sheet_behind, over, AreTurns, cover_of, ◌≡◌, ◌≢◌, inl, inr, ℕ, zero, suc, ◌+◌, ◌<◌, ◌≤◌, Bool, true, false, not, List, [], ◌∷◌, length, map, get_or, refl, ap, sym, ◌∙◌, subst, arith, cases_eq, eq-eqb, ne_eqb, nat_tests, ◌==◌, if◌then◌else◌, ends_differ, step_edge, tail_used, head_used, used_below, EachTwoAreJoined, IsSide, side_after, tail_of, head_of, FaceList, IsFaceList, face_at, next_corner, is_edge, is_used, IsPath, AreJoined, ArePartners, IsOrientable, RunOppositely, is_flipped, Side}
+use Rattle.closed_covers.proofs.Common.{corner_vertex, corner_used, used_corner, edge_lifted, cover_valid, either, corner_of, lead_home, runs_alike, runs_across, sheet_behind, over, AreTurns, cover_of, ◌≡◌, ◌≢◌, inl, inr, ℕ, zero, suc, ◌+◌, ◌<◌, ◌≤◌, Bool, true, false, not, List, [], ◌∷◌, length, map, get_or, refl, ap, sym, ◌∙◌, subst, arith, cases_eq, eq-eqb, ne_eqb, nat_tests, ◌==◌, if◌then◌else◌, ends_differ, step_edge, tail_used, head_used, used_below, EachTwoAreJoined, IsSide, side_after, tail_of, head_of, FaceList, IsFaceList, face_at, next_corner, is_edge, is_used, IsPath, AreJoined, ArePartners, IsOrientable, RunOppositely, is_flipped, Side}
 use Rattle.connectivity.proofs.ComponentLemmas.{JoinsEdgesUpTo, edges_none, edges_more, edges_all}
 use Rattle.connectivity.proofs.Joining.{joined_refl, joined_step, joined_trans, joined_keep}
 use Rattle.connectivity.proofs.WalkLemmas.{walk_from_joined, joined_from_walk}
@@ -132,20 +132,10 @@ module _ (mesh : FaceList) (against : Side → Bool) (valid : IsFaceList mesh) (
       (omega arith)
       ∙ sym (throughout side.face.0 side.at is.face is.place)
 
-  alike : (a b c d : ℕ) (p q : Bool) → q ≡ not p → a ≡ c → b ≡ d → (if p then b else a) ≡ (if q then c else d)
-  alike a b c d true q e f g = rw e g
-  alike a b c d false q e f g = rw e f
-
-  across : (a b c d : ℕ) (p q : Bool) → q ≡ p → a ≡ d → b ≡ c → (if p then b else a) ≡ (if q then c else d)
-  across a b c d true q e f g = rw e g
-  across a b c d false q e f g = rw e f
-
   opposite : (side other : Side) → ArePartners mesh side other → RunOppositely mesh signs side other
   opposite side other h =
       let a : ℕ = tail_of mesh side in
-      let b : ℕ = head_of mesh side in
       let c : ℕ = tail_of mesh other in
-      let d : ℕ = head_of mesh other in
       let p : is_flipped signs side.face.0 ≡ against side = sign_is side h.first in
       let q : is_flipped signs other.face.0 ≡ against other = sign_is other h.second in
       elim h.one_edge [
@@ -155,10 +145,7 @@ module _ (mesh : FaceList) (against : Side → Bool) (valid : IsFaceList mesh) (
             ways.across a side other side other h (inl (refl, refl)) (inl (sym e.0, refl))
             ∙ ap (λ (x : Bool). if x then not (against side) else against side) test in
             let turned : is_flipped signs other.face.0 ≡ not (is_flipped signs side.face.0) = q ∙ rule ∙ ap not (sym p) in
-            record {
-              starts = alike a b c d (is_flipped signs side.face.0) (is_flipped signs other.face.0) turned e.0 e.1;
-              ends = alike b a d c (is_flipped signs side.face.0) (is_flipped signs other.face.0) turned e.1 e.0;
-            })
+            runs_alike mesh signs side other turned e.0 e.1)
         | inr e ↦
             (let test : (a == c) ≡ false =
             ne_eqb a c (λ same. ends_differ mesh other valid h.second (sym same ∙ e.0)) in
@@ -167,10 +154,7 @@ module _ (mesh : FaceList) (against : Side → Bool) (valid : IsFaceList mesh) (
             ∙ ap (λ (x : Bool). if x then not (against side) else against side) test in
             let kept : is_flipped signs other.face.0 ≡ is_flipped signs side.face.0 =
             q ∙ sym (even other h.second) ∙ rule ∙ sym p in
-            record {
-              starts = across a b c d (is_flipped signs side.face.0) (is_flipped signs other.face.0) kept e.0 e.1;
-              ends = across b a d c (is_flipped signs side.face.0) (is_flipped signs other.face.0) kept e.1 e.0;
-            })
+            runs_across mesh signs side other kept e.0 e.1)
       ]
 
   signs_by_ways : IsOrientable mesh
