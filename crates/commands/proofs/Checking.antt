@@ -1,7 +1,7 @@
 -- How checks that follow one another end.
 use Rattle.commands.proofs.Common.{◌≡◌, ◌⊎◌, inl, inr, ℕ, ◌+◌, ◌<◌, List, length, refl, ap, ◌∙◌, subst, arith, length-replicate, Option, Some, None, IfSome, Result, Ok, Err, replicate}
 use Rattle.commands.specs.Answers.{Texts, NoText, IsText}
-use Rattle.commands.specs.Checks.{Check, Refuse, Pass, Passes, meant, ◌>>=◌}
+use Rattle.commands.specs.Checks.{Check, Refuse, Pass, Passes, meant, pass_unless, ◌>>=◌}
 use Rattle.commands.specs.Stops.{Ends, Stops, Tells, bytes_of}
 use Rattle.commands.specs.declared.stop.Stop.{Stop}
 use Rattle.commands.specs.declared.stop.Stop.TheVariants.{Refused, ReadFault, OutOfMemory}
@@ -45,6 +45,26 @@ pub stops_second : {A B C : Type 0} (first : Check A) (second : A → Check B) (
 stops_second first second third thing stop p h =
     stops_next first (λ x. second x >>= third x) thing stop p (stops_first (second thing) (third thing) stop h)
 
+-- ---- what passed
+
+-- of a sequence that passes each check passes
+pub both_passed : {A B : Type 0} (first : Check A) (next : A → Check B) (thing : B) → Passes (first >>= next) thing
+    → (a : A) × Passes first a × Passes (next a) thing
+both_passed first next thing (inl p) = let e = p.2 in cc
+both_passed first next thing (inr p) = p
+
+-- what passes is what was meant
+pub meant_passed : {T F : Type 0} (line_of : F → Texts) (read : Result T F) (thing : T) → Passes (meant line_of read) thing
+    → read ≡ Ok thing
+meant_passed line_of (Ok found) thing p = cc
+meant_passed line_of (Err fault) thing p = cc
+
+-- nothing is wrong with what passes
+pub unless_passed : {T F : Type 0} (line_of : F → Texts) (fault : Option F) (thing passed : T)
+    → Passes (pass_unless line_of fault thing) passed → (fault ≡ None) × (passed ≡ thing)
+unless_passed line_of None thing passed p = (refl, cc)
+unless_passed line_of (Some fault) thing passed p = cc
+
 -- ---- what a text is read as
 
 -- where no text is told, memory is wanting
@@ -59,6 +79,15 @@ pub told_stops : {T : Type 0} (texts : Texts) (check : Check T) (stop : Stop) �
 told_stops texts check (Refused text) p h = (texts, p, h)
 told_stops texts check ReadFault p h = tt
 told_stops texts check OutOfMemory p h = tt
+
+-- what tells a fault that the check refuses, or that memory is wanting, stops it
+pub first_fault_stops : {T F : Type 0} (line_of : F → Texts) (check : Check T) {IsFault : Type 0} {fault wanting : F} (stop : Stop)
+    → (fault ≡ wanting) ⊎ IsFault → line_of wanting ≡ NoText → (IsFault → check.Ends (Refuse (line_of fault))) → Tells (line_of fault) stop
+    → Stops check stop
+first_fault_stops line_of check stop (inl e) none refused h =
+    memory_stops check stop (subst (λ (t : Texts). Tells t stop) (ap line_of e ∙ none) h)
+first_fault_stops {T} {F} line_of check {IsFault} {fault} stop (inr is) none refused h =
+    told_stops (line_of fault) check stop (refused is) h
 
 -- what a reader gives is what is meant, unless memory is wanting
 pub read_passes : {T F : Type 0} (line_of : F → Texts) (read : Result T F) (thing : T) (wanting : F)

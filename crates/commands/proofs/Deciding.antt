@@ -1,5 +1,5 @@
 -- How the decision on two walks ends, and what it leaves to be answered.
-use Rattle.commands.proofs.Common.{◌≡◌, ◌⊎◌, inl, inr, ℕ, List, [], get_or, refl, sym, ap, ◌∙◌, subst, get_or_from_slice_get, ◌↔◌, Option, Some, slice_get, Files, FaceList, AreWalkPair, Homotopic, Different, IsPair}
+use Rattle.commands.proofs.Common.{◌≡◌, ◌⊎◌, inl, inr, ℕ, List, [], length, get_or, refl, sym, ap, ◌∙◌, subst, get_or_from_slice_get, ◌↔◌, Option, Some, slice_get, Files, FaceList, AreWalkPair, Homotopic, Different, IsPair}
 use Rattle.surf_model.specs.Moves as moves
 use Rattle.surf_model.specs.declared.decisions.Answer as deciding
 use Rattle.commands.proofs.RightAnswers.{IsRightLine, right_line}
@@ -63,11 +63,14 @@ refused_behind held first next texts end sound told p (inr q) = let e = sound.on
 
 -- ---- walks
 
--- the two walks of a pair
-pub walks_of_pair : (mesh : FaceList) (walks : List (List ℕ)) (a b : List ℕ) → IsPair mesh walks → slice_get walks 0 ≡ Some a
-    → slice_get walks 1 ≡ Some b
-    → AreWalkPair mesh a b
-walks_of_pair mesh walks a b p f g =
+-- a pair has two walks
+pub pair_long : {mesh : FaceList} {walks : List (List ℕ)} → IsPair mesh walks → length walks ≡ 2
+pair_long p = ap (length {A = List ℕ}) p.two
+
+-- and they are these
+pub walks_of_pair : {mesh : FaceList} {walks : List (List ℕ)} {a b : List ℕ} → IsPair mesh walks → slice_get walks 0 ≡ Some a
+    → slice_get walks 1 ≡ Some b → AreWalkPair mesh a b
+walks_of_pair {mesh} {walks} {a} {b} p f g =
     let one : p.first ≡ a = sym (ap (λ (w : List (List ℕ)). get_or w 0 []) p.two) ∙ get_or_from_slice_get walks 0 a [] f in
     let other : p.second ≡ b = sym (ap (λ (w : List (List ℕ)). get_or w 1 []) p.two) ∙ get_or_from_slice_get walks 1 b [] g in
     subst (λ (w : List ℕ). AreWalkPair mesh w b) one (subst (AreWalkPair mesh p.first) other p.are)

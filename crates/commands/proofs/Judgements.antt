@@ -1,5 +1,5 @@
 -- Commands that read a mesh, two walks of it and a certificate: as the judgement on the certificate ends, the command does.
-use Rattle.commands.proofs.Common.{inr, ℕ, List, [], ◌∷◌, Option, Files, FaceList}
+use Rattle.commands.proofs.Common.{◌≡◌, inl, inr, ℕ, zero, suc, ◌<◌, List, [], ◌∷◌, subst, arith, cases_lt, Option, Files, FaceList}
 use Rattle.commands.proofs.Deciding.{behind}
 use Rattle.commands.proofs.Rows.{behind_pair, pair_told, mesh_told, mesh_passes, spelled_pair}
 use Rattle.commands.proofs.Sound.{IsSound, held}
@@ -8,6 +8,17 @@ use Rattle.commands.specs.Checks.{Check, Passes, IsTold, Holds, ◌>>=◌}
 use Rattle.commands.specs.Inputs.{IsInputWith, mesh_in, pair_in, walk_at, SpellsPair}
 use Rattle.commands.specs.Outcomes.{Outcome, AnswersTo}
 use Rattle.commands.specs.declared.status.Status.{Status}
+
+-- below a bound there is a least number of which something fails, or it holds of all
+pub first_failing : (n : ℕ) (P : ℕ → Type 0) → ((k : ℕ) → k < n → (P k → ⊥) → ((j : ℕ) → j < k → P j) → ⊥)
+    → (((j : ℕ) → j < n → P j) → ⊥) → ⊥
+first_failing zero P none some = some (λ j l. absurd (omega arith))
+first_failing (suc n) P none some =
+    first_failing n P (λ k l fails before. none k (omega arith) fails before)
+    (λ all. none n (omega arith) (λ here. some (λ j l. elim (cases_lt j n) [
+      | inl below ↦ all j below
+      | inr end ↦ let same : n ≡ j = omega arith in subst P same here
+    ])) all)
 
 -- each file that the command looks at is told, and it ends as the judgement does
 pub record IsJudgedBy (files : Option Files) (command judgement : Check Answer) : Type 0 where

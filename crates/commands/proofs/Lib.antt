@@ -11,3 +11,4 @@ pub mod Deciding
 pub mod GatheredLines
 pub mod Rows
 pub mod Judgements
+pub mod Answering

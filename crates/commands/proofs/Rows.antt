@@ -1,12 +1,10 @@
 -- The files that commands look at: the check of each has an end, and one where its files are told.
-use Rattle.commands.proofs.Common.{meaning_of, ◌≡◌, inr, ℕ, ◌≤◌, List, ◌∷◌, length, refl, [], Option, Some, None, IsSomeAnd, Files, file_of, FaceList, IsPair, ends_fault, of_entry, pair_fault}
+use Rattle.commands.proofs.Common.{meaning_of, inr, ℕ, ◌≤◌, List, ◌∷◌, length, refl, [], Option, Some, None, IsSomeAnd, Files, file_of, FaceList, IsPair, pair_fault}
 use Rattle.walk_files.proofs.PairLemmas.{none_of_pair}
-use Rattle.walk_files.proofs.TwoWalkLemmas.{two_fault-two}
-use Rattle.walk_files.specs.declared.pair.PairFault.TheVariants.{NotTwo}
 use Rattle.commands.specs.declared.refusal.Input.TheVariants as inputs
 use Rattle.commands.proofs.Deciding.{behind}
 use Rattle.commands.proofs.Sound.{IsSound, sound-then, sound-meant, sound-file, meant_told, held}
-use Rattle.commands.proofs.WalkInputs.{no_fault_passes, sound-walks, walks_passed, walks_told}
+use Rattle.commands.proofs.WalkInputs.{sound-walks, walks_passed, walks_told}
 use Rattle.commands.specs.Answers.{Answer}
 use Rattle.commands.specs.Checks.{Check, End, Passes, Holds, IsTold, ◌>>=◌}
 use Rattle.commands.specs.Inputs.{IsInputWith, mesh_in, pair_in, SpellsMesh, SpellsPair}
@@ -74,12 +72,6 @@ spelled_pair files name mesh first second h =
 pub pair_told : (files : Option Files) (name : List ℕ) (mesh : FaceList) → IsTold files name
     → (pair_in files name mesh).EachFile (IsTold files)
 pair_told files name mesh told = walks_told pair_line (pair_fault mesh) files name told
-
--- where a pair passes, there are two walks
-pub two_walks : (held : Option Files) (name : List ℕ) (mesh : FaceList) (walks : List (List ℕ)) → Passes (pair_in held name mesh) walks
-    → length walks ≡ 2
-two_walks held name mesh walks p =
-    two_fault-two NotTwo of_entry ends_fault mesh walks (no_fault_passes pair_line (pair_fault mesh) held name walks p)
 
 -- the status and the text are those of an outcome of the check
 pub record IsOutcomeOf (check : Check Answer) (status : Status) (text : List ℕ) : Type 0 where

@@ -103,6 +103,34 @@ sound-file held name input =
     some_end none bytes agrees (inl large) = none (Refuse (too_large input)) (bytes, agrees, large, refl)
     some_end none bytes agrees (inr small) = none (Pass bytes) (agrees, small)
 
+told_bytes : (told : Option (List ℕ)) (limit : ℕ) (P : List ℕ → Type 0) (bytes : List ℕ) → IsSome told → IfSome told (λ f. bytes ≡ f)
+    → length bytes ≤ limit → P bytes → IsSomeAnd told (λ f. (length f ≤ limit) × P f)
+told_bytes (Some f) limit P bytes is same short holds = subst (λ (b : List ℕ). (length b ≤ limit) × P b) same (short, holds)
+told_bytes None limit P bytes is same short holds = cc
+
+-- what holds of the bytes that pass holds of a file that is told
+pub file_holds : (held : Option Files) (name : List ℕ) (input : Input) (P : List ℕ → Type 0) (bytes : List ℕ) → IsTold held name
+    → Passes (file held name input) bytes → P bytes → Holds held name P
+file_holds held name input P bytes told p holds = told_bytes (file_of held name) MOST_BYTES P bytes told p.0 p.1 holds
+
+-- a thing passes where all is well with it, and else its first fault is refused
+module _ {T F : Type 0} (check : Check T) (line_of : F → Texts) (IsFault : F → Type 0) (IsWell : Type 0) (thing : T)
+    (refused : (texts : Texts) → check.Ends (Refuse texts) → (fault : F) × IsFault fault × (texts ≡ line_of fault))
+    (passed : (x : T) → Passes check x → IsWell × (x ≡ thing)) (one : (f g : F) → IsFault f → IsFault g → f ≡ g)
+    (none : (f : F) → IsWell → IsFault f → ⊥) where
+  one_outcome : (a b : End T) → check.Ends a → check.Ends b → a ≡ b
+  one_outcome (Refuse r) (Refuse s) p q =
+      let f = refused r p in
+      let g = refused s q in
+      let same = one f.0 g.0 f.1 g.1 in
+      cc (same, f.2, g.2)
+  one_outcome (Refuse r) (Pass y) p q = let f = refused r p in absurd (none f.0 (passed y q).0 f.1)
+  one_outcome (Pass x) (Refuse s) p q = let f = refused s q in absurd (none f.0 (passed x p).0 f.1)
+  one_outcome (Pass x) (Pass y) p q = cc ((passed x p).1, (passed y q).1)
+
+  pub sound-unless_fault : (held : Option Files) → (((end : End T) → check.Ends end → ⊥) → ⊥) → IsSound held check
+  sound-unless_fault held some = record { some = some; one = λ _ a b p q. one_outcome a b p q }
+
 -- ---- files that are told, of parts that look at none
 
 pub meant_told : {T F : Type 0} (files : Option Files) (line_of : F → Texts) (read : Result T F)
@@ -130,14 +158,17 @@ one_right two a b p q =
       | inr first ↦ elim (two.either b) [ inl second ↦ p.1 (q.0 second) ∙ sym second | inr second ↦ first ∙ sym second ]
     ]
 
-one_decided : {D T : Type 0} {for_yes for_no : D} → IsYesOrNo for_yes for_no → (made : D → T) (P : Type 0) (a b : End T)
-    → (decided_by for_yes made P).Ends a
-    → (decided_by for_yes made P).Ends b → a ≡ b
-one_decided two made P (Refuse texts) b p q = absurd p
-one_decided two made P (Pass x) (Refuse texts) p q = absurd q
-one_decided two made P (Pass x) (Pass y) p q =
-    let same : p.0 ≡ q.0 = one_right two p.0 q.0 p.2 q.2 in
-    let things : x ≡ y = p.1 ∙ ap made same ∙ sym q.1 in
+-- a check that refuses nothing, and passes what is made of a thing that is such, has one end where one thing is such
+pub one_made : {D T : Type 0} (check : Check T) (made : D → T) (IsSuch : D → Type 0) → ((texts : Texts) → check.Ends (Refuse texts) → ⊥)
+    → ((x : T) → Passes check x → (d : D) × (x ≡ made d) × IsSuch d) → ((d e : D) → IsSuch d → IsSuch e → d ≡ e) → (a b : End T)
+    → check.Ends a → check.Ends b → a ≡ b
+one_made check made IsSuch never such one (Refuse texts) b p q = absurd (never texts p)
+one_made check made IsSuch never such one (Pass x) (Refuse texts) p q = absurd (never texts q)
+one_made check made IsSuch never such one (Pass x) (Pass y) p q =
+    let d = such x p in
+    let e = such y q in
+    let same : d.0 ≡ e.0 = one d.0 e.0 d.2 e.2 in
+    let things : x ≡ y = d.1 ∙ ap made same ∙ sym e.1 in
     cc
 
 pub sound-decided_by : {D T : Type 0} {for_yes for_no : D} (held : Option Files) → IsYesOrNo for_yes for_no → (made : D → T) (P : Type 0)
@@ -153,7 +184,8 @@ sound-decided_by {D} {T} {for_yes} {for_no} held two made P =
               (λ h. absurd (none (Pass (made for_yes)) (for_yes, refl, ((λ _. h), (λ _. refl))))),
             ),
           );
-      one = λ _ a b p q. one_decided two made P a b p q;
+      one = λ _ a b p q.
+          one_made (decided_by for_yes made P) made (λ (d : D). (d ≡ for_yes) ↔ P) (λ _ h. h) (λ _ h. h) (one_right two) a b p q;
     }
 
 -- ---- a file that is read in pieces

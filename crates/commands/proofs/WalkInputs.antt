@@ -1,5 +1,5 @@
 -- How the check of a walk file ends, whatever is looked for in its walks.
-use Rattle.commands.proofs.Common.{◌≡◌, ◌⊎◌, inl, inr, ℕ, List, refl, ap, subst, ◌∙◌, Option, Some, None, Result, Ok, Err, Files, walk_text_of, walks_of, walks_in}
+use Rattle.commands.proofs.Common.{◌≡◌, inl, inr, ℕ, List, refl, subst, Option, Some, None, Result, Ok, Err, Files, walk_text_of, walks_of, walks_in}
 use Rattle.walk_files.specs.WalkLists.{WalkText}
 use Rattle.walk_files.specs.declared.fault.WalkFault.{WalkFault}
 use Rattle.commands.proofs.Checking.{stops_first, stops_next, stopped_where, told_stops}
@@ -86,21 +86,6 @@ module _ {F : Type 0} (line_of : F → Texts) (fault_in : List (List ℕ) → Op
   pub walks_passed : (bytes : List ℕ) (walks : List (List ℕ)) → Passes (file held name inputs.Walks) bytes → walks_of bytes ≡ Ok walks
       → fault_in walks ≡ None → Passes (walks_unless line_of fault_in held name) walks
   walks_passed bytes walks p e f = inr (bytes, p, inr (walks, rw e refl, rw f refl))
-
-  passed_alone : (xs walks : List (List ℕ)) (fault : Option F) → fault_in xs ≡ fault → Passes (pass_unless line_of fault xs) walks
-      → fault_in walks ≡ None
-  passed_alone xs walks None e h = let same : walks ≡ xs = cc in ap fault_in same ∙ e
-  passed_alone xs walks (Some fault) e h = cc
-
-  passed_behind : (read : Result (List (List ℕ)) WalkFault) (walks : List (List ℕ))
-      → Passes (meant (numbers_line inputs.Walks) read >>= (λ xs. pass_unless line_of (fault_in xs) xs)) walks → fault_in walks ≡ None
-  passed_behind read walks (inl p) = let e = p.2 in cc
-  passed_behind read walks (inr p) = passed_alone p.0 walks (fault_in p.0) refl p.2
-
-  -- there is no fault in walks that pass
-  pub no_fault_passes : (walks : List (List ℕ)) → Passes (walks_unless line_of fault_in held name) walks → fault_in walks ≡ None
-  no_fault_passes walks (inl p) = let e = p.2 in cc
-  no_fault_passes walks (inr p) = passed_behind (walks_of p.0) walks p.2
 
   pub sound-walks : IsSound held (walks_unless line_of fault_in held name)
   sound-walks =

@@ -6,7 +6,7 @@ use Rattle.commands.specs.Writes.{Writes}
 use Rattle.commands.specs.declared.line.Phrase.{Phrase}
 
 -- the whole is a first part of itself
-pub AppendsPrefix-whole : (a b : Option (List ℕ)) (bytes : List ℕ) → Appends a b bytes → AppendsPrefix a b bytes
+AppendsPrefix-whole : (a b : Option (List ℕ)) (bytes : List ℕ) → Appends a b bytes → AppendsPrefix a b bytes
 AppendsPrefix-whole a b bytes p =
     record {
       count = length bytes;
@@ -14,6 +14,15 @@ AppendsPrefix-whole a b bytes p =
       appended = p
           ∙ ap (append_told a) (sym (take_all (length bytes) bytes (omega arith)));
     }
+
+-- the whole was written, and could not be settled
+pub part_unsettled : {X : Type 0} {written : X → Option (List ℕ)} {faults : X → ℕ} {old new : X} (mid : X) (text : List ℕ)
+    → WroteAll written old mid text → faults old ≤ faults mid → written new ≡ written mid → Rose (faults mid) (faults new)
+    → WrotePart written faults old new text
+part_unsettled {X} {written} {faults} {old} {new} mid text whole falls same rose = record {
+  part = AppendsPrefix-whole (written old) (written new) text (same ∙ whole);
+  fault = λ below. let risen : faults mid < faults new = rose below in omega (arith, falls, risen);
+}
 
 -- what failed, where two things are known of it
 pub both_err : {X Y P Q R : Type 0} (result : Result X Y) → (P → Q → R) → OnErr result P → OnErr result Q → OnErr result R

@@ -12,7 +12,6 @@ pub use Rattle.commands.specs.Stops.{Reads, Stops, Tells, bytes_of}
 pub use Rattle.commands.specs.declared.status.Status.{Status}
 pub use Rattle.commands.specs.declared.status.Status.TheVariants.{No, Refused, Yes}
 pub use Rattle.connectivity.proofs.EdgeCounts.{few_of_two}
-pub use Rattle.double_commands.proofs.DoubleChecks.{answers, told_status}
 pub use Rattle.off_writer.specs.WrittenMeshes.{off_text}
 pub use Rattle.orientation_cover.specs.Turns.{cover_by, lift_by}
 pub use Rattle.orientation_cover.specs.Ways.{AreWays}

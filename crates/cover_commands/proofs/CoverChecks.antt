@@ -1,18 +1,16 @@
 -- How the checks of the cover and of lifts end, and what answers them.
-use Rattle.cover_commands.proofs.Common.{stops_first, stops_next, told_stops, memory_stops, mesh_valid, sound-mesh, sound-pair, only_then, IsSound, sound-then, sound-pass, yes_with, Check, End, Refuse, Pass, Passes, pass, ◌>>=◌, mesh_in, pair_in, AnswersTo, Reads, Stops, Tells, bytes_of, Yes, Refused, few_of_two, answers, off_text, cover_by, AreWays, ◌≡◌, ◌⊎◌, inl, inr, ℕ, ◌<◌, Bool, List, refl, ap, sym, subst, arith, Option, Result, Ok, Err, MatchResult, OnlyReads, Files, FaceList, IsFaceList, IsClosedManifold, surface_line, WalkPair}
+use Rattle.cover_commands.proofs.Common.{stops_first, stops_next, mesh_valid, sound-mesh, sound-pair, IsSound, sound-then, sound-pass, yes_with, Check, End, Refuse, Pass, Passes, pass, ◌>>=◌, mesh_in, pair_in, AnswersTo, Stops, bytes_of, Yes, Refused, few_of_two, off_text, cover_by, AreWays, ◌≡◌, inl, inr, ℕ, Bool, List, refl, ap, sym, subst, Option, Result, Ok, Err, MatchResult, Files, FaceList, IsFaceList, IsClosedManifold, WalkPair}
+use Rattle.commands.proofs.Answering.{stop_answers, thing_answers}
+use Rattle.commands.proofs.Sound.{sound-unless_fault}
+use Rattle.surf_model.specs.FaceLists.{HasFileSize}
 use Rattle.commands.specs.declared.stop.Stop.{Stop}
 use Rattle.commands.specs.declared.text.Text.{Text}
 use Rattle.doubling.proofs.LimitLemmas.{fits_or_too_large, not_too_large, one_limit}
 use Rattle.doubling.specs.DoubleFaults.{IsTooLarge}
-use Rattle.doubling.specs.declared.fault.DoubleFault.{DoubleFault}
-use Rattle.doubling.specs.declared.fault.DoubleFault.TheVariants.{OutOfMemory}
-use Rattle.manifold_check.specs.Faults.{IsFirstFault}
-use Rattle.manifold_check.specs.declared.fault.SurfaceFault.{SurfaceFault}
 use Rattle.orientation_cover.proofs.ClassLemmas.{one_ways}
 use Rattle.orientation_cover.proofs.ExistingWays.{ways_exist}
 use Rattle.surface_commands.proofs.Surfaces.{sound-closed}
 use Rattle.surface_commands.specs.SurfaceInput.{closed}
-use Rattle.manifold_check.specs.declared.fault.SurfaceFault.TheVariants as surfaces
 use Rattle.commands.specs.declared.stop.Stop.TheVariants as stops
 use Rattle.cover_commands.specs.MeshCover.{WithWays, ways_of, with_ways, ways_in, seen, cover_line, covered, cover_in, mesh_cover, lifts_on, lifts_behind, lifts_in, seen_lifts, lifts_status, lifts_text, lifts_answer, lifted_walks}
 use Rattle.cover_commands.specs.declared.lifting.Lifts.{Lifts}
@@ -41,22 +39,15 @@ sound-ways_in : (files : Option Files) (name : List ℕ) → IsSound files (ways
 sound-ways_in files name =
     sound-then files _ _ (sound-mesh files name) (λ mesh h. sound-with_ways files mesh (mesh_valid files name mesh h))
 
-one_cover : (on : WithWays) (a b : End FaceList) → (covered on).Ends a → (covered on).Ends b → a ≡ b
-one_cover on (Refuse r) (Refuse s) p q = let same = one_limit (cover_by on.mesh on.bits) p.0 q.0 p.1 q.1 in cc (same, p.2, q.2)
-one_cover on (Refuse r) (Pass y) p q = absurd (not_too_large (cover_by on.mesh on.bits) p.0 q.0 p.1)
-one_cover on (Pass x) (Refuse s) p q = absurd (not_too_large (cover_by on.mesh on.bits) q.0 p.0 q.1)
-one_cover on (Pass x) (Pass y) p q = cc (p.1, q.1)
-
 sound-covered : (files : Option Files) (on : WithWays) → IsSound files (covered on)
 sound-covered files on =
-    record {
-      some = λ none.
-          elim (fits_or_too_large (cover_by on.mesh on.bits)) [
-            | inl small ↦ none (Pass (cover_by on.mesh on.bits)) (small, refl)
-            | inr beyond ↦ none (Refuse (cover_line beyond.0)) (beyond.0, beyond.1, refl)
-          ];
-      one = λ _ a b p q. one_cover on a b p q;
-    }
+    let cover = cover_by on.mesh on.bits in
+    sound-unless_fault (covered on) cover_line (IsTooLarge cover) (HasFileSize cover) cover (λ _ h. h) (λ _ h. h) (one_limit cover)
+    (not_too_large cover) files
+    (λ none. elim (fits_or_too_large cover) [
+      | inl small ↦ none (Pass cover) (small, refl)
+      | inr beyond ↦ none (Refuse (cover_line beyond.0)) (beyond.0, beyond.1, refl)
+    ])
 
 sound-mesh_cover : (files : Option Files) (name : List ℕ) → IsSound files (mesh_cover files name)
 sound-mesh_cover files name =
@@ -76,13 +67,6 @@ sound-lifted_walks files mesh walks =
 abbrev behind_closed : FaceList → Check WithWays
 behind_closed surface = ways_of surface >>= (λ bits. pass (record { mesh = surface; bits = bits }))
 
--- a fault of the mesh, or want of memory
-pub manifold_stops : (mesh : FaceList) (fault : SurfaceFault) (stop : Stop) → (fault ≡ surfaces.OutOfMemory) ⊎ IsFirstFault mesh fault
-    → Tells (surface_line fault) stop → Stops (closed mesh) stop
-manifold_stops mesh fault stop (inl wanting) h =
-    memory_stops (closed mesh) stop (subst (λ (f : SurfaceFault). Tells (surface_line f) stop) wanting h)
-manifold_stops mesh fault stop (inr is) h = told_stops (surface_line fault) (closed mesh) stop (fault, is, refl) h
-
 pub ways_stop : (mesh : FaceList) (stop : Stop) → Passes (closed mesh) mesh → Stops (ways_of mesh) stop → Stops (with_ways mesh) stop
 ways_stop mesh stop p h =
     stops_next (closed mesh) behind_closed mesh stop p
@@ -100,23 +84,15 @@ file_end files name mesh (Err stop) p h = stops_next (mesh_in files name) with_w
 
 -- ---- the cover
 
-pub cover_stops : (on : WithWays) (fault : DoubleFault) (stop : Stop) → (fault ≡ OutOfMemory) ⊎ IsTooLarge (cover_by on.mesh on.bits) fault
-    → Tells (cover_line fault) stop → Stops (covered on) stop
-cover_stops on fault stop (inl wanting) h =
-    memory_stops (covered on) stop (subst (λ (f : DoubleFault). Tells (cover_line f) stop) wanting h)
-cover_stops on fault stop (inr is) h = told_stops (cover_line fault) (covered on) stop (fault, is, refl) h
-
 pub mesh_answers : (files : Option Files) (name : List ℕ) (cover : FaceList) → Passes (cover_in files name) cover
     → AnswersTo files (mesh_cover files name) Yes (off_text cover)
 mesh_answers files name cover p =
-    answers files (mesh_cover files name) (Pass (yes_with (off_text cover))) Yes (off_text cover) (sound-mesh_cover files name)
-    (inr (cover, p, refl)) (record { status_is = refl; text_is = refl })
+    thing_answers files (cover_in files name) (λ mesh. yes_with (off_text mesh)) cover (off_text cover) (sound-mesh_cover files name) p refl
 
-pub refusal_answers : (files : Option Files) (name : List ℕ) (text : Text) → Stops (cover_in files name) (stops.Refused text)
-    → AnswersTo files (mesh_cover files name) Refused (bytes_of text)
-refusal_answers files name text h =
-    answers files (mesh_cover files name) (Refuse h.0) Refused (bytes_of text) (sound-mesh_cover files name) (inl (h.0, h.1, refl))
-    (record { status_is = refl; text_is = h.2 })
+pub refusal_answers : (files : Option Files) (name : List ℕ) (stop : Stop) (text : Text) → stop ≡ stops.Refused text
+    → Stops (cover_in files name) stop → AnswersTo files (mesh_cover files name) Refused (bytes_of text)
+refusal_answers files name stop text is h =
+    stop_answers files (cover_in files name) (λ mesh. pass (yes_with (off_text mesh))) stop text (sound-mesh_cover files name) is h
 
 -- ---- lifts
 
@@ -138,22 +114,9 @@ lifts_end files mesh walks on (Err stop) p h = stops_next (ways_in files mesh) (
 pub lifts_answers : (files : Option Files) (mesh walks : List ℕ) (lifts : WalkPair) → Passes (lifts_in files mesh walks) lifts
     → AnswersTo files (lifted_walks files mesh walks) (lifts_status lifts) (lifts_text lifts)
 lifts_answers files mesh walks lifts p =
-    answers files (lifted_walks files mesh walks) (Pass (lifts_answer lifts)) (lifts_status lifts) (lifts_text lifts)
-    (sound-lifted_walks files mesh walks) (inr (lifts, p, refl)) (record { status_is = refl; text_is = refl })
+    thing_answers files (lifts_in files mesh walks) lifts_answer lifts (lifts_text lifts) (sound-lifted_walks files mesh walks) p refl
 
-pub lift_refusal_answers : (files : Option Files) (mesh walks : List ℕ) (text : Text)
-    → Stops (lifts_in files mesh walks) (stops.Refused text) → AnswersTo files (lifted_walks files mesh walks) Refused (bytes_of text)
-lift_refusal_answers files mesh walks text h =
-    answers files (lifted_walks files mesh walks) (Refuse h.0) Refused (bytes_of text) (sound-lifted_walks files mesh walks)
-    (inl (h.0, h.1, refl)) (record { status_is = refl; text_is = h.2 })
-
--- a call that read behind another, and was the end
-pub reads_behind : {X V : Type 0} (held : X → Option Files) (faults : X → ℕ) (old mid new : X) (IsMid IsEnd : Option Files → Type 0)
-    (result : Result V Stop) → OnlyReads held faults old mid → Reads held faults mid new IsMid result → IsEnd (held old)
-    → Reads held faults old new IsEnd result
-reads_behind held faults old mid new IsMid IsEnd result first h end =
-    record {
-      end = end;
-      fault = λ e below. let rose : faults mid < faults new = h.fault e below in omega (arith, first.never_falls, rose);
-      only_reads = only_then held faults old mid new first h.only_reads;
-    }
+pub lift_refusal_answers : (files : Option Files) (mesh walks : List ℕ) (stop : Stop) (text : Text) → stop ≡ stops.Refused text
+    → Stops (lifts_in files mesh walks) stop → AnswersTo files (lifted_walks files mesh walks) Refused (bytes_of text)
+lift_refusal_answers files mesh walks stop text is h =
+    stop_answers files (lifts_in files mesh walks) (λ lifts. pass (lifts_answer lifts)) stop text (sound-lifted_walks files mesh walks) is h

@@ -1,7 +1,7 @@
 -- What proofs of this crate cite of others, passed on from one place (by tools/imports). Declares nothing.
 pub use Rattle.closed_walks.specs.FreeHomotopy.{FreelyHomotopic, IsClosedWalk}
 pub use Rattle.commands.proofs.Sound.{IsSound, IsYesOrNo, held, sound-decided_by, sound-then}
-pub use Rattle.commands.proofs.WalkInputs.{fault_stops, no_fault_passes, sound-walks, text_passes, text_stops, walks_passed, walks_told}
+pub use Rattle.commands.proofs.WalkInputs.{fault_stops, sound-walks, text_passes, text_stops, walks_passed, walks_told}
 pub use Rattle.commands.specs.Checks.{Check, Holds, IsTold, Passes}
 pub use Rattle.commands.specs.Outcomes.{AnswersTo, IsAnswerOf, Outcome}
 pub use Rattle.commands.specs.declared.status.Status.{Status}

@@ -1,5 +1,5 @@
 -- How the checks of `loops` end, and what they leave to be answered.
-use Rattle.loop_commands.proofs.Common.{IsClosedWalk, FreelyHomotopic, IsSound, IsYesOrNo, sound-decided_by, sound-then, Check, Outcome, IsAnswerOf, Status, Freely, NotFreely, ◌≡◌, ◌⊎◌, inl, inr, ℕ, List, [], get_or, refl, sym, ap, ◌∙◌, subst, Option, Some, slice_get, Files, FaceList, sound-surface_in, IsClosedPair}
+use Rattle.loop_commands.proofs.Common.{IsClosedWalk, FreelyHomotopic, IsSound, IsYesOrNo, sound-decided_by, sound-then, Check, Outcome, IsAnswerOf, Status, Freely, NotFreely, ◌≡◌, ◌⊎◌, inl, inr, ℕ, List, [], length, get_or, refl, sym, ap, ◌∙◌, subst, Option, Some, slice_get, Files, FaceList, sound-surface_in, IsClosedPair}
 use Rattle.commands.proofs.RightAnswers.{IsRightLine, right_line}
 use Rattle.commands.specs.Answers.{Answer}
 use Rattle.commands.specs.Inputs.{walk_at}
@@ -44,10 +44,12 @@ pub record AreClosed (mesh : FaceList) (first second : List ℕ) : Type 0 where
   pub first_closed : IsClosedWalk mesh first
   pub second_closed : IsClosedWalk mesh second
 
-pub walks_of_pair : (mesh : FaceList) (walks : List (List ℕ)) (a b : List ℕ) → IsClosedPair mesh walks → slice_get walks 0 ≡ Some a
-    → slice_get walks 1 ≡ Some b
-    → AreClosed mesh a b
-walks_of_pair mesh walks a b p f g =
+pub loops_long : {mesh : FaceList} {walks : List (List ℕ)} → IsClosedPair mesh walks → length walks ≡ 2
+loops_long p = ap (length {A = List ℕ}) p.two
+
+pub walks_of_pair : {mesh : FaceList} {walks : List (List ℕ)} {a b : List ℕ} → IsClosedPair mesh walks → slice_get walks 0 ≡ Some a
+    → slice_get walks 1 ≡ Some b → AreClosed mesh a b
+walks_of_pair {mesh} {walks} {a} {b} p f g =
     let one : p.first ≡ a = sym (ap (λ (w : List (List ℕ)). get_or w 0 []) p.two) ∙ get_or_from_slice_get walks 0 a [] f in
     let other : p.second ≡ b = sym (ap (λ (w : List (List ℕ)). get_or w 1 []) p.two) ∙ get_or_from_slice_get walks 1 b [] g in
     record { first_closed = subst (IsClosedWalk mesh) one p.first_closed; second_closed = subst (IsClosedWalk mesh) other p.second_closed }

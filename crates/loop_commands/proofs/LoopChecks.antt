@@ -1,16 +1,8 @@
 -- How the check of two closed walks ends.
-use Rattle.loop_commands.proofs.Common.{IsSound, held, no_fault_passes, sound-walks, walks_passed, walks_told, Passes, Holds, IsTold, ◌≡◌, ℕ, List, [], ◌∷◌, length, refl, Option, Files, FaceList, IsClosedPair, loops_fault, of_entry, open_fault}
+use Rattle.loop_commands.proofs.Common.{IsSound, held, sound-walks, walks_passed, walks_told, Passes, Holds, IsTold, ℕ, List, [], ◌∷◌, refl, Option, Files, FaceList, IsClosedPair, loops_fault}
 use Rattle.walk_files.proofs.ClosedPairLemmas.{none_of_loops}
-use Rattle.walk_files.proofs.TwoWalkLemmas.{two_fault-two}
-use Rattle.walk_files.specs.declared.loops.LoopFault.TheVariants.{NotTwo}
 use Rattle.commands.specs.declared.refusal.Input.TheVariants as inputs
 use Rattle.loop_commands.specs.Loops.{SpellsLoops, loops_line, loops_in}
-
--- where a pair passes, there are two walks
-pub two_walks : (held : Option Files) (name : List ℕ) (mesh : FaceList) (walks : List (List ℕ)) → Passes (loops_in held name mesh) walks
-    → length walks ≡ 2
-two_walks held name mesh walks p =
-    two_fault-two NotTwo of_entry open_fault mesh walks (no_fault_passes loops_line (loops_fault mesh) held name walks p)
 
 -- the check has an end, and one where its file is told
 pub sound-loops_in : (held : Option Files) (name : List ℕ) (mesh : FaceList) → IsSound held (loops_in held name mesh)

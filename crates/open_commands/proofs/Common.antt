@@ -3,7 +3,7 @@ pub use Rattle.commands.proofs.Checking.{memory_stops, stops_first, stops_next, 
 pub use Rattle.commands.proofs.Deciding.{IsRightAnswer, behind, differs, refused_behind, right_answer, sound-decided, walks_of_pair, yes_or_no}
 pub use Rattle.commands.proofs.LimitLemmas.{fitting, none_over, refused_beyond}
 pub use Rattle.commands.proofs.RightAnswers.{no_yes, refused_so}
-pub use Rattle.commands.proofs.Rows.{IsOutcomeOf, mesh_passes, pair_told, sound-mesh, sound-pair, spelled_pair, two_walks}
+pub use Rattle.commands.proofs.Rows.{IsOutcomeOf, mesh_passes, pair_told, sound-mesh, sound-pair, spelled_pair}
 pub use Rattle.commands.proofs.Running.{memory_no_fault, only_self, only_then, reads_ended, reads_faulty, reads_made, reads_then, runs_faulty, runs_replied, runs_stopped, tells_no_fault}
 pub use Rattle.commands.proofs.Sound.{IsSound, held, meant_told, sound-decided_by, sound-pass_unless, sound-then, unless_told}
 pub use Rattle.commands.specs.Answers.{Answer, Exactly}

@@ -1,14 +1,13 @@
 -- How the checks of an open surface and of walks of it end.
-use Rattle.open_commands.proofs.Common.{stops_next, stops_second, told_stops, memory_stops, walks_of_pair, sound-mesh, sound-pair, mesh_passes, pair_told, IsSound, sound-then, sound-pass_unless, meant_told, unless_told, Exactly, Check, End, Refuse, Pass, Passes, Holds, IsTold, pass_unless, ◌>>=◌, mesh_in, pair_in, walk_at, SpellsMesh, orientable, Stops, Tells, MOST_OPEN_SIDES, MOST_OPEN_DARTS, ◌≡◌, ◌⊎◌, inl, inr, ℕ, ◌+◌, ◌≤◌, List, length, refl, sym, ap, subst, arith, get_or_from_slice_get, Option, Some, None, Result, Ok, Err, IfOk, MatchResult, slice_get, Files, FaceList, IsFaceList, total_sides, darts, AreWalkPair}
+use Rattle.open_commands.proofs.Common.{stops_next, stops_second, told_stops, walks_of_pair, sound-mesh, sound-pair, mesh_passes, pair_told, IsSound, sound-then, sound-pass_unless, meant_told, unless_told, Exactly, Check, Refuse, Pass, Passes, Holds, IsTold, pass_unless, ◌>>=◌, mesh_in, pair_in, walk_at, SpellsMesh, orientable, Stops, Tells, MOST_OPEN_SIDES, MOST_OPEN_DARTS, ◌≡◌, inr, ℕ, ◌+◌, ◌≤◌, List, refl, sym, ap, subst, arith, get_or_from_slice_get, Option, Some, None, Result, Ok, Err, IfOk, MatchResult, slice_get, Files, FaceList, IsFaceList, total_sides, darts, AreWalkPair}
 use Rattle.commands.proofs.MeshTexts.{mesh_valid, sound-orientable}
+use Rattle.commands.proofs.Sound.{sound-unless_fault}
 use Rattle.commands.specs.Refusals.{told, off_line}
 use Rattle.commands.specs.declared.stop.Stop.{Stop}
 use Rattle.free_forms.proofs.FaultLemmas.{one_fault, no_fault}
 use Rattle.free_forms.proofs.OutcomeLemmas.{open_or_fault}
 use Rattle.free_forms.specs.OpenFaults.{IsFirstFault}
 use Rattle.free_forms.specs.OpenSurfaces.{IsOpenSurface}
-use Rattle.free_forms.specs.declared.fault.OpenFault.{OpenFault}
-use Rattle.free_forms.specs.declared.fault.OpenFault.TheVariants.{OutOfMemory}
 use Rattle.off_reader.specs.OffTexts.{meaning_of}
 use Rattle.surf_model.specs.Edges.{Edge}
 use Rattle.surf_model.specs.Surfaces.{IsOrientable}
@@ -18,31 +17,16 @@ use Rattle.open_commands.specs.OpenPairs.{IsOpenPair, Question, question, limit_
 
 -- ---- the surface
 
-one_open : (mesh : FaceList) (a b : End FaceList) → (open_surface mesh).Ends a → (open_surface mesh).Ends b → a ≡ b
-one_open mesh (Refuse r) (Refuse s) p q = let same = one_fault mesh p.0 q.0 p.1 q.1 in cc (same, p.2, q.2)
-one_open mesh (Refuse r) (Pass y) p q = absurd (no_fault mesh p.0 q.0 p.1)
-one_open mesh (Pass x) (Refuse s) p q = absurd (no_fault mesh q.0 p.0 q.1)
-one_open mesh (Pass x) (Pass y) p q = cc (p.1, q.1)
-
 pub sound-open : (held : Option Files) (mesh : FaceList) → IsFaceList mesh → IsSound held (open_surface mesh)
 sound-open held mesh valid =
-    record {
-      some = λ none.
-          open_or_fault mesh valid (λ is. none (Pass mesh) (is, refl)) (λ fault is. none (Refuse (open_line fault)) (fault, is, refl));
-      one = λ _ a b p q. one_open mesh a b p q;
-    }
+    sound-unless_fault (open_surface mesh) open_line (IsFirstFault mesh) (IsOpenSurface mesh) mesh (λ _ h. h) (λ _ h. h) (one_fault mesh)
+    (no_fault mesh) held
+    (λ none. open_or_fault mesh valid (λ is. none (Pass mesh) (is, refl)) (λ fault is. none (Refuse (open_line fault)) (fault, is, refl)))
 
 pub sound-open_surface_in : (held : Option Files) (name : List ℕ) → IsSound held (open_surface_in held name)
 sound-open_surface_in held name =
     sound-then held _ _ (sound-mesh held name)
     (λ mesh h. sound-then held _ _ (sound-open held mesh (mesh_valid held name mesh h)) (λ surface _. sound-orientable held surface))
-
--- a fault of the mesh, or want of memory
-pub fault_stops : (mesh : FaceList) (fault : OpenFault) (stop : Stop) → (fault ≡ OutOfMemory) ⊎ IsFirstFault mesh fault
-    → Tells (open_line fault) stop → Stops (open_surface mesh) stop
-fault_stops mesh fault stop (inl wanting) h =
-    memory_stops (open_surface mesh) stop (subst (λ (f : OpenFault). Tells (open_line f) stop) wanting h)
-fault_stops mesh fault stop (inr is) h = told_stops (open_line fault) (open_surface mesh) stop (fault, is, refl) h
 
 pub turned_stop : (mesh : FaceList) (stop : Stop) → Passes (open_surface mesh) mesh → Stops (orientable mesh) stop
     → Stops (as_open_surface mesh) stop
@@ -134,10 +118,7 @@ open_walks pair first second h f g =
     record {
       first_is = one;
       second_is = two;
-      are = walks_of_pair pair.surface.mesh pair.walks.walks first second h.walks f g;
+      are = walks_of_pair h.walks f g;
       sides = h.within.sides;
       few = omega (arith, h.within.few, ap darts one, ap darts two);
     }
-
-pub two_long : (pair : OpenPair) → IsOpenPair pair → length pair.walks.walks ≡ 2
-two_long pair h = ap (λ (w : List (List ℕ)). length w) h.walks.two

@@ -8,27 +8,21 @@ use Rattle.closed_surfaces.specs.declared.signed_mesh.SignedMesh.{SignedMesh}
 use Rattle.commands.specs.declared.text.Text.TheVariants.{OddChain}
 use Rattle.manifold_check.proofs.FaultLemmas.{one_fault, no_fault}
 use Rattle.manifold_check.proofs.OutcomeLemmas.{closed_or_fault}
+use Rattle.manifold_check.specs.Faults.{IsFirstFault}
+use Rattle.commands.proofs.Sound.{sound-unless_fault}
+use Rattle.surf_model.specs.Surfaces.{IsClosedManifold}
 use Rattle.std.proofs.lemmas.Bool.{cases_lt}
 use Rattle.surf_model.specs.ComponentParts.{PartsView, AreParts}
 use Rattle.surf_model.specs.declared.chains.ChainLink.{ChainLink}
 use Rattle.surface_commands.specs.SurfaceRefusals.{surface_line, components_line}
 use Rattle.surface_commands.specs.SurfaceInput.{as_surface, closed, surface_in, of_few_components}
 
-one_closed : (mesh : FaceList) (a b : End FaceList) → (closed mesh).Ends a → (closed mesh).Ends b → a ≡ b
-one_closed mesh (Refuse r) (Refuse s) p q =
-    let same = one_fault mesh p.0 q.0 p.1 q.1 in cc (same, p.2, q.2)
-one_closed mesh (Refuse r) (Pass y) p q = absurd (no_fault mesh p.0 q.0 p.1)
-one_closed mesh (Pass x) (Refuse s) p q = absurd (no_fault mesh q.0 p.0 q.1)
-one_closed mesh (Pass x) (Pass y) p q = cc (p.1, q.1)
-
 pub sound-closed : (held : Option Files) (mesh : FaceList) → IsFaceList mesh → IsSound held (closed mesh)
 sound-closed held mesh valid =
-    record {
-      some = λ none.
-          closed_or_fault mesh valid (λ is. none (Pass mesh) (is, refl))
-          (λ fault is. none (Refuse (surface_line fault)) (fault, is, refl));
-      one = λ _ a b p q. one_closed mesh a b p q;
-    }
+    sound-unless_fault (closed mesh) surface_line (IsFirstFault mesh) (IsClosedManifold mesh) mesh (λ _ h. h) (λ _ h. h) (one_fault mesh)
+    (no_fault mesh) held
+    (λ none. closed_or_fault mesh valid (λ is. none (Pass mesh) (is, refl))
+    (λ fault is. none (Refuse (surface_line fault)) (fault, is, refl)))
 
 pub sound-as_surface : (held : Option Files) (mesh : FaceList) → IsFaceList mesh → IsSound held (as_surface mesh)
 sound-as_surface held mesh valid = sound-then held _ _ (sound-closed held mesh valid) (λ surface _. sound-orientable held surface)

@@ -1,5 +1,7 @@
 -- Each denial has a verdict, and one.
-use Rattle.verify_commands.proofs.Common.{IsSound, sound-pass, Answer, End, Refuse, Pass, Certificate, Moves, Denial, IsVerdict, HasShape, HasDegree, HasPlaces, IsGood, LabellingView, DenialVerdict, ◌≡◌, ◌⊎◌, inl, inr, ℕ, zero, suc, ◌<◌, List, length, refl, sym, ap, ◌∙◌, subst, arith, cases_lt, Option, slice_index, Files, Edge, edge_in, FaceList, IsFaceList}
+use Rattle.commands.proofs.Judgements.{first_failing}
+use Rattle.commands.proofs.Sound.{one_made}
+use Rattle.verify_commands.proofs.Common.{IsSound, sound-pass, Pass, Certificate, Moves, Denial, IsVerdict, HasShape, HasDegree, HasPlaces, IsGood, LabellingView, DenialVerdict, ◌≡◌, ◌⊎◌, inl, inr, ℕ, zero, suc, ◌<◌, List, length, refl, arith, Option, slice_index, Files, Edge, edge_in, FaceList, IsFaceList}
 use Rattle.labellings.proofs.EdgeRuleLemmas.{each-edge, least-against}
 use Rattle.labellings.proofs.VerdictLemmas.{one_verdict}
 use Rattle.labellings.specs.TableRules.{EntryMeetsRule}
@@ -9,16 +11,6 @@ use Rattle.surf_model.proofs.EdgeTables.{some_table}
 use Rattle.turn_words.specs.Wheels.{StandsTwice, IsFirstTwice}
 use Rattle.labellings.specs.declared.denial.Denial as denials
 use Rattle.verify_commands.specs.Verify.{judgement, denial_answer}
-
--- below a bound there is a least number of which something fails, or it holds of all
-least_or_all : (n : ℕ) (P : ℕ → Type 0) → ((k : ℕ) → k < n → (P k → ⊥) → ((j : ℕ) → j < k → P j) → ⊥) → (((j : ℕ) → j < n → P j) → ⊥) → ⊥
-least_or_all zero P none some = some (λ j l. absurd (omega arith))
-least_or_all (suc n) P none some =
-    least_or_all n P (λ k l fails before. none k (omega arith) fails before)
-    (λ all. none n (omega arith) (λ here. some (λ j l. elim (cases_lt j n) [
-      | inl below ↦ all j below
-      | inr not_below ↦ let same : n ≡ j = omega arith in subst P same here
-    ])) all)
 
 -- where no place is the first that stands twice, none stands twice
 none_twice : (places : List ℕ) → ((p : ℕ) → IsFirstTwice places p → ⊥) → (n p : ℕ) → p < n → StandsTwice places p → ⊥
@@ -77,7 +69,7 @@ some_verdict mesh first second denial valid none =
         let table : List Edge = found.0 in
         let places : HasPlaces denial.labelling =
         each_once denial.labelling shape.each_spoke (λ p twice. none (Label (PlaceTwice p)) (shape, degree, twice)) in
-        least_or_all (length table) (EntryMeetsRule mesh table denial.labelling)
+        first_failing (length table) (EntryMeetsRule mesh table denial.labelling)
         (λ k below against before.
         none (Label (EdgeRule (record { 0 = (edge_in table k).low }) (record { 0 = (edge_in table k).high }))) (
           shape,
@@ -94,21 +86,13 @@ some_verdict mesh first second denial valid none =
               each-edge mesh table denial.labelling found.1 all;
         }))
 
-one_judged : (mesh : FaceList) (first second : List ℕ) (denial : denials.Denial) (a b : End Answer)
-    → (judgement mesh first second (Denial denial)).Ends a
-    → (judgement mesh first second (Denial denial)).Ends b → a ≡ b
-one_judged mesh first second denial (Refuse cause) b p q = absurd p
-one_judged mesh first second denial (Pass x) (Refuse cause) p q = absurd q
-one_judged mesh first second denial (Pass x) (Pass y) p q =
-    let same : p.0 ≡ q.0 = one_verdict mesh first second denial p.0 q.0 p.2 q.2 in
-    let answers : x ≡ y = p.1 ∙ ap denial_answer same ∙ sym q.1 in
-    cc
-
 pub sound-judgement : (held : Option Files) (mesh : FaceList) (first second : List ℕ) (shown : Certificate) → IsFaceList mesh
     → IsSound held (judgement mesh first second shown)
 sound-judgement held mesh first second (Moves list) valid = sound-pass held _
 sound-judgement held mesh first second (Denial denial) valid =
     record {
       some = λ none. some_verdict mesh first second denial valid (λ verdict is. none (Pass (denial_answer verdict)) (verdict, refl, is));
-      one = λ _ a b p q. one_judged mesh first second denial a b p q;
+      one = λ _ a b p q.
+          one_made (judgement mesh first second (Denial denial)) denial_answer (IsVerdict mesh first second denial) (λ _ h. h) (λ _ h. h)
+          (one_verdict mesh first second denial) a b p q;
     }

@@ -13,6 +13,5 @@ returns-in-Err-TooLarge g c =
     let stop = c.too_large.result in
     let long =
     long_file (file_of files c.args.name.now) MOST_BYTES (c.in-Err-TooLarge.ensures.too_large (ap Err c.in-Err-TooLarge.field-0-is)) in
-    reads_faulty g.S.Shelf.held g.S.Shelf.faults c.args.shelf.now c.read_whole.new.shelf _ stop c.in-Err-TooLarge.ensures.only_reads
-    (tells_no_fault (too_large c.args.input) stop c.too_large.ensures)
+    reads_faulty c.in-Err-TooLarge.ensures.only_reads (tells_no_fault (too_large c.args.input) stop c.too_large.ensures)
     (told_stops (too_large c.args.input) (file files c.args.name.now c.args.input) stop (long.0, long.1, long.2, refl) c.too_large.ensures)

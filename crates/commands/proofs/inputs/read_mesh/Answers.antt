@@ -12,8 +12,7 @@ returns-in_err-read_off g c =
     let fault = c.in_err-read_off.field-0.0 in
     let p = err_from_is_err_and c.from_residual-in_err-read_off.result c.from_residual-in_err-read_off.ensures.1 in
     rw p.1
-    (reads_faulty g.S.Shelf.held g.S.Shelf.faults c.args.shelf.now c.read_file.new.shelf _ p.0 c.in_ok-bytes.ensures.only_reads
-    (tells_no_fault (off_line fault) p.0 p.2)
+    (reads_faulty c.in_ok-bytes.ensures.only_reads (tells_no_fault (off_line fault) p.0 p.2)
     (stops_next (file (g.S.Shelf.held c.args.shelf.now) c.args.name.now Mesh) (λ bytes. meant off_line (meaning_of bytes)) bytes p.0
     c.in_ok-bytes.ensures.end
     (read_stops off_line (meaning_of bytes) fault OutOfMemory p.0 refl (rw c.deref.ensures.value at c.in_err-read_off.ensures) p.2)))
@@ -21,7 +20,7 @@ returns-in_err-read_off g c =
 pub returns : goal.returns
 returns g c =
     let bytes = c.in_ok-bytes.bytes.items in
-    reads_made g.S.Shelf.held g.S.Shelf.faults c.args.shelf.now c.read_file.new.shelf _ _ c.in_ok-bytes.ensures.only_reads
+    reads_made c.in_ok-bytes.ensures.only_reads
     (inr (
       bytes,
       c.in_ok-bytes.ensures.end,

@@ -11,8 +11,7 @@ returns-in_err-walks-clause-reads g c =
     let stop = c.in_err-walks.field-0.0 in
     let p = err_from_is_err_and c.from_residual.result c.from_residual.ensures.1 in
     rw (p.1, p.2)
-    (reads_then held g.S.Shelf.faults shelf shelf c.read_list.new.shelf _ _ stop (only_self held g.S.Shelf.faults shelf)
-    c.in_err-walks.ensures
+    (reads_then only_self c.in_err-walks.ensures
     (λ mesh table. text_stops pair_line (pair_fault mesh) (held shelf) c.args.name.now stop c.in_err-walks.ensures.end))
 
 pub returns-in_err-check_pair-clause-reads : goal.returns-in_err-check_pair-clause-reads
@@ -22,7 +21,7 @@ returns-in_err-check_pair-clause-reads g c =
     let fault = c.in_err-check_pair.field-0.0 in
     let p = err_from_is_err_and c.from_residual-in_err-check_pair.result c.from_residual-in_err-check_pair.ensures.1 in
     rw p.1
-    (reads_faulty held g.S.Shelf.faults shelf c.read_list.new.shelf _ p.0 c.in_ok-walks.ensures.only_reads
+    (reads_faulty c.in_ok-walks.ensures.only_reads
     (tells_no_fault (pair_line fault) p.0 p.2)
     (λ mesh table.
     fault_stops pair_line (pair_fault mesh) (held shelf) c.args.name.now c.in_ok-walks.walks fault p.0 c.in_ok-walks.ensures.end
@@ -32,7 +31,7 @@ pub returns-clause-reads : goal.returns-clause-reads
 returns-clause-reads g c =
     let held = g.S.Shelf.held in
     let shelf = c.args.shelf.now in
-    reads_made held g.S.Shelf.faults shelf c.read_list.new.shelf _ _ c.in_ok-walks.ensures.only_reads
+    reads_made c.in_ok-walks.ensures.only_reads
     (λ mesh table.
     text_passes pair_line (pair_fault mesh) (held shelf) c.args.name.now c.in_ok-walks.walks c.in_ok-walks.ensures.end
     (sym (c.in_ok-check_pair.ensures.fault mesh table)))

@@ -1,6 +1,6 @@
-use Rattle.cover_commands.proofs.Common.{tells_no_fault, subst, HasFileSize}
-use Rattle.cover_commands.specs.MeshCover.{cover_line, seen}
-use Rattle.cover_commands.proofs.CoverChecks.{cover_stops}
+use Rattle.cover_commands.proofs.Common.{refl, tells_no_fault, subst, HasFileSize}
+use Rattle.cover_commands.specs.MeshCover.{cover_line, covered, seen}
+use Rattle.commands.proofs.Checking.{first_fault_stops}
 use Rattle.cover_commands.proofs.reading.cover_on.Goals as goal
 
 pub returns-in-Ok : goal.returns-in-Ok
@@ -13,6 +13,7 @@ returns-in-Ok c =
 pub returns-in-Err : goal.returns-in-Err
 returns-in-Err c =
     record {
-      end = cover_stops (seen c.args.on.now) c.in-Err.fault c.refused_as.result c.in-Err.ensures.fault c.refused_as.ensures;
+      end = first_fault_stops cover_line (covered (seen c.args.on.now)) c.refused_as.result c.in-Err.ensures.fault refl
+          (λ is. (c.in-Err.fault, is, refl)) c.refused_as.ensures;
       no_fault = λ e. tells_no_fault (cover_line c.in-Err.fault) c.refused_as.result c.refused_as.ensures cc;
     }

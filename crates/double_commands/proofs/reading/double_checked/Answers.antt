@@ -1,8 +1,9 @@
-use Rattle.std.proofs.Common.{inr, subst}
+use Rattle.std.proofs.Common.{inr, refl, subst}
 use Rattle.surf_model.specs.FaceLists.{HasFileSize}
+use Rattle.commands.proofs.Checking.{first_fault_stops, stops_next}
 use Rattle.commands.proofs.Running.{tells_no_fault}
-use Rattle.double_commands.specs.MeshDouble.{double_line}
-use Rattle.double_commands.proofs.DoubleChecks.{double_stops, behind_surface}
+use Rattle.double_commands.specs.MeshDouble.{double_line, doubled}
+use Rattle.open_commands.specs.OpenInput.{open_surface}
 use Rattle.double_commands.proofs.reading.double_checked.Goals as goal
 
 pub returns-in-Ok : goal.returns-in-Ok
@@ -20,7 +21,8 @@ pub returns-in-Err : goal.returns-in-Err
 returns-in-Err c =
     record {
       end =
-          behind_surface c.args.faces.now c.refused_for.result c.in_ok-check_surface.ensures.end
-          (double_stops c.args.faces.now c.in-Err.fault c.refused_for.result c.in-Err.ensures.fault c.refused_for.ensures);
+          stops_next (open_surface c.args.faces.now) doubled c.args.faces.now c.refused_for.result c.in_ok-check_surface.ensures.end
+          (first_fault_stops double_line (doubled c.args.faces.now) c.refused_for.result c.in-Err.ensures.fault refl
+          (λ is. (c.in-Err.fault, is, refl)) c.refused_for.ensures);
       no_fault = λ e. tells_no_fault (double_line c.in-Err.fault) c.refused_for.result c.refused_for.ensures cc;
     }

@@ -1,10 +1,10 @@
-use Rattle.open_commands.proofs.Common.{stops_first, memory_no_fault, only_self, runs_faulty, runs_replied, runs_stopped, OutOfMemory, LeadsAtPeak, IsWithin, MOST_OPEN_STEPS, subst, arith, err_from_is_err_and, HasFileSize}
+use Rattle.open_commands.proofs.Common.{stops_first, memory_no_fault, only_self, runs_faulty, runs_replied, runs_stopped, LeadsAtPeak, IsWithin, MOST_OPEN_STEPS, subst, arith, HasFileSize}
 use Rattle.surf_model.specs.Moves as moves
-use Rattle.open_commands.specs.CertifyOpen as of_certify_open
+use Rattle.commands.proofs.Deciding.{pair_long}
 use Rattle.open_commands.specs.CertifyOpen.{list_answer}
 use Rattle.open_commands.specs.OpenPairs.{open_pair_in}
 use Rattle.open_commands.proofs.Listing.{list_passes, found_reply, found_short}
-use Rattle.open_commands.proofs.OpenInputs.{AreOpenWalks, open_walks, two_long}
+use Rattle.open_commands.proofs.OpenInputs.{AreOpenWalks, open_walks}
 use Rattle.open_commands.proofs.OpenOutcomes.{then_listed}
 use Rattle.open_commands.proofs.certify_open.certify_open.Goals as goal
 use Rattle.open_commands.proofs.certify_open.certify_open.Goals.{After-at-2}
@@ -12,19 +12,15 @@ use Rattle.open_commands.proofs.certify_open.certify_open.Goals.{After-at-2}
 pub returns-in_err-pair-clause-runs : goal.returns-in_err-pair-clause-runs
 returns-in_err-pair-clause-runs g c =
     let stop = c.in_err-pair.field-0.0 in
-    let p = err_from_is_err_and c.from_residual.result c.from_residual.ensures.1 in
-    rw (p.1, p.2)
-    (runs_stopped g.S.Shelf.held g.S.Shelf.faults c.args.shelf.now c.read_open_pair.new.shelf
-    (λ files. of_certify_open.certify_open files c.args.mesh.now c.args.walks.now) (λ none. none.0.0.0.0) c.args.shelf.now _ stop
-    (only_self g.S.Shelf.held g.S.Shelf.faults c.args.shelf.now) c.in_err-pair.ensures.reads
+    runs_stopped (λ none. none.0.0.0.0) c.from_residual.ensures.1 only_self c.in_err-pair.ensures.reads
     (stops_first (open_pair_in (g.S.Shelf.held c.args.shelf.now) c.args.mesh.now c.args.walks.now) then_listed stop
-    c.in_err-pair.ensures.reads.end))
+    c.in_err-pair.ensures.reads.end)
 
 pub at-requires : goal.at-requires
-at-requires g c = omega (arith, two_long c.in_ok-pair.pair c.in_ok-pair.ensures.pair)
+at-requires g c = omega (arith, pair_long c.in_ok-pair.ensures.pair.walks)
 
 pub at-requires-2 : goal.at-requires-2
-at-requires-2 g c = omega (arith, two_long c.in_ok-pair.pair c.in_ok-pair.ensures.pair)
+at-requires-2 g c = omega (arith, pair_long c.in_ok-pair.ensures.pair.walks)
 
 -- what is known of the two walks
 walks : (g : _) (c : After-at-2 g)
@@ -49,11 +45,7 @@ lift_open-requires-clause-few g c = (walks g c).few
 
 pub returns-in_err-found-clause-runs : goal.returns-in_err-found-clause-runs
 returns-in_err-found-clause-runs g c =
-    let p = err_from_is_err_and c.from_residual-in_err-found.result c.from_residual-in_err-found.ensures.1 in
-    rw (p.1, p.2)
-    (runs_faulty g.S.Shelf.held g.S.Shelf.faults c.args.shelf.now c.read_open_pair.new.shelf
-    (λ files. of_certify_open.certify_open files c.args.mesh.now c.args.walks.now) (λ none. none.0.0.0.0) OutOfMemory
-    c.in_ok-pair.ensures.reads.only_reads memory_no_fault tt)
+    runs_faulty (λ none. none.0.0.0.0) c.from_residual-in_err-found.ensures.1 c.in_ok-pair.ensures.reads.only_reads memory_no_fault tt
 
 pub returns-clause-runs : goal.returns-clause-runs
 returns-clause-runs g c =
@@ -62,9 +54,7 @@ returns-clause-runs g c =
     let reply =
     found_reply pair.surface.mesh c.at.result.now c.at-2.result.now c.in_ok-found.found c.reply_with.result c.in_ok-found.ensures.moves
     c.in_ok-found.ensures.short c.reply_with.ensures.some c.reply_with.ensures.none in
-    runs_replied g.S.Shelf.held g.S.Shelf.faults c.args.shelf.now c.read_open_pair.new.shelf
-    (λ files. of_certify_open.certify_open files c.args.mesh.now c.args.walks.now) (λ none. none.0.0.0.0) c.reply_with.result
-    c.in_ok-pair.ensures.reads.only_reads
+    runs_replied (λ none. none.0.0.0.0) c.in_ok-pair.ensures.reads.only_reads
     (record {
       answer = list_answer pair.surface.mesh c.at.result.now c.at-2.result.now reply.decision;
       passes =

@@ -1,9 +1,9 @@
-use Rattle.open_commands.proofs.Common.{stops_first, memory_no_fault, only_self, runs_faulty, runs_replied, runs_stopped, decision_answer, OutOfMemory, arith, err_from_is_err_and, if◌then◌else◌, Homotopic, Different}
+use Rattle.open_commands.proofs.Common.{stops_first, memory_no_fault, only_self, runs_faulty, runs_replied, runs_stopped, decision_answer, arith, if◌then◌else◌, Homotopic, Different}
 use Rattle.surf_model.specs.declared.decisions.Answer as deciding
-use Rattle.open_commands.specs.DecideOpen as of_decide_open
+use Rattle.commands.proofs.Deciding.{pair_long}
 use Rattle.open_commands.specs.OpenPairs.{open_pair_in}
 use Rattle.open_commands.proofs.Listing.{decision_passes}
-use Rattle.open_commands.proofs.OpenInputs.{AreOpenWalks, open_walks, two_long}
+use Rattle.open_commands.proofs.OpenInputs.{AreOpenWalks, open_walks}
 use Rattle.open_commands.proofs.OpenOutcomes.{then_decided}
 use Rattle.open_commands.proofs.decide_open.decide_open.Goals as goal
 use Rattle.open_commands.proofs.decide_open.decide_open.Goals.{After-at-2}
@@ -11,19 +11,15 @@ use Rattle.open_commands.proofs.decide_open.decide_open.Goals.{After-at-2}
 pub returns-in_err-pair : goal.returns-in_err-pair
 returns-in_err-pair g c =
     let stop = c.in_err-pair.field-0.0 in
-    let p = err_from_is_err_and c.from_residual.result c.from_residual.ensures.1 in
-    rw (p.1, p.2)
-    (runs_stopped g.S.Shelf.held g.S.Shelf.faults c.args.shelf.now c.read_open_pair.new.shelf
-    (λ files. of_decide_open.decide_open files c.args.mesh.now c.args.walks.now) (λ none. none.0.0.0.0) c.args.shelf.now _ stop
-    (only_self g.S.Shelf.held g.S.Shelf.faults c.args.shelf.now) c.in_err-pair.ensures.reads
+    runs_stopped (λ none. none.0.0.0.0) c.from_residual.ensures.1 only_self c.in_err-pair.ensures.reads
     (stops_first (open_pair_in (g.S.Shelf.held c.args.shelf.now) c.args.mesh.now c.args.walks.now) then_decided stop
-    c.in_err-pair.ensures.reads.end))
+    c.in_err-pair.ensures.reads.end)
 
 pub at-requires : goal.at-requires
-at-requires g c = omega (arith, two_long c.in_ok-pair.pair c.in_ok-pair.ensures.pair)
+at-requires g c = omega (arith, pair_long c.in_ok-pair.ensures.pair.walks)
 
 pub at-requires-2 : goal.at-requires-2
-at-requires-2 g c = omega (arith, two_long c.in_ok-pair.pair c.in_ok-pair.ensures.pair)
+at-requires-2 g c = omega (arith, pair_long c.in_ok-pair.ensures.pair.walks)
 
 -- what is known of the two walks
 walks : (g : _) (c : After-at-2 g)
@@ -48,20 +44,14 @@ same_class-requires-clause-few g c = (walks g c).few
 
 pub returns-in_err-same : goal.returns-in_err-same
 returns-in_err-same g c =
-    let p = err_from_is_err_and c.from_residual-in_err-same.result c.from_residual-in_err-same.ensures.1 in
-    rw (p.1, p.2)
-    (runs_faulty g.S.Shelf.held g.S.Shelf.faults c.args.shelf.now c.read_open_pair.new.shelf
-    (λ files. of_decide_open.decide_open files c.args.mesh.now c.args.walks.now) (λ none. none.0.0.0.0) OutOfMemory
-    c.in_ok-pair.ensures.reads.only_reads memory_no_fault tt)
+    runs_faulty (λ none. none.0.0.0.0) c.from_residual-in_err-same.ensures.1 c.in_ok-pair.ensures.reads.only_reads memory_no_fault tt
 
 pub returns : goal.returns
 returns g c =
     let pair = c.in_ok-pair.pair in
     let known = walks g (goal.at.returns g c).After-at-2 in
     let decision : deciding.Answer = (if c.in_ok-same.same then Homotopic else Different) in
-    runs_replied g.S.Shelf.held g.S.Shelf.faults c.args.shelf.now c.read_open_pair.new.shelf
-    (λ files. of_decide_open.decide_open files c.args.mesh.now c.args.walks.now) (λ none. none.0.0.0.0) c.reply_on.result
-    c.in_ok-pair.ensures.reads.only_reads
+    runs_replied (λ none. none.0.0.0.0) c.in_ok-pair.ensures.reads.only_reads
     (record {
       answer = decision_answer decision;
       passes =

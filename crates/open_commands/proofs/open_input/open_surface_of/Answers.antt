@@ -1,11 +1,11 @@
-use Rattle.open_commands.proofs.Common.{inr, err_from_is_err_and}
+use Rattle.commands.proofs.Running.{failed_end}
+use Rattle.open_commands.proofs.Common.{inr}
 use Rattle.open_commands.proofs.OpenInputs.{turned_stop}
 use Rattle.open_commands.proofs.open_input.open_surface_of.Goals as goal
 
 pub returns-in_err-check_orientable-clause-end : goal.returns-in_err-check_orientable-clause-end
 returns-in_err-check_orientable-clause-end c =
-    let p = err_from_is_err_and c.from_residual-in_err-check_orientable.result c.from_residual-in_err-check_orientable.ensures.1 in
-    rw (p.1, p.2)
+    failed_end _ _ _ _ c.from_residual-in_err-check_orientable.ensures.1
     (turned_stop c.args.faces c.in_err-check_orientable.field-0.0 c.in_ok-check_surface.ensures.end
     c.in_err-check_orientable.ensures.end)
 

@@ -4,7 +4,6 @@ use Rattle.open_commands.proofs.open_input.read_open_surface.Goals as goal
 
 pub returns-clause-reads : goal.returns-clause-reads
 returns-clause-reads g c =
-    reads_ended g.S.Shelf.held g.S.Shelf.faults c.args.shelf.now c.read_mesh.new.shelf _ c.open_surface_of.result
-    c.in_ok-faces.ensures.only_reads c.open_surface_of.ensures.no_fault
+    reads_ended c.in_ok-faces.ensures.only_reads c.open_surface_of.ensures.no_fault
     (surface_end (g.S.Shelf.held c.args.shelf.now) c.args.name.now c.in_ok-faces.faces c.open_surface_of.result c.in_ok-faces.ensures.end
     c.open_surface_of.ensures.mesh c.open_surface_of.ensures.end)

@@ -1,4 +1,5 @@
-use Rattle.open_commands.proofs.Common.{fitting, two_walks, memory_no_fault, only_then, reads_faulty, reads_made, reads_then, tells_no_fault, Exactly, Passes, pair_in, walk_at, Stops, OutOfMemory, ◌≡◌, ◌∙◌, ℕ, List, ap, sym, subst, arith, get_or_from_slice_get, err_from_is_err_and, Option, Files, FaceList}
+use Rattle.open_commands.proofs.Common.{fitting, memory_no_fault, only_then, reads_faulty, reads_made, reads_then, tells_no_fault, Exactly, Passes, pair_in, walk_at, Stops, ◌≡◌, ◌∙◌, ℕ, List, ap, sym, subst, arith, get_or_from_slice_get, err_from_is_err_and, Option, Files, FaceList}
+use Rattle.commands.proofs.Deciding.{pair_long}
 use Rattle.walk_files.specs.Pairs.{IsPair}
 use Rattle.open_commands.specs.OpenPairs.{IsWithinLimits, limit_fault, limit_word, open_limits, open_pair_in}
 use Rattle.open_commands.proofs.OpenInputs.{walks_stop, limits_stop, pair_passes, built_passes}
@@ -12,27 +13,18 @@ returns-in_err-walks-clause-reads g c =
     let p = err_from_is_err_and c.from_residual-in_err-walks.result c.from_residual-in_err-walks.ensures.1 in
     let stops = c.in_err-walks.ensures.reads.end surface c.in_ok-faces.ensures.table in
     rw (p.1, p.2)
-    (reads_then g.S.Shelf.held g.S.Shelf.faults c.args.shelf.now c.read_open_surface.new.shelf c.read_pair.new.shelf _ _ stop
-    c.in_ok-faces.ensures.reads.only_reads c.in_err-walks.ensures.reads
+    (reads_then c.in_ok-faces.ensures.reads.only_reads c.in_err-walks.ensures.reads
     (walks_stop (g.S.Shelf.held c.args.shelf.now) c.args.mesh.now c.args.walks.now surface stop c.in_ok-faces.ensures.reads.end
-    (subst (λ (files : Option Files). Stops (pair_in files c.args.walks.now surface) stop)
-    c.in_ok-faces.ensures.reads.only_reads.same_files stops)))
+    (subst (λ (files : Option Files). Stops (pair_in files c.args.walks.now surface) stop) c.in_ok-faces.ensures.reads.only_reads.same_files
+    stops)))
 
 pub at-requires : goal.at-requires
 at-requires g c =
-    omega (
-      arith,
-      two_walks _ _ c.in_ok-faces.faces c.in_ok-walks.walks.walks
-          (c.in_ok-walks.ensures.reads.end c.in_ok-faces.faces c.in_ok-faces.ensures.table),
-    )
+    omega (arith, pair_long (c.in_ok-walks.ensures.pair c.in_ok-faces.faces c.in_ok-faces.ensures.table))
 
 pub at-requires-2 : goal.at-requires-2
 at-requires-2 g c =
-    omega (
-      arith,
-      two_walks _ _ c.in_ok-faces.faces c.in_ok-walks.walks.walks
-          (c.in_ok-walks.ensures.reads.end c.in_ok-faces.faces c.in_ok-faces.ensures.table),
-    )
+    omega (arith, pair_long (c.in_ok-walks.ensures.pair c.in_ok-faces.faces c.in_ok-faces.ensures.table))
 
 -- the pair passes where the files are as they were at first
 passed : (g : _) (c : After-at-2 g)
@@ -60,9 +52,8 @@ returns-in_err-check-clause-reads g c =
     let limit = c.in_err-check.ensures in
     let p = err_from_is_err_and c.from_residual-in_err-check.result c.from_residual-in_err-check.ensures.1 in
     rw (p.1, p.2)
-    (reads_faulty g.S.Shelf.held g.S.Shelf.faults c.args.shelf.now c.read_pair.new.shelf _ stop
-    (only_then g.S.Shelf.held g.S.Shelf.faults c.args.shelf.now c.read_open_surface.new.shelf c.read_pair.new.shelf
-    c.in_ok-faces.ensures.reads.only_reads c.in_ok-walks.ensures.reads.only_reads) (tells_no_fault (Exactly limit.0) stop limit.2)
+    (reads_faulty (only_then c.in_ok-faces.ensures.reads.only_reads c.in_ok-walks.ensures.reads.only_reads)
+    (tells_no_fault (Exactly limit.0) stop limit.2)
     (limits_stop (g.S.Shelf.held c.args.shelf.now) c.args.mesh.now c.args.walks.now surface c.in_ok-walks.walks.walks limit.0 stop
     c.in_ok-faces.ensures.reads.end (passed g (goal.at.returns-in_err-check-clause-reads g c).After-at-2)
     (same_fault g (goal.at.returns-in_err-check-clause-reads g c).After-at-2 ∙ limit.1) limit.2))
@@ -71,17 +62,13 @@ pub returns-in_err-surface-clause-reads : goal.returns-in_err-surface-clause-rea
 returns-in_err-surface-clause-reads g c =
     let p = err_from_is_err_and c.from_residual-in_err-surface.result c.from_residual-in_err-surface.ensures.1 in
     rw (p.1, p.2)
-    (reads_faulty g.S.Shelf.held g.S.Shelf.faults c.args.shelf.now c.read_pair.new.shelf _ OutOfMemory
-    (only_then g.S.Shelf.held g.S.Shelf.faults c.args.shelf.now c.read_open_surface.new.shelf c.read_pair.new.shelf
-    c.in_ok-faces.ensures.reads.only_reads c.in_ok-walks.ensures.reads.only_reads) memory_no_fault tt)
+    (reads_faulty (only_then c.in_ok-faces.ensures.reads.only_reads c.in_ok-walks.ensures.reads.only_reads) memory_no_fault tt)
 
 pub returns-clause-reads : goal.returns-clause-reads
 returns-clause-reads g c =
     let mesh = c.in_ok-faces.faces in
     let pair = c.in_ok-walks.walks.walks in
-    reads_made g.S.Shelf.held g.S.Shelf.faults c.args.shelf.now c.read_pair.new.shelf _ _
-    (only_then g.S.Shelf.held g.S.Shelf.faults c.args.shelf.now c.read_open_surface.new.shelf c.read_pair.new.shelf
-    c.in_ok-faces.ensures.reads.only_reads c.in_ok-walks.ensures.reads.only_reads)
+    reads_made (only_then c.in_ok-faces.ensures.reads.only_reads c.in_ok-walks.ensures.reads.only_reads)
     (built_passes (open_pair_in (g.S.Shelf.held c.args.shelf.now) c.args.mesh.now c.args.walks.now) mesh c.in_ok-surface.surface.mesh pair
     c.in_ok-surface.ensures.mesh
     (pair_passes (g.S.Shelf.held c.args.shelf.now) c.args.mesh.now c.args.walks.now mesh pair c.in_ok-faces.ensures.reads.end

@@ -14,8 +14,8 @@ returns-in_err-stream g c =
     let file : Option (List ℕ) = file_of held name in
     let p = err_from_is_err_and c.from_residual.result c.from_residual.ensures.1 in
     rw p.1
-    (reads_stopped g.S.Shelf.held g.S.Shelf.faults c.args.shelf.now c.args.shelf.now c.start.new.shelf _ end p.0
-    (only_self g.S.Shelf.held g.S.Shelf.faults c.args.shelf.now) c.in_err-stream.ensures.only_reads
+    (reads_stopped end p.0
+    (only_self) c.in_err-stream.ensures.only_reads
     (λ e. c.in_err-stream.ensures.fault (ap (λ (x : StreamEnd). Err x) e)) p.2
     (stops_first (certificate_in held name) (judgement c.args.pair.now.faces.now c.args.pair.now.first.now c.args.pair.now.second.now) p.0
     (certificate_stopped held name end p.0 p.2
@@ -31,8 +31,7 @@ returns-in_err-verdict-in-Moves g c =
     let only = c.in_ok-stream.ensures.only_reads in
     let p = err_from_is_err_and c.from_residual-in_err-verdict-in-Moves.result c.from_residual-in_err-verdict-in-Moves.ensures.1 in
     rw (p.1, p.2)
-    (reads_then g.S.Shelf.held g.S.Shelf.faults c.args.shelf.now c.start.new.shelf c.judge_moves.new.shelf _ _ stop only
-    c.in_err-verdict-in-Moves.ensures
+    (reads_then only c.in_err-verdict-in-Moves.ensures
     (stops_first (certificate_in held name) (judgement c.args.pair.now.faces.now c.args.pair.now.first.now c.args.pair.now.second.now) stop
     (subst (λ (files : Option Files). Stops (certificate_in files name) stop) only.same_files c.in_err-verdict-in-Moves.ensures.end)))
 
@@ -44,12 +43,11 @@ returns-in_ok-verdict-in-Moves g c =
     let second : List ℕ = c.args.pair.now.second.now in
     let verdict = c.in_ok-verdict-in-Moves.verdict in
     let only = c.in_ok-stream.ensures.only_reads in
-    reads_made g.S.Shelf.held g.S.Shelf.faults c.args.shelf.now c.judge_moves.new.shelf _ c.reply_on_moves.result
-    (only_then g.S.Shelf.held g.S.Shelf.faults c.args.shelf.now c.start.new.shelf c.judge_moves.new.shelf only
-    c.in_ok-verdict-in-Moves.ensures.only_reads)
+    reads_made (only_then only c.in_ok-verdict-in-Moves.ensures.only_reads)
     (moves_judged (g.S.Shelf.held c.args.shelf.now) name faces first second verdict c.reply_on_moves.result
     (subst (λ (files : Option Files). IsVerdictOnFile files name faces first second verdict) only.same_files
-    c.in_ok-verdict-in-Moves.ensures.end) c.reply_on_moves.ensures)
+    c.in_ok-verdict-in-Moves.ensures.end)
+    c.reply_on_moves.ensures)
 
 pub returns-in_err-denial-in-Labels : goal.returns-in_err-denial-in-Labels
 returns-in_err-denial-in-Labels g c =
@@ -69,7 +67,7 @@ returns-in_err-denial-in-Labels g c =
     let Large : List ℕ → Type 0 = λ f. IsIn stream f → stream.lines.reading.limit < length f in
     let p = err_from_is_err_and c.from_residual-in_err-denial-in-Labels.result c.from_residual-in_err-denial-in-Labels.ensures.1 in
     rw p.1
-    (reads_stopped g.S.Shelf.held g.S.Shelf.faults c.args.shelf.now c.start.new.shelf c.denial.new.shelf _ end p.0 only
+    (reads_stopped end p.0 only
     c.in_err-denial-in-Labels.ensures.only_reads
     (λ e. c.in_err-denial-in-Labels.ensures.fault fresh.2 (ap (λ (x : StreamEnd). Err x) e)) p.2
     (stops_first (certificate_in held name) (judgement c.args.pair.now.faces.now c.args.pair.now.first.now c.args.pair.now.second.now) p.0
@@ -106,8 +104,8 @@ returns-in_ok-verdict-in-Labels g c =
     let Told : List ℕ → Type 0 = λ f. IsIn stream f
     → (denial_left (reader_at stream f) ≡ Ok denial) × Belongs c.denial.new.self f in
     let Within : List ℕ → Type 0 = λ f. IsIn stream f → length f ≤ stream.lines.reading.limit in
-    reads_ended g.S.Shelf.held g.S.Shelf.faults c.args.shelf.now c.denial.new.shelf _ c.reply_on_denial.result
-    (only_then g.S.Shelf.held g.S.Shelf.faults c.args.shelf.now c.start.new.shelf c.denial.new.shelf only
+    reads_ended
+    (only_then only
     c.in_ok-denial-in-Labels.ensures.only_reads) (judged_no_fault c.reply_on_denial.result _ c.reply_on_denial.ensures)
     (judged held name faces first second (Denial denial) c.reply_on_denial.result
     (certificate_passed held name (Denial denial)

@@ -75,7 +75,7 @@ returns-in_err-mv g c =
     let p = err_from_is_err_and c.from_residual.result c.from_residual.ensures.1 in
     let as_err : (e : StreamEnd) → Result (Option Move) StreamEnd = λ e. Err e in
     rw p.1
-    (reads_stopped g.S.Shelf.held g.S.Shelf.faults c.args.shelf.now c.moves.shelf c.next_move.new.shelf _ end p.0
+    (reads_stopped end p.0
     (record { same_files = i.held; never_falls = i.faults }) c.in_err-mv.ensures.only_reads
     (λ e. c.in_err-mv.ensures.fault i.refusal (ap as_err e)) p.2
     (certificate_stopped (g.S.Shelf.held c.args.shelf.now) c.args.name.now end p.0 p.2
@@ -109,8 +109,8 @@ returns g c =
     let Told : List ℕ → Type 0 =
     λ f. IsIn old f → (next_answer (reader_at old f) ≡ Ok c.in_ok-mv.field-0) × Belongs c.next_move.new.self f in
     let Within : List ℕ → Type 0 = λ f. IsIn old f → IfNone c.in_ok-mv.field-0 (length f ≤ old.lines.reading.limit) in
-    reads_made g.S.Shelf.held g.S.Shelf.faults c.args.shelf.now c.next_move.new.shelf _ c.verdict.result
-    (only_then g.S.Shelf.held g.S.Shelf.faults c.args.shelf.now c.moves.shelf c.next_move.new.shelf
+    reads_made
+    (only_then
     (record { same_files = i.held; never_falls = i.faults }) c.in_ok-mv.ensures.only_reads)
     (record {
       list = list;

@@ -1,6 +1,6 @@
-use Rattle.verify_commands.proofs.Common.{two_walks, only_then, runs_read, runs_stopped, Passes, pair_in, walk_at, Concludes, Stops, ℕ, List, subst, ◌∙◌, arith, err_from_is_err_and, Option, Files, AreWalkPair}
+use Rattle.commands.proofs.Deciding.{pair_long}
+use Rattle.verify_commands.proofs.Common.{only_then, runs_read, runs_stopped, Passes, pair_in, walk_at, Concludes, Stops, ℕ, List, subst, ◌∙◌, arith, Option, Files, AreWalkPair}
 use Rattle.commands.proofs.Deciding.{walks_of_pair, at_places}
-use Rattle.verify_commands.specs.Verify as of_verify
 use Rattle.verify_commands.specs.Verify.{judged_file}
 use Rattle.verify_commands.proofs.Verifying.{concluded, walks_stop}
 use Rattle.verify_commands.proofs.verify.verify.Goals as goal
@@ -10,27 +10,19 @@ pub returns-in_err-walks : goal.returns-in_err-walks
 returns-in_err-walks g c =
     let faces = c.in_ok-faces.faces in
     let stop = c.in_err-walks.field-0.0 in
-    let p = err_from_is_err_and c.from_residual-in_err-walks.result c.from_residual-in_err-walks.ensures.1 in
     let stops = c.in_err-walks.ensures.reads.end faces c.in_ok-sides.ensures.table in
-    rw (p.1, p.2)
-    (runs_stopped g.S.Shelf.held g.S.Shelf.faults c.args.shelf.now c.read_pair.new.shelf
-    (λ files. of_verify.verify files c.args.mesh.now c.args.walks.now c.args.certificate.now) (λ none. none.0.0) c.read_mesh.new.shelf _
-    stop c.in_ok-faces.ensures.only_reads
-    c.in_err-walks.ensures.reads
+    runs_stopped (λ none. none.0.0) c.from_residual-in_err-walks.ensures.1 c.in_ok-faces.ensures.only_reads c.in_err-walks.ensures.reads
     (walks_stop (g.S.Shelf.held c.args.shelf.now) c.args.mesh.now c.args.walks.now c.args.certificate.now faces stop
     c.in_ok-faces.ensures.end
-    (subst (λ (files : Option Files). Stops (pair_in files c.args.walks.now faces) stop) c.in_ok-faces.ensures.only_reads.same_files
-    stops)))
+    (subst (λ (files : Option Files). Stops (pair_in files c.args.walks.now faces) stop) c.in_ok-faces.ensures.only_reads.same_files stops))
 
 pub at-requires : goal.at-requires
 at-requires g c =
-    let faces = c.in_ok-faces.faces in
-    omega (arith, two_walks _ _ faces c.in_ok-walks.walks.walks (c.in_ok-walks.ensures.reads.end faces c.in_ok-sides.ensures.table))
+    omega (arith, pair_long (c.in_ok-walks.ensures.pair c.in_ok-faces.faces c.in_ok-sides.ensures.table))
 
 pub at-requires-2 : goal.at-requires-2
 at-requires-2 g c =
-    let faces = c.in_ok-faces.faces in
-    omega (arith, two_walks _ _ faces c.in_ok-walks.walks.walks (c.in_ok-walks.ensures.reads.end faces c.in_ok-sides.ensures.table))
+    omega (arith, pair_long (c.in_ok-walks.ensures.pair c.in_ok-faces.faces c.in_ok-sides.ensures.table))
 
 pub returns : goal.returns
 returns g c =
@@ -45,20 +37,16 @@ returns g c =
     c.at-2.result.now c.at.ensures c.at-2.ensures
     (subst (λ (files : Option Files). Concludes (judged_file files certificate faces c.at.result.now c.at-2.result.now)
     c.judge-reply.result) all_same c.judge-reply.ensures.end) in
-    runs_read g.S.Shelf.held g.S.Shelf.faults c.args.shelf.now c.judge-reply.new.shelf
-    (λ files. of_verify.verify files c.args.mesh.now c.args.walks.now certificate) (λ none. none.0.0) c.read_pair.new.shelf _
-    c.judge-reply.result
-    (only_then g.S.Shelf.held g.S.Shelf.faults c.args.shelf.now c.read_mesh.new.shelf c.read_pair.new.shelf
-    c.in_ok-faces.ensures.only_reads c.in_ok-walks.ensures.reads.only_reads) c.judge-reply.ensures
+    runs_read (λ none. none.0.0) (only_then c.in_ok-faces.ensures.only_reads c.in_ok-walks.ensures.reads.only_reads) c.judge-reply.ensures
     (concluded held c.args.mesh.now c.args.walks.now certificate faces walks c.judge-reply.result c.in_ok-faces.ensures.end
     (subst (λ (files : Option Files). Passes (pair_in files c.args.walks.now faces) walks) same
-    (c.in_ok-walks.ensures.reads.end faces c.in_ok-sides.ensures.table)) end)
+    (c.in_ok-walks.ensures.reads.end faces c.in_ok-sides.ensures.table))
+    end)
 
 -- what is known of the two walks
 walks : (g : _) (c : After-at-2 g) → AreWalkPair c.in_ok-faces.faces c.at.result.now c.at-2.result.now
 walks g c =
-    walks_of_pair c.in_ok-faces.faces c.in_ok-walks.walks.walks c.at.result.now c.at-2.result.now
-    (c.in_ok-walks.ensures.pair c.in_ok-faces.faces c.in_ok-sides.ensures.table) c.at.ensures c.at-2.ensures
+    walks_of_pair (c.in_ok-walks.ensures.pair c.in_ok-faces.faces c.in_ok-sides.ensures.table) c.at.ensures c.at-2.ensures
 
 pub judge-reply-requires-clause-first : goal.judge-reply-requires-clause-first
 judge-reply-requires-clause-first g c = (walks g (goal.at.judge-reply-requires-clause-first g c).After-at-2).first_walk
