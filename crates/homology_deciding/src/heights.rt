@@ -73,13 +73,14 @@ fn climb(
     let mut at = face;
     // A way up passes each face once at most.
     for _step in 0..tree.surface.faces().len() {
-        match tree.up(at) {
-            Some(up) if heights[at.0 as usize].is_none() => {
-                way.push(up)?;
-                at = tree.above(up);
-            }
-            _ => return Ok(()),
+        if heights[at.0 as usize].is_some() {
+            return Ok(());
         }
+        let Some(up) = tree.up(at) else {
+            return Ok(());
+        };
+        way.push(up)?;
+        at = tree.above(up);
     }
     Ok(())
 }

@@ -5,8 +5,8 @@ use Rattle.homology_deciding.proofs.LoopLemmas.{way_short, at_root, leads_up}
 use Rattle.homology_deciding.proofs.WayLemmas.{way_push}
 use Rattle.homology_deciding.proofs.heights.climb.Goals as goal
 
-pub returns-in_default-2 : goal.returns-in_default-2
-returns-in_default-2 c =
+pub returns-in_default : goal.returns-in_default
+returns-in_default c =
     let tree = c.args.tree.now in
     let i = c.loop-step.invariant in
     let root = at_root tree c.loop-step.at.0 c.up.result c.up.ensures c.in_default.is in
@@ -18,7 +18,7 @@ loop-step-preserved c =
     let s : OrientedMesh = tree.surface.now in
     let i = c.loop-step.invariant in
     let up : DartName = c.in-Some.up in
-    let pushed = c.in_ok-push-in-Some.ensures.items in (
+    let pushed = c.in_ok-push.ensures.items in (
       c.above-at.ensures.within,
       subst (λ g. IsWayUp s tree.split.now c.args.face.0 c.push.new.self.items g) (sym c.above-at.ensures.face)
           (subst (λ (w : List DartName). IsWayUp s tree.split.now c.args.face.0 w (face_across s up.0)) (sym pushed)
