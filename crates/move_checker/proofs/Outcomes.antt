@@ -1,5 +1,5 @@
 -- What the answer of a step says in terms of the table of moves.
-use Rattle.move_checker.proofs.Common.{◌≡◌, ℕ, ◌<◌, ◌≤◌, List, subst, sym, refl, ap, arith, ◌↔◌, Result, Ok, Err, IsOk, OnOk, MatchResult, FaceList, apply, darts, Move}
+use Rattle.move_checker.proofs.Common.{◌≡◌, ℕ, ◌<◌, ◌≤◌, List, subst, refl, ap, arith, ◌↔◌, Result, Ok, Err, IsOk, OnOk, MatchResult, FaceList, apply, darts, Move}
 use Rattle.std.specs.Prelude.{Some}
 use Rattle.move_checker.specs.Refusals.{step_of}
 use Rattle.move_checker.specs.declared.fault.MoveFault.{MoveFault}
@@ -58,12 +58,12 @@ given_over mesh peak walk move next (is_done other s g le) e lt =
     let same : other ≡ next = cc in
     absurd (omega (arith, lt, le, ap darts same))
 
-ok_from_step : (mesh : FaceList) (peak : ℕ) (walk : List ℕ) (move : Move) (answer : Result (Unit {0}) MoveFault) (after : List ℕ)
+pub ok_from_step : (mesh : FaceList) (peak : ℕ) (walk : List ℕ) (move : Move) (answer : Result (Unit {0}) MoveFault) (after : List ℕ)
     → IsStep mesh peak walk move answer after → OnOk answer (apply mesh walk move ≡ Some after)
 ok_from_step mesh peak walk move (Ok u) after h = (step_gives mesh peak walk move after h).0
 ok_from_step mesh peak walk move (Err fault) after h = tt
 
-allowed_from_step : (mesh : FaceList) (peak : ℕ) (walk : List ℕ) (move : Move) (answer : Result (Unit {0}) MoveFault) (after : List ℕ)
+pub allowed_from_step : (mesh : FaceList) (peak : ℕ) (walk : List ℕ) (move : Move) (answer : Result (Unit {0}) MoveFault) (after : List ℕ)
     → IsStep mesh peak walk move answer after
     → IsOk answer ↔ ((next : List ℕ) × (apply mesh walk move ≡ Some next) × (darts next ≤ peak))
 allowed_from_step mesh peak walk move (Ok u) after h =
@@ -72,7 +72,7 @@ allowed_from_step mesh peak walk move (Ok u) after h =
 allowed_from_step mesh peak walk move (Err fault) after h =
     (λ ok. cc, λ allowed. let done = given_step mesh peak walk move allowed.0 allowed.1 allowed.2 in cc)
 
-over_from_step : (mesh : FaceList) (peak : ℕ) (walk : List ℕ) (move : Move) (answer : Result (Unit {0}) MoveFault) (after : List ℕ)
+pub over_from_step : (mesh : FaceList) (peak : ℕ) (walk : List ℕ) (move : Move) (answer : Result (Unit {0}) MoveFault) (after : List ℕ)
     → IsStep mesh peak walk move answer after
     → (answer ≡ Err OverPeak) ↔ ((next : List ℕ) × (apply mesh walk move ≡ Some next) × (peak < darts next))
 over_from_step mesh peak walk move (Ok u) after h =
@@ -81,20 +81,3 @@ over_from_step mesh peak walk move (Err fault) after h = (
   λ e. over_given mesh peak walk move (outcome mesh peak walk move) (let same : fault ≡ OverPeak = cc in cc),
   λ over. let done = given_over mesh peak walk move over.0 (outcome mesh peak walk move) over.1 over.2 in cc,
 )
-
--- what the answer of a step and the walk afterwards tell of the table of moves
-pub record TellsStep (mesh : FaceList) (peak : ℕ) (walk : List ℕ) (move : Move) (answer : Result (Unit {0}) MoveFault) (after : List ℕ) :
-    Type 0 where
-  pub ok : OnOk answer (apply mesh walk move ≡ Some after)
-  pub allowed : IsOk answer ↔ ((next : List ℕ) × (apply mesh walk move ≡ Some next) × (darts next ≤ peak))
-  pub over : (answer ≡ Err OverPeak) ↔ ((next : List ℕ) × (apply mesh walk move ≡ Some next) × (peak < darts next))
-
-pub tells_step : (mesh : FaceList) (peak : ℕ) (walk : List ℕ) (move made : Move) (answer : Result (Unit {0}) MoveFault) (after : List ℕ)
-    → move ≡ made → IsStep mesh peak walk made answer after → TellsStep mesh peak walk move answer after
-tells_step mesh peak walk move made answer after is step =
-    let own : IsStep mesh peak walk move answer after = subst (λ (m : Move). IsStep mesh peak walk m answer after) (sym is) step in
-    record {
-      ok = ok_from_step mesh peak walk move answer after own;
-      allowed = allowed_from_step mesh peak walk move answer after own;
-      over = over_from_step mesh peak walk move answer after own;
-    }

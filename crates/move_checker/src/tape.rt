@@ -91,6 +91,18 @@ impl Tape {
         ensures over { (result ≡ Err MoveFault.OverPeak)
             ↔ ((next : List ℕ) × (apply faces.now self.old.walk mv ≡ Some next) × (self.old.peak < darts next)) }
     {
+        self.make(faces, sides, mv)
+    }
+
+    /// Does a move by its row of the table.
+    fn make(&mut self, faces: &Faces, sides: &Sides, mv: Move) -> Result<(), MoveFault>
+        requires { IsTableOf faces.now sides.now }
+        ensures step { MatchResult result
+            (λ _. step_of faces.now self.old.peak self.old.walk mv ≡ Ok self.new.walk)
+            (λ fault. step_of faces.now self.old.peak self.old.walk mv ≡ Err fault) }
+        ensures peak { self.new.peak ≡ self.old.peak }
+        ensures refused { OnErr result (self.new ≡ self.old) }
+    {
         match mv {
             Move::Insert { at, via } => self.insert_spur(sides, at, via),
             Move::Remove { at, via } => self.remove_spur(at, via),
