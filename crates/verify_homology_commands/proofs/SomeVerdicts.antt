@@ -1,5 +1,7 @@
 -- Each certificate of homology has a verdict, and one.
-use Rattle.verify_homology_commands.proofs.Common.{IsSound, Answer, End, Refuse, Pass, face_number, edge_number, HasEdge, HasFace, IsFirstAgainst, IsVerdict, HomologyCert, HomologyVerdict, ◌≡◌, inl, inr, ℕ, zero, suc, ◌<◌, List, [], ◌∷◌, length, get_or, map, refl, sym, ap, ◌∙◌, subst, arith, ℤ, pos, ◌-ℤ◌, All, Option, Files, FaceList, IsFaceList}
+use Rattle.commands.proofs.Judgements.{first_failing}
+use Rattle.commands.proofs.Sound.{one_made}
+use Rattle.verify_homology_commands.proofs.Common.{IsSound, Pass, face_number, edge_number, HasEdge, HasFace, IsFirstAgainst, IsVerdict, HomologyCert, HomologyVerdict, ◌≡◌, ℕ, List, [], ◌∷◌, length, get_or, map, refl, subst, arith, ℤ, pos, ◌-ℤ◌, All, Option, Files, FaceList, IsFaceList}
 use Rattle.homology.proofs.ChainVerdictLemmas.{chain_fails, chain_holds}
 use Rattle.homology.proofs.VerdictLemmas.{one_verdict}
 use Rattle.homology.specs.Chains.{boundary, count_difference}
@@ -8,24 +10,12 @@ use Rattle.homology.specs.Tallies.{IsLeft, number_at}
 use Rattle.homology.specs.declared.certificate.EdgeNumber.{EdgeNumber}
 use Rattle.homology.specs.declared.certificate.FaceNumber.{FaceNumber}
 use Rattle.homology.specs.declared.certificate.HomologyCert.TheVariants.{Chain, Cocycle}
-use Rattle.std.proofs.lemmas.Bool.{cases_lt}
 use Rattle.std.proofs.lemmas.List.{get_or-map, get_or_default, length-map}
 use Rattle.std.proofs.lemmas.List.Elements.{All-nil, All-from_get_or}
 use Rattle.surf_model.proofs.EdgeTables.{some_table}
 use Rattle.surf_model.specs.Edges.{Edge, edge_in}
 use Rattle.homology.specs.declared.verdict.HomologyVerdict.TheVariants as verdicts
 use Rattle.verify_homology_commands.specs.VerifyHomology.{judgement, verdict_answer}
-
--- below a bound there is a least number of which something fails, or it holds of all
-first_failing : (n : ℕ) (P : ℕ → Type 0) → ((k : ℕ) → k < n → (P k → ⊥) → ((j : ℕ) → j < k → P j) → ⊥)
-    → (((j : ℕ) → j < n → P j) → ⊥) → ⊥
-first_failing zero P none some = some (λ j l. absurd (omega arith))
-first_failing (suc n) P none some =
-    first_failing n P (λ k l fails before. none k (omega arith) fails before)
-    (λ all. none n (omega arith) (λ here. some (λ j l. elim (cases_lt j n) [
-      | inl below ↦ all j below
-      | inr end ↦ let same : n ≡ j = omega arith in subst P same here
-    ])) all)
 
 -- the same of the elements of a list
 first_against : {X : Type 0} (P : X → Type 0) (xs : List X) → ((x : X) → IsFirstAgainst P xs x → ⊥) → (All P xs → ⊥) → ⊥
@@ -88,18 +78,11 @@ some_verdict : (mesh : FaceList) (first second : List ℕ) (shown : HomologyCert
 some_verdict mesh first second (Chain lines) valid none = some_of_chain mesh first second lines valid none
 some_verdict mesh first second (Cocycle lines) valid none = some_of_cocycle mesh first second lines none
 
-one_judged : (mesh : FaceList) (first second : List ℕ) (shown : HomologyCert) (a b : End Answer)
-    → (judgement mesh first second shown).Ends a → (judgement mesh first second shown).Ends b → a ≡ b
-one_judged mesh first second shown (Refuse texts) b p q = absurd p
-one_judged mesh first second shown (Pass x) (Refuse texts) p q = absurd q
-one_judged mesh first second shown (Pass x) (Pass y) p q =
-    let same : p.0 ≡ q.0 = one_verdict mesh first second shown p.0 q.0 p.2 q.2 in
-    let answers : x ≡ y = p.1 ∙ ap verdict_answer same ∙ sym q.1 in
-    cc
-
 pub sound-judgement : (held : Option Files) (mesh : FaceList) (first second : List ℕ) (shown : HomologyCert) → IsFaceList mesh
     → IsSound held (judgement mesh first second shown)
 sound-judgement held mesh first second shown valid = record {
   some = λ none. some_verdict mesh first second shown valid (λ verdict is. none (Pass (verdict_answer verdict)) (verdict, refl, is));
-  one = λ _ a b p q. one_judged mesh first second shown a b p q;
+  one = λ _ a b p q.
+      one_made (judgement mesh first second shown) verdict_answer (IsVerdict mesh first second shown) (λ _ h. h) (λ _ h. h)
+      (one_verdict mesh first second shown) a b p q;
 }
