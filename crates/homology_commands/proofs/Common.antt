@@ -1,7 +1,7 @@
 -- What proofs of this crate cite of others, passed on from one place (by tools/imports). Declares nothing.
 pub use Rattle.closed_surfaces.proofs.Components.{walk_there}
 pub use Rattle.closed_surfaces.specs.SignedSurfaces.{IsComponentOf, IsPart, surface_of}
-pub use Rattle.commands.proofs.Rows.{input_so, sound-pair, two_walks}
+pub use Rattle.commands.proofs.Rows.{input_so, sound-pair}
 pub use Rattle.commands.specs.Checks.{Check, Pass, Passes, Refuse, meant, pass_unless, ◌>>=◌}
 pub use Rattle.commands.specs.HomologyCertificates.{Homologous, HomologyAnswer, NotHomologous, ShowsHomology, answer_in, homology_line, homology_status, homology_text}
 pub use Rattle.commands.specs.Inputs.{pair_in, walk_at}

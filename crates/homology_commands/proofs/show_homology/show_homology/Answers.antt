@@ -1,5 +1,5 @@
-use Rattle.homology_commands.proofs.Common.{two_walks, ShowsHomology, answer_in, pair_in, walk_at, ◌≡◌, List, ℕ, ap, arith, refl, get_or_from_slice_get, err_from_is_err_and, darts, AreWalkPair}
-use Rattle.commands.proofs.Deciding.{walks_of_pair, at_places}
+use Rattle.homology_commands.proofs.Common.{ShowsHomology, answer_in, pair_in, walk_at, ◌≡◌, List, ℕ, ap, arith, refl, get_or_from_slice_get, darts, AreWalkPair}
+use Rattle.commands.proofs.Deciding.{pair_long, walks_of_pair, at_places}
 use Rattle.surface_commands.proofs.RunsOnWalks.{runs_asked, runs_refused_walks, runs_wanting}
 use Rattle.homology_commands.specs.Homology.{homology_answer}
 use Rattle.homology_commands.proofs.CertificateLemmas.{answer_decides}
@@ -11,35 +11,22 @@ use Rattle.homology_commands.proofs.show_homology.show_homology.Goals.{After-at-
 pub returns-in_err-pair : goal.returns-in_err-pair
 returns-in_err-pair g c =
     let surface = c.in_ok-surface.surface in
-    let read = c.in_ok-surface.ensures.reads in
-    let p = err_from_is_err_and c.from_residual-in_err-pair.result c.from_residual-in_err-pair.ensures.1 in
-    rw (p.1, p.2)
-    (runs_refused_walks g.S.Shelf.held g.S.Shelf.faults c.args.shelf.now c.read_surface.new.shelf c.read_pair.new.shelf c.args.mesh.now
-    (λ files mesh. pair_in files c.args.walks.now mesh) after_pair surface.faces read.only_reads read.end _ c.in_err-pair.field-0.0
-    c.in_err-pair.ensures.reads (c.in_err-pair.ensures.reads.end surface.faces c.in_ok-surface.ensures.signed.table))
+    runs_refused_walks c.args.mesh.now surface.faces (λ files mesh. pair_in files c.args.walks.now mesh) after_pair
+    c.in_ok-surface.ensures.reads c.in_err-pair.ensures.reads c.from_residual-in_err-pair.ensures.1
+    (c.in_err-pair.ensures.reads.end surface.faces c.in_ok-surface.ensures.signed.table)
 
 pub at-requires : goal.at-requires
 at-requires g c =
-    let surface = c.in_ok-surface.surface.faces in
-    omega (
-      arith,
-      two_walks _ _ surface c.in_ok-pair.pair.walks (c.in_ok-pair.ensures.reads.end surface c.in_ok-surface.ensures.signed.table),
-    )
+    omega (arith, pair_long (c.in_ok-pair.ensures.pair c.in_ok-surface.surface.faces c.in_ok-surface.ensures.signed.table))
 
 pub at-requires-2 : goal.at-requires-2
 at-requires-2 g c =
-    let surface = c.in_ok-surface.surface.faces in
-    omega (
-      arith,
-      two_walks _ _ surface c.in_ok-pair.pair.walks (c.in_ok-pair.ensures.reads.end surface c.in_ok-surface.ensures.signed.table),
-    )
+    omega (arith, pair_long (c.in_ok-pair.ensures.pair c.in_ok-surface.surface.faces c.in_ok-surface.ensures.signed.table))
 
 -- what is known of the two walks
-walks : (g : _) (c : goal.After-at-2 g) → AreWalkPair c.in_ok-surface.surface.faces c.at.result.now c.at-2.result.now
+walks : (g : _) (c : After-at-2 g) → AreWalkPair c.in_ok-surface.surface.faces c.at.result.now c.at-2.result.now
 walks g c =
-    let surface = c.in_ok-surface.surface.faces in
-    walks_of_pair surface c.in_ok-pair.pair.walks c.at.result.now c.at-2.result.now
-    (c.in_ok-pair.ensures.pair surface c.in_ok-surface.ensures.signed.table) c.at.ensures c.at-2.ensures
+    walks_of_pair (c.in_ok-pair.ensures.pair c.in_ok-surface.surface.faces c.in_ok-surface.ensures.signed.table) c.at.ensures c.at-2.ensures
 
 pub find_certificate-requires-clause-first : goal.find_certificate-requires-clause-first
 find_certificate-requires-clause-first g c = (walks g c).first_walk
@@ -57,31 +44,26 @@ find_certificate-requires-clause-few g c =
     let passed = c.in_ok-pair.ensures.reads.end surface c.in_ok-surface.ensures.signed.table in
     let first : walk_at pair 0 ≡ c.at.result.now = get_or_from_slice_get pair 0 c.at.result.now _ c.at.ensures in
     let second : walk_at pair 1 ≡ c.at-2.result.now = get_or_from_slice_get pair 1 c.at-2.result.now _ c.at-2.ensures in
-    omega (arith, few_darts _ _ surface pair passed (two_walks _ _ surface pair passed), ap darts first, ap darts second)
+    let long = pair_long (c.in_ok-pair.ensures.pair surface c.in_ok-surface.ensures.signed.table) in
+    omega (arith, few_darts _ _ surface pair passed long, ap darts first, ap darts second)
 
 pub returns-in_err-shown : goal.returns-in_err-shown
 returns-in_err-shown g c =
     let surface = c.in_ok-surface.surface in
-    let read = c.in_ok-surface.ensures.reads in
-    let p = err_from_is_err_and c.from_residual-in_err-shown.result c.from_residual-in_err-shown.ensures.1 in
-    rw (p.1, p.2)
-    (runs_wanting g.S.Shelf.held g.S.Shelf.faults c.args.shelf.now c.read_surface.new.shelf c.read_pair.new.shelf c.args.mesh.now
-    (λ files mesh. pair_in files c.args.walks.now mesh) after_pair surface.faces read.only_reads read.end
-    c.in_ok-pair.ensures.reads.only_reads)
+    runs_wanting c.args.mesh.now surface.faces (λ files mesh. pair_in files c.args.walks.now mesh) after_pair c.in_ok-surface.ensures.reads
+    c.in_ok-pair.ensures.reads.only_reads c.from_residual-in_err-shown.ensures.1
 
 pub returns : goal.returns
 returns g c =
     let surface = c.in_ok-surface.surface in
-    let read = c.in_ok-surface.ensures.reads in
     let pair = c.in_ok-pair.pair.walks in
     let shown = c.in_ok-shown.shown in
     let known = at_places (AreWalkPair surface.faces) pair c.at.result.now c.at-2.result.now c.at.ensures c.at-2.ensures
     (walks g (goal.at.returns g c).After-at-2) in
     let shows = at_places (λ (a b : List ℕ). ShowsHomology surface.faces a b shown) pair c.at.result.now c.at-2.result.now c.at.ensures
     c.at-2.ensures c.in_ok-shown.ensures in
-    runs_asked g.S.Shelf.held g.S.Shelf.faults c.args.shelf.now c.read_surface.new.shelf c.read_pair.new.shelf c.args.mesh.now
-    (λ files mesh. pair_in files c.args.walks.now mesh) after_pair surface.faces read.only_reads read.end pair c.reply_with.result
-    c.in_ok-pair.ensures.reads.only_reads (c.in_ok-pair.ensures.reads.end surface.faces c.in_ok-surface.ensures.signed.table)
+    runs_asked c.args.mesh.now surface.faces (λ files mesh. pair_in files c.args.walks.now mesh) after_pair c.in_ok-surface.ensures.reads
+    pair c.in_ok-pair.ensures.reads.only_reads (c.in_ok-pair.ensures.reads.end surface.faces c.in_ok-surface.ensures.signed.table)
     (record {
       answer = homology_answer surface.faces (walk_at pair 0) (walk_at pair 1) (answer_in shown);
       passes = (
