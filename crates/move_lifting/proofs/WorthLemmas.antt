@@ -3,37 +3,27 @@
 use Rattle.move_lifting.proofs.Common.{rotation_system, OrientedMesh, IsOrientedSurface, rotations_of, before, behind, Loops, spoke, root_is, up_is, backward_is, path_list, last_loop_as, last_loops, last_list, SameFreely, free_equality, free_group, IsGroup, sides_cross, loop_in, loop_out, free_spur, tree_ways, IsWay, back, loop_mul, loop_inv, loop_one, PolygonView, IsCutFrom, place_of, across, AreWaysUp, backward, by_loop, path_loop, put_behind, last_side_loop, IsQuadWheel, upper_side, lower_side, loop_of_path, front_of_last, front_of_across, DownWorth, down_worth, polygon_wheel, signed_loop as own_loop, spoke_at, AtPlace, at-place, old_way, new_way, IsTurned, is-turned, spur-is, upper_way, lower_way, quad_turned, from_spoke, from_vertex, ◌≡◌, ◌≢◌, ◌⊎◌, inl, inr, ℕ, suc, ◌+◌, ◌-◌, ◌<◌, Bool, true, false, not, List, [], ◌∷◌, ◌++◌, length, take, refl, ap, sym, ◌∙◌, subst, arith, take-append_seam, eq-eqb, ne_eqb, if◌then◌else◌, ◌==◌, slice_index, All, is_used, AreFreelyEqual, IsWalk, after_dart, SplitView, IsSplit, in_cotree, is_left, add}
 use Rattle.polygon_cut.proofs.FreeQuadLemmas.{last_loop}
 use Rattle.spoke_paths.specs.PathSteps.{spur_goes}
-use Rattle.std.proofs.Common.{Some}
+use Rattle.std.proofs.Common.{Some, ap₂}
 use Rattle.move_lifting.specs.LoopsPutIn.{signed_loop, IsFreelyPath, HasLoopIn}
 use Rattle.move_lifting.specs.LoopFronts.{spokes_in_front}
 use Rattle.move_lifting.proofs.PathLemmas.{ends_at, quad_partner}
 
 -- the ways round a quad, by the partner of the side
-upper_is : (d n : ℕ) (partner : ℕ → ℕ) (at_vertex : Bool) (a c : ℕ) (after : List ℕ) → d ≡ n → c ≡ partner a
-    → upper_way d at_vertex a c ++ after ≡ upper_side n partner at_vertex a after
-upper_is d n partner true a c after same e = ap (λ m. a ∷ add m a 1 ∷ after) same
-upper_is d n partner false a c after same e = ap (λ x. add d x 1 ∷ a ∷ after) e ∙ ap (λ m. add m (partner a) 1 ∷ a ∷ after) same
-
-lower_is : (d n : ℕ) (partner : ℕ → ℕ) (at_vertex : Bool) (a c : ℕ) (after : List ℕ) → d ≡ n → c ≡ partner a
-    → lower_way d at_vertex a c ++ after ≡ lower_side n partner at_vertex a after
-lower_is d n partner true a c after same e = ap (λ x. add d x 1 ∷ x ∷ after) e ∙ ap (λ m. add m (partner a) 1 ∷ partner a ∷ after) same
-lower_is d n partner false a c after same e = ap (λ x. x ∷ add d a 1 ∷ after) e ∙ ap (λ m. partner a ∷ add m a 1 ∷ after) same
-
 old_is : (rises : Bool) (d n : ℕ) (partner : ℕ → ℕ) (at_vertex : Bool) (a c : ℕ) (before after : List ℕ) → d ≡ n → c ≡ partner a
     → before ++ (old_way rises d at_vertex a c ++ after)
     ≡ (if rises then before ++ lower_side n partner at_vertex a after else before ++ upper_side n partner at_vertex a after)
 old_is true d n partner at_vertex a c before after same e =
-    ap (λ (l : List ℕ). before ++ l) (lower_is d n partner at_vertex a c after same e)
+    ap₂ (λ m x. before ++ (lower_way m at_vertex a x ++ after)) same e
 old_is false d n partner at_vertex a c before after same e =
-    ap (λ (l : List ℕ). before ++ l) (upper_is d n partner at_vertex a c after same e)
+    ap₂ (λ m x. before ++ (upper_way m at_vertex a x ++ after)) same e
 
 new_is : (rises : Bool) (d n : ℕ) (partner : ℕ → ℕ) (at_vertex : Bool) (a c : ℕ) (before after : List ℕ) → d ≡ n → c ≡ partner a
     → before ++ (new_way rises d at_vertex a c ++ after)
     ≡ (if rises then before ++ upper_side n partner at_vertex a after else before ++ lower_side n partner at_vertex a after)
 new_is true d n partner at_vertex a c before after same e =
-    ap (λ (l : List ℕ). before ++ l) (upper_is d n partner at_vertex a c after same e)
+    ap₂ (λ m x. before ++ (upper_way m at_vertex a x ++ after)) same e
 new_is false d n partner at_vertex a c before after same e =
-    ap (λ (l : List ℕ). before ++ l) (lower_is d n partner at_vertex a c after same e)
+    ap₂ (λ m x. before ++ (lower_way m at_vertex a x ++ after)) same e
 
 -- the spokes of a way that the loop goes in behind
 own_front : (last a c k : ℕ) (at_vertex : Bool) → a ≡ last → c ≡ k
