@@ -1,14 +1,11 @@
 -- A cyclically canonical list that is gone along from the start has its cyclic turns for its word, behind a start direction, and
 -- spokes that are put behind it leave as many of them as one likes.
 use Rattle.joined_loops.proofs.Common.{along, upto, upto-cons, upto-shut, row-follows, IsCanonicalRow, IsLoop, IsFullWheel, cyclic_turn, ◌≡◌, ℕ, ◌+◌, ◌-◌, ◌<◌, ◌≤◌, arith, refl, sym, ◌∙◌, ap, subst, zero, suc, List, [], ◌∷◌, length, reverse, length-reverse, state, led, empty_state, hyper_next, BelongsTo, hyper_starts, put-back, add-lt, add-zero, good-cons, add, put}
-use Rattle.turn_words.specs.Lemmas.WordEnds.{IsGood}
+use Rattle.settling.proofs.Losses.{row-good}
+use Rattle.settling.proofs.Rows.{upto-length}
 use Rattle.joined_loops.proofs.Times.{times, times-some, times-add}
 use Rattle.joined_loops.proofs.Keeping.{EndsIn, ends-later, begins, begins-ends, Anchors, anchors, led-rounds}
 use Rattle.joined_loops.proofs.Going.{gone, began, began-sound, rowed}
-
-pub upto-length : (f : ℕ → ℕ) (m k : ℕ) (rest : List ℕ) → length (upto f m k rest) ≡ length rest + k
-upto-length f m zero rest = omega arith
-upto-length f m (suc k) rest = let before = upto-length f m k rest in omega arith
 
 module _ (places : List ℕ) (full : IsFullWheel places) (a : List ℕ) (loop : IsLoop places a) (some : 0 < length a)
     (canonical : IsCanonicalRow (length places) (length a) (cyclic_turn places a)) where
@@ -34,17 +31,6 @@ module _ (places : List ℕ) (full : IsFullWheel places) (a : List ℕ) (loop : 
   abbrev pub word_of : ℕ → List ℕ
   word_of = begins d full.own.five n (cyclic_turn places a) canonical start
 
-  word-good : (k : ℕ) → IsGood d (word_of k)
-  word-good zero = start_in
-  word-good (suc k) =
-      good-cons d (cyclic_turn places a (1 + k)) (word_of k) (upto-cons (cyclic_turn places a) 1 k (start ∷ []) tt)
-      (canonical.below (1 + k))
-      (row-follows d n (cyclic_turn places a) five canonical (word_of k) (1 + k)
-      (λ one. (let e : 1 + k + 0 ≡ 1 + k = omega arith in
-      upto-shut d n (cyclic_turn places a) five canonical 1 0 (start ∷ []) tt (λ q far one twos. refl) k 0 (omega arith)
-      (ap (cyclic_turn places a) e ∙ one) (λ i below. absurd (omega arith)))))
-      (word-good k)
-
   pub word-along : (j : ℕ) → along d (began places full a loop some empty_state) (cyclic_turn places a) (suc j) ≡ state (word_of j) 0
   word-along zero = refl
   word-along (suc j) =
@@ -52,7 +38,7 @@ module _ (places : List ℕ) (full : IsFullWheel places) (a : List ℕ) (loop : 
       let e : suc j ≡ 1 + j = omega arith in
       ap (λ p. put d p.word (add d (r (suc j)) p.change)) (word-along j)
       ∙ ap (put d (word_of j)) (add-zero d (r (suc j)) (canonical.below (suc j)) ∙ ap r e)
-      ∙ put-back d five (r (1 + j)) (word_of j) (word-good (suc j))
+      ∙ put-back d five (r (1 + j)) (word_of j) (row-good d full.own.five n r canonical start 1 (suc j) start_in)
 
   pub word-is : (j : ℕ) → reverse (gone places a empty_state (suc j)).word ≡ word_of j
   word-is j = (rowed places full a loop some empty_state start_belongs refl (suc j)).word ∙ ap (λ p. p.word) (word-along j)

@@ -7,7 +7,8 @@ use Rattle.joined_loops.proofs.Numbers.{by-round, Reached, start-reached, next-r
 use Rattle.joined_loops.proofs.Keeping.{EndsIn, ends-later, begins-ends}
 use Rattle.joined_loops.proofs.Going.{gone, began, gone-belongs, spoke_before, before-next, before-in, rowed, round-even, loop-range, led-longer, meets}
 use Rattle.joined_loops.proofs.Joining.{joined-back}
-use Rattle.joined_loops.proofs.Beginning.{start, word_of, word-along, word-is, word-length, word-kept, upto-length}
+use Rattle.joined_loops.proofs.Beginning.{start, word_of, word-along, word-is, word-length, word-kept}
+use Rattle.settling.proofs.Rows.{upto-length}
 use Rattle.joined_loops.proofs.Settled.{behind, behind-belongs, behind-even, both, put_at, put-is, Settled, settled, one-length, upto-append}
 
 -- two ends of one list that are as long are one

@@ -3,7 +3,8 @@ use Rattle.joined_loops.proofs.Common.{along, upto, within_budget, IsCanonicalRo
 use Rattle.joined_loops.specs.JoinedLists.{JoinedBy}
 use Rattle.joined_loops.proofs.Times.{times, times-more, times-above, times-some, times-add}
 use Rattle.joined_loops.proofs.Going.{gone, began, began-sound, rowed, gone-belongs, meets, loop-range, led-belongs, led-even, led-longer}
-use Rattle.joined_loops.proofs.Beginning.{upto-length, word-length}
+use Rattle.settling.proofs.Rows.{upto-length}
+use Rattle.joined_loops.proofs.Beginning.{word-length}
 
 pub upto-append : (f : ℕ → ℕ) (m g i : ℕ) (rest : List ℕ) → upto f m (g + i) rest ≡ upto f (m + g) i (upto f m g rest)
 upto-append f m g zero rest = let e : g + 0 ≡ g = omega arith in ap (λ k. upto f m k rest) e

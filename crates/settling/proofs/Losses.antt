@@ -4,7 +4,7 @@ use Rattle.settling.proofs.Common.{◌≡◌, ℕ, ◌+◌, ◌<◌, ◌≤◌, 
 use Rattle.turn_words.proofs.Reaching.{read-append, read-good, read-reached, keeps-steps, start-sound}
 use Rattle.turn_words.specs.StepTable.{next_changed}
 use Rattle.settling.specs.TurnRows.{entries, IsCanonicalRow}
-use Rattle.settling.proofs.Rows.{along, upto, upto-cons, reverse-upto}
+use Rattle.settling.proofs.Rows.{along, upto, upto-cons, upto-length, reverse-upto}
 use Rattle.settling.proofs.Settling.{upto-shut, row-follows}
 
 good-in-range : (d : ℕ) (r : List ℕ) → IsGood d r → InRange d r
@@ -74,7 +74,7 @@ module _ (d : ℕ) (five : 5 ≤ d) where
 
   module _ (n : ℕ) (row : ℕ → ℕ) (canonical : IsCanonicalRow d n row) where
     -- a start direction and entries of a row behind it are canonical
-    row-good : (start m k : ℕ) → start < d → IsGood d (upto row m k (start ∷ []))
+    pub row-good : (start m k : ℕ) → start < d → IsGood d (upto row m k (start ∷ []))
     row-good start m zero below = below
     row-good start m (suc k) below =
         good-cons d (row (m + k)) (upto row m k (start ∷ [])) (upto-cons row m k (start ∷ []) tt) (canonical.below (m + k))
@@ -83,10 +83,6 @@ module _ (d : ℕ) (five : 5 ≤ d) where
         upto-shut d n row five canonical m 0 (start ∷ []) tt (λ q far one twos. refl) k 0 (omega arith) (ap row e ∙ one)
         (λ i below. absurd (omega arith)))))
         (row-good start m k below)
-
-    upto-length : (m k : ℕ) (rest : List ℕ) → length (upto row m k rest) ≡ length rest + k
-    upto-length m zero rest = omega arith
-    upto-length m (suc k) rest = let before = upto-length m k rest in omega arith
 
     entries-in-range : (m k : ℕ) → InRange d (entries row m k)
     entries-in-range m zero = tt
@@ -118,7 +114,7 @@ module _ (d : ℕ) (five : 5 ≤ d) where
         let alone : List ℕ = upto row 1 j (start ∷ []) in
         let alone_is : reverse alone ≡ changed =
         reverse-upto row 1 j (start ∷ []) in
-        let long = upto-length 1 j (start ∷ []) in
+        let long = upto-length row 1 j (start ∷ []) in
         let from_start : read d (state [] 0) changed ≡ state alone 0 =
         ap (read d (state [] 0)) (sym alone_is) ∙ read-good d five alone good in
         let whole : read d origin.from (u ++ changed) ≡ state alone 0 =

@@ -14,6 +14,10 @@ abbrev pub upto : (ℕ → ℕ) → ℕ → ℕ → List ℕ → List ℕ
 upto row m zero rest = rest
 upto row m (suc k) rest = row (m + k) ∷ upto row m k rest
 
+pub upto-length : (row : ℕ → ℕ) (m k : ℕ) (rest : List ℕ) → length (upto row m k rest) ≡ length rest + k
+upto-length row m zero rest = omega arith
+upto-length row m (suc k) rest = let before = upto-length row m k rest in omega arith
+
 pub upto-cons : (row : ℕ → ℕ) (m k : ℕ) (rest : List ℕ) → IsCons rest → IsCons (upto row m k rest)
 upto-cons row m zero rest c = c
 upto-cons row m (suc k) rest c = tt
