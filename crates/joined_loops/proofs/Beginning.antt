@@ -1,8 +1,7 @@
 -- A cyclically canonical list that is gone along from the start has its cyclic turns for its word, behind a start direction, and
 -- spokes that are put behind it leave as many of them as one likes.
-use Rattle.joined_loops.proofs.Common.{along, upto, upto-cons, upto-shut, row-follows, IsCanonicalRow, IsLoop, IsFullWheel, cyclic_turn, ◌≡◌, ℕ, ◌+◌, ◌-◌, ◌<◌, ◌≤◌, arith, refl, sym, ◌∙◌, ap, subst, zero, suc, List, [], ◌∷◌, length, reverse, length-reverse, state, led, empty_state, hyper_next, BelongsTo, hyper_starts, put-back, add-lt, add-zero, good-cons, add, put}
+use Rattle.joined_loops.proofs.Common.{along, upto-length, IsCanonicalRow, IsLoop, IsFullWheel, cyclic_turn, ◌≡◌, ℕ, ◌+◌, ◌-◌, ◌<◌, ◌≤◌, arith, refl, sym, ◌∙◌, ap, subst, zero, suc, List, [], ◌∷◌, length, reverse, length-reverse, state, led, empty_state, hyper_next, BelongsTo, hyper_starts, put-back, add-lt, add-zero, add, put}
 use Rattle.settling.proofs.Losses.{row-good}
-use Rattle.settling.proofs.Rows.{upto-length}
 use Rattle.joined_loops.proofs.Times.{times, times-some, times-add}
 use Rattle.joined_loops.proofs.Keeping.{EndsIn, ends-later, begins, begins-ends, Anchors, anchors, led-rounds}
 use Rattle.joined_loops.proofs.Going.{gone, began, began-sound, rowed}

@@ -9,8 +9,7 @@ pub use Rattle.labellings.specs.GoodLabellings.{IsGood}
 pub use Rattle.labellings.specs.Labellings.{LabellingView}
 pub use Rattle.labellings.specs.QuadPaths.{quad_path, spokes}
 pub use Rattle.labellings.specs.WalkWords.{IsWordOf, in_pairs}
-pub use Rattle.settling.proofs.Rows.{along, upto, upto-cons}
-pub use Rattle.settling.proofs.Settling.{row-follows, upto-shut, within_budget}
+pub use Rattle.settling.proofs.Rows.{along, upto, upto-cons, upto-length}
 pub use Rattle.settling.specs.TurnRows.{IsCanonicalRow, entries}
 pub use Rattle.spoke_paths.proofs.StepsKeep.{KeepsSteps, LeadAlike, states-keep}
 pub use Rattle.spoke_rings.proofs.Along.{along-first, along-round, rotated, rotated-along, rotated-length}
@@ -38,7 +37,7 @@ pub use Rattle.turn_words.specs.Lemmas.HyperLaws.{good_word, hyper_across, hyper
 pub use Rattle.turn_words.specs.Lemmas.Lists.{InRange, reverse-cons, reverse-next}
 pub use Rattle.turn_words.specs.Lemmas.PutLaws.{cases, close, flip, other, put-back, spur}
 pub use Rattle.turn_words.specs.Lemmas.Sums.{add-cases, add-lt, add-zero, minus-cases, minus-lt, minus-two}
-pub use Rattle.turn_words.specs.Lemmas.WordEnds.{IsCons, closed-two, flipped-end, flipped-run, good-cons, open-cases, open-other, open-two, put-close, put-else, put-flip}
+pub use Rattle.turn_words.specs.Lemmas.WordEnds.{IsCons, closed-two, flipped-end, flipped-run, open-cases, open-other, open-two, put-close, put-else, put-flip}
 pub use Rattle.turn_words.specs.Modulo.{add, minus}
 pub use Rattle.turn_words.specs.PutTurns.{Put, closed, flipped, is_open, put, put_last}
 pub use Rattle.turn_words.specs.SpokePaths.{place_round, turn_word_of}

@@ -1,5 +1,5 @@
 -- On a full wheel joined lists that are cyclically canonical are rotations of one another.
-use Rattle.joined_loops.proofs.Common.{along, upto, IsCanonicalRow, along-first, along-round, rotated, rotated-length, rotated-along, along-below, turn_at, place-below, stands-even, IsLoop, IsFullWheel, IsCyclicallyCanonical, spoke_along, stands_before, cyclic_turn, IsRotation, ◌≡◌, ℕ, ◌+◌, ◌-◌, ◌%◌, ◌<◌, ◌≤◌, inl, inr, arith, refl, sym, ◌∙◌, ap, ap₂, subst, zero, suc, true, not, List, [], ◌∷◌, ◌++◌, take, drop, length, reverse, get_or, drop-append_seam, take-append_seam, cases_lt, cases_eq, reverse-reverse, length-reverse, length-append, length-drop, take-append-drop, nil_from_length, ◌==◌, if◌then◌else◌, state, led, HyperState, IsEven, empty_state, hyper_next, BelongsTo, hyper_starts, add, minus, place_round}
+use Rattle.joined_loops.proofs.Common.{along, upto, upto-length, IsCanonicalRow, along-first, along-round, rotated, rotated-length, rotated-along, along-below, turn_at, place-below, stands-even, IsLoop, IsFullWheel, IsCyclicallyCanonical, spoke_along, stands_before, cyclic_turn, IsRotation, ◌≡◌, ℕ, ◌+◌, ◌-◌, ◌%◌, ◌<◌, ◌≤◌, inl, inr, arith, refl, sym, ◌∙◌, ap, ap₂, subst, zero, suc, true, not, List, [], ◌∷◌, ◌++◌, take, drop, length, reverse, get_or, drop-append_seam, take-append_seam, cases_lt, cases_eq, reverse-reverse, length-reverse, length-append, length-drop, take-append-drop, nil_from_length, ◌==◌, if◌then◌else◌, state, led, HyperState, IsEven, empty_state, hyper_next, BelongsTo, hyper_starts, add, minus, place_round}
 use Rattle.std.proofs.lemmas.Grind.{same_number_lists}
 use Rattle.joined_loops.specs.JoinedLists.{JoinedBy, Joined}
 use Rattle.joined_loops.proofs.Times.{times, times-some, times-add, times-even, later-rounds}
@@ -8,7 +8,6 @@ use Rattle.joined_loops.proofs.Keeping.{EndsIn, ends-later, begins-ends}
 use Rattle.joined_loops.proofs.Going.{gone, began, gone-belongs, spoke_before, before-next, before-in, rowed, round-even, loop-range, led-longer, meets}
 use Rattle.joined_loops.proofs.Joining.{joined-back}
 use Rattle.joined_loops.proofs.Beginning.{start, word_of, word-along, word-is, word-length, word-kept}
-use Rattle.settling.proofs.Rows.{upto-length}
 use Rattle.joined_loops.proofs.Settled.{behind, behind-belongs, behind-even, both, put_at, put-is, Settled, settled, one-length, upto-append}
 
 -- two ends of one list that are as long are one

@@ -1,9 +1,9 @@
 -- A cyclically canonical list that is gone along behind the joining list: before long it only puts its turns last.
-use Rattle.joined_loops.proofs.Common.{along, upto, within_budget, IsCanonicalRow, IsLoop, IsFullWheel, spoke_along, cyclic_turn, ◌≡◌, ℕ, ◌+◌, ◌-◌, ◌<◌, ◌≤◌, inl, inr, arith, refl, sym, ◌∙◌, ap, zero, suc, List, ◌∷◌, length, reverse, cases_lt, length-reverse, state, led, HyperState, IsEven, empty_state, hyper_next, BelongsTo, length-next, hyper_starts, Put}
+use Rattle.joined_loops.proofs.Common.{along, upto, upto-length, IsCanonicalRow, IsLoop, IsFullWheel, spoke_along, cyclic_turn, ◌≡◌, ℕ, ◌+◌, ◌-◌, ◌<◌, ◌≤◌, inl, inr, arith, refl, sym, ◌∙◌, ap, zero, suc, List, ◌∷◌, length, reverse, cases_lt, length-reverse, state, led, HyperState, IsEven, empty_state, hyper_next, BelongsTo, length-next, hyper_starts, Put}
+use Rattle.settling.proofs.Settling.{within_budget}
 use Rattle.joined_loops.specs.JoinedLists.{JoinedBy}
 use Rattle.joined_loops.proofs.Times.{times, times-more, times-above, times-some, times-add}
 use Rattle.joined_loops.proofs.Going.{gone, began, began-sound, rowed, gone-belongs, meets, loop-range, led-belongs, led-even, led-longer}
-use Rattle.settling.proofs.Rows.{upto-length}
 use Rattle.joined_loops.proofs.Beginning.{word-length}
 
 pub upto-append : (f : ℕ → ℕ) (m g i : ℕ) (rest : List ℕ) → upto f m (g + i) rest ≡ upto f (m + g) i (upto f m g rest)
