@@ -2,6 +2,7 @@ use Rattle.free_forms.proofs.Common.{◌≡◌, ℕ, ◌<◌, List, length, get_
 use Rattle.free_forms.specs.Parents.{OpenView, Joins, IsParentEdge, parent_of}
 use Rattle.free_forms.proofs.ParentEdgeLemmas.{IsSideBetween, side_of_found, no_edge_no_parent, no_side_no_parent, is_parent}
 use Rattle.free_forms.proofs.open_mesh.OpenMesh.parent_between.Goals as goal
+use Rattle.free_forms.proofs.open_mesh.OpenMesh.parent_between.Goals.{After-side-side}
 
 pub returns-in_default-clause-none : goal.returns-in_default-clause-none
 returns-in_default-clause-none c =
@@ -10,26 +11,26 @@ returns-in_default-clause-none c =
     (no_edge_no_parent surface c.self.inside.sides c.args.u.0 c.args.v.0 c.self.invariant.parents c.self.invariant.table_of
     c.in_default.ensures.none)
 
+-- the side that is looked at joins the two vertices
+between : (c : After-side-side) → IsSideBetween c.self.inside.faces c.args.u.0 c.args.v.0 c.side-side.result
+between c =
+    side_of_found c.self.inside.faces c.self.inside.sides c.in-Some.edge.0 c.loop-k.k c.args.u.0 c.args.v.0 c.side-side.result
+    c.self.invariant.table_of c.in-Some.ensures.found c.in-Some.ensures.ends (omega arith) c.side-side.ensures
+
 pub index-requires : goal.index-requires
 index-requires c =
-    let is : IsSideBetween c.self.inside.faces c.args.u.0 c.args.v.0 c.side-side.result =
-    side_of_found c.self.inside.faces c.self.inside.sides c.in-Some.edge.0 c.loop-k.k c.args.u.0 c.args.v.0 c.side-side.result
-    c.self.invariant.table_of c.in-Some.ensures.found c.in-Some.ensures.ends (omega arith) c.side-side.ensures in
+    let is = between (goal.at.index-requires c).After-side-side in
     omega (arith, is.side_of.face, c.self.invariant.parents.each_face, c.self.inside.places.ok.0)
 
 pub returns-then-index-side-clause-face : goal.returns-then-index-side-clause-face
 returns-then-index-side-clause-face c =
-    let is : IsSideBetween c.self.inside.faces c.args.u.0 c.args.v.0 c.side-side.result =
-    side_of_found c.self.inside.faces c.self.inside.sides c.in-Some.edge.0 c.loop-k.k c.args.u.0 c.args.v.0 c.side-side.result
-    c.self.invariant.table_of c.in-Some.ensures.found c.in-Some.ensures.ends (omega arith) c.side-side.ensures in
+    let is = between (goal.at.returns-then-index-side-clause-face c).After-side-side in
     subst (λ (s : OpenView). c.side-side.result.face.0 < length s.mesh.faces) c.self.view_is is.side_of.face
 
 pub returns-then-index-side-clause-parent : goal.returns-then-index-side-clause-parent
 returns-then-index-side-clause-parent c =
     let surface : OpenView = record { mesh = c.self.inside.faces; places = c.self.inside.places.items } in
-    let is : IsSideBetween c.self.inside.faces c.args.u.0 c.args.v.0 c.side-side.result =
-    side_of_found c.self.inside.faces c.self.inside.sides c.in-Some.edge.0 c.loop-k.k c.args.u.0 c.args.v.0 c.side-side.result
-    c.self.invariant.table_of c.in-Some.ensures.found c.in-Some.ensures.ends (omega arith) c.side-side.ensures in
+    let is = between (goal.at.returns-then-index-side-clause-parent c).After-side-side in
     let f : ℕ = c.side-side.result.face.0 in
     let here : get_or surface.places f 0 ≡ c.side-side.result.at =
     get_or_default surface.places f 0 c.index.result.now (omega (arith, is.side_of.face, c.self.invariant.parents.each_face))
@@ -38,9 +39,7 @@ returns-then-index-side-clause-parent c =
 
 pub returns-then-index-side-clause-joined : goal.returns-then-index-side-clause-joined
 returns-then-index-side-clause-joined c =
-    let is : IsSideBetween c.self.inside.faces c.args.u.0 c.args.v.0 c.side-side.result =
-    side_of_found c.self.inside.faces c.self.inside.sides c.in-Some.edge.0 c.loop-k.k c.args.u.0 c.args.v.0 c.side-side.result
-    c.self.invariant.table_of c.in-Some.ensures.found c.in-Some.ensures.ends (omega arith) c.side-side.ensures in
+    let is = between (goal.at.returns-then-index-side-clause-joined c).After-side-side in
     subst (λ (s : OpenView). Joins s.mesh c.side-side.result c.args.u.0 c.args.v.0) c.self.view_is is.joined
 
 pub loop-k-preserved : goal.loop-k-preserved
@@ -48,9 +47,7 @@ loop-k-preserved c = λ j d l same.
     let sides : List Side = (edge_in c.self.inside.sides c.in-Some.edge.0).sides in
     let places : List ℕ = c.self.inside.places.items in
     let side : Side = c.side-side.result in
-    let is : IsSideBetween c.self.inside.faces c.args.u.0 c.args.v.0 side =
-    side_of_found c.self.inside.faces c.self.inside.sides c.in-Some.edge.0 c.loop-k.k c.args.u.0 c.args.v.0 c.side-side.result
-    c.self.invariant.table_of c.in-Some.ensures.found c.in-Some.ensures.ends (omega arith) c.side-side.ensures in
+    let is = between (goal.at.loop-k-preserved c).After-side-side in
     elim (cases_eq j c.loop-k.k) [
       | inl here ↦
           (let this : get_or sides j d ≡ side =
