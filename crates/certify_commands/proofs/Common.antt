@@ -5,7 +5,7 @@ pub use Rattle.closed_surfaces.specs.declared.component.Component.{Component}
 pub use Rattle.closed_surfaces.specs.declared.component.Component.TheVariants.{Alone, Whole}
 pub use Rattle.commands.proofs.Deciding.{at_places, behind, differs, refused_behind, walks_of_pair, yes_or_no}
 pub use Rattle.commands.proofs.LimitLemmas.{fitting, none_over, refused_beyond}
-pub use Rattle.commands.proofs.Rows.{IsOutcomeOf, sound-pair, two_walks}
+pub use Rattle.commands.proofs.Rows.{IsOutcomeOf, sound-pair}
 pub use Rattle.commands.proofs.Sound.{IsSound, held, sound-decided_by, sound-pass_unless, sound-then, unless_told}
 pub use Rattle.commands.specs.Answers.{Answer, Exactly}
 pub use Rattle.commands.specs.Certificates.{Convinces, IsShown, decision_of, decision_status}

@@ -1,8 +1,8 @@
 -- How the checks of `reduce` end.
-use Rattle.reduce_commands.proofs.Common.{stops_first, told_stops, stops_next, tells_no_fault, Answer, Texts, NoText, yes_with, End, Refuse, Pass, Passes, IsTold, file, meant, pass_unless, Check, pass, ◌>>=◌, Outcome, status_of, numbers_line, words_text, ◌≡◌, ◌⊎◌, inl, inr, ℕ, ◌<◌, ◌≤◌, Bool, true, false, List, [], ◌∷◌, ◌++◌, length, refl, sym, ap, ◌∙◌, subst, arith, nat_lt, if◌then◌else◌, Option, Some, None, Result, Err, is_some, IfSome, IsSome, IsSomeAnd, All, Files, file_of, NumberLine, words_of}
-use Rattle.commands.proofs.Sound.{IsSound, sound-then, sound-pass, sound-meant, sound-pass_unless, sound-file, meant_told, unless_told, held}
+use Rattle.reduce_commands.proofs.Common.{stops_first, told_stops, stops_next, tells_no_fault, Answer, NoText, yes_with, End, Refuse, Pass, Passes, IsTold, file, meant, pass_unless, Check, pass, ◌>>=◌, Outcome, status_of, numbers_line, words_text, ◌≡◌, ◌⊎◌, inl, inr, ℕ, ◌<◌, ◌≤◌, Bool, true, false, List, [], ◌∷◌, ◌++◌, refl, sym, ap, ◌∙◌, subst, arith, nat_lt, if◌then◌else◌, Option, Some, None, Result, Err, is_some, All, Files, NumberLine, words_of}
+use Rattle.commands.proofs.Checking.{meant_passed, unless_passed}
+use Rattle.commands.proofs.Sound.{IsSound, sound-then, sound-pass, sound-meant, sound-pass_unless, sound-file, meant_told, unless_told, held, file_holds}
 use Rattle.commands.specs.Stops.{Stops, Tells}
-use Rattle.commands.specs.declared.inputs.TheConstants.{MOST_BYTES}
 use Rattle.commands.specs.declared.status.Status.TheVariants.{Yes}
 use Rattle.commands.specs.declared.stop.Stop.{Stop}
 use Rattle.std.proofs.lemmas.Bool.{and_parts, ltb-true, ltb-false}
@@ -20,15 +20,6 @@ use Rattle.reduce_commands.specs.Reduce.{SpellsTurnWords, IsReduceInput, AreCano
 use Rattle.reduce_commands.specs.declared.reduce.TheConstants.{LEAST_DEGREE}
 
 -- ---- the parts
-
-pub unless_passed : {T F : Type 0} (line_of : F → Texts) (fault : Option F) (thing passed : T)
-    → Passes (pass_unless line_of fault thing) passed → (fault ≡ None) × (passed ≡ thing)
-unless_passed line_of None thing passed h = (refl, cc)
-unless_passed line_of (Some fault) thing passed h = cc
-
-meant_passed : {T F : Type 0} (line_of : F → Texts) (read : Result T F) (passed : T) → Passes (meant line_of read) passed → read ≡ Ok passed
-meant_passed line_of (Ok thing) passed h = cc
-meant_passed line_of (Err fault) passed h = cc
 
 pub no_degree_fault : (degree : ℕ) → LEAST_DEGREE ≤ degree → degree_fault degree ≡ None
 no_degree_fault degree least = let large : nat_lt degree LEAST_DEGREE ≡ false = grind arith in rw large refl
@@ -324,12 +315,6 @@ reduce_told files degree name told = (
   ),
 )
 
-holds_of : (told : Option (List ℕ)) (limit : ℕ) (P : List ℕ → Type 0) (bytes : List ℕ) → IsSome told → IfSome told (λ f. bytes ≡ f)
-    → length bytes ≤ limit
-    → P bytes → IsSomeAnd told (λ b. (length b ≤ limit) × P b)
-holds_of None limit P bytes some agrees short h = cc
-holds_of (Some f) limit P bytes some agrees short h = subst (λ (b : List ℕ). (length b ≤ limit) × P b) agrees (short, h)
-
 -- what was passed spells the list
 pub yes_input : (files : Option Files) (degree : ℕ) (name : List ℕ) (outcome : Outcome) → IsTold files name
     → (reduce files degree name).Ends outcome
@@ -351,6 +336,6 @@ yes_input files degree name outcome told (inr (allowed, first, inr (lines, inr (
       turns,
       record {
         least = least;
-        list_file = holds_of (file_of files name) MOST_BYTES (SpellsTurnWords degree turns) bytes told in_file.0 in_file.1 spelled;
+        list_file = file_holds files name inputs.TurnWords (SpellsTurnWords degree turns) bytes told in_file spelled;
       },
     )

@@ -1,6 +1,6 @@
-use Rattle.certify_commands.proofs.Common.{walks_of_pair, fitting, two_walks, Exactly, decision_of, pair_in, arith, err_from_is_err_and, AreWalkPair}
+use Rattle.commands.proofs.Deciding.{pair_long}
+use Rattle.certify_commands.proofs.Common.{walks_of_pair, fitting, Exactly, decision_of, pair_in, arith, AreWalkPair}
 use Rattle.commands.proofs.Running.{tells_no_fault}
-use Rattle.surf_model.specs.Edges.{IsTableOf}
 use Rattle.surface_commands.proofs.RunsOnWalks.{runs_asked, runs_refused_next, runs_refused_walks, runs_wanting}
 use Rattle.certify_commands.specs.Certify.{certificate_answer, certify_limits, limit_word}
 use Rattle.certify_commands.proofs.Certifying.{after_pair, certificate_found, limits_stop}
@@ -10,48 +10,36 @@ use Rattle.certify_commands.proofs.certify.certify.Goals.{After-at-second}
 pub returns-in_err-pair : goal.returns-in_err-pair
 returns-in_err-pair g c =
     let surface = c.in_ok-surface.surface in
-    let read = c.in_ok-surface.ensures.reads in
-    let p = err_from_is_err_and c.from_residual-in_err-pair.result c.from_residual-in_err-pair.ensures.1 in
-    rw (p.1, p.2)
-    (runs_refused_walks g.S.Shelf.held g.S.Shelf.faults c.args.shelf.now c.read_surface.new.shelf c.read_pair.new.shelf c.args.mesh.now
-    (λ files mesh. pair_in files c.args.walks.now mesh) after_pair surface.faces read.only_reads read.end _ c.in_err-pair.field-0.0
-    c.in_err-pair.ensures.reads (c.in_err-pair.ensures.reads.end surface.faces c.in_ok-surface.ensures.signed.table))
+    runs_refused_walks c.args.mesh.now surface.faces (λ files mesh. pair_in files c.args.walks.now mesh) after_pair
+    c.in_ok-surface.ensures.reads c.in_err-pair.ensures.reads c.from_residual-in_err-pair.ensures.1
+    (c.in_err-pair.ensures.reads.end surface.faces c.in_ok-surface.ensures.signed.table)
 
 pub at-first-requires : goal.at-first-requires
 at-first-requires g c =
-    let surface = c.in_ok-surface.surface in
-    let table : IsTableOf surface.faces surface.sides = c.in_ok-surface.ensures.signed.table in
-    omega (arith, two_walks _ _ surface.faces c.in_ok-pair.pair.walks (c.in_ok-pair.ensures.reads.end surface.faces table))
+    omega (arith, pair_long (c.in_ok-pair.ensures.pair c.in_ok-surface.surface.faces c.in_ok-surface.ensures.signed.table))
 
 pub at-second-requires : goal.at-second-requires
 at-second-requires g c =
-    let surface = c.in_ok-surface.surface in
-    let table : IsTableOf surface.faces surface.sides = c.in_ok-surface.ensures.signed.table in
-    omega (arith, two_walks _ _ surface.faces c.in_ok-pair.pair.walks (c.in_ok-pair.ensures.reads.end surface.faces table))
+    omega (arith, pair_long (c.in_ok-pair.ensures.pair c.in_ok-surface.surface.faces c.in_ok-surface.ensures.signed.table))
 
 -- the two walks are walks of the surface
 walks : (g : _) (c : After-at-second g) → AreWalkPair c.in_ok-surface.surface.faces c.at-first.result.now c.at-second.result.now
 walks g c =
-    let surface = c.in_ok-surface.surface in
-    let table : IsTableOf surface.faces surface.sides = c.in_ok-surface.ensures.signed.table in
-    walks_of_pair surface.faces c.in_ok-pair.pair.walks c.at-first.result.now c.at-second.result.now
-    (c.in_ok-pair.ensures.pair surface.faces table) c.at-first.ensures c.at-second.ensures
+    walks_of_pair (c.in_ok-pair.ensures.pair c.in_ok-surface.surface.faces c.in_ok-surface.ensures.signed.table) c.at-first.ensures
+    c.at-second.ensures
 
 pub returns-in_err-check : goal.returns-in_err-check
 returns-in_err-check g c =
     let surface = c.in_ok-surface.surface in
-    let read = c.in_ok-surface.ensures.reads in
     let pair = c.in_ok-pair.pair.walks in
     let stop = c.in_err-check.field-0.0 in
     let limit = c.in_err-check.ensures in
-    let p = err_from_is_err_and c.from_residual-in_err-check.result c.from_residual-in_err-check.ensures.1 in
-    rw (p.1, p.2)
-    (runs_refused_next g.S.Shelf.held g.S.Shelf.faults c.args.shelf.now c.read_surface.new.shelf c.read_pair.new.shelf c.args.mesh.now
-    (λ files mesh. pair_in files c.args.walks.now mesh) after_pair surface.faces read.only_reads read.end pair stop
-    c.in_ok-pair.ensures.reads.only_reads (c.in_ok-pair.ensures.reads.end surface.faces c.in_ok-surface.ensures.signed.table)
+    runs_refused_next c.args.mesh.now surface.faces (λ files mesh. pair_in files c.args.walks.now mesh) after_pair
+    c.in_ok-surface.ensures.reads pair c.in_ok-pair.ensures.reads.only_reads
+    (c.in_ok-pair.ensures.reads.end surface.faces c.in_ok-surface.ensures.signed.table) c.from_residual-in_err-check.ensures.1
     (tells_no_fault (Exactly limit.0) stop limit.2)
     (limits_stop surface.faces pair c.at-first.result.now c.at-second.result.now limit.0 stop c.at-first.ensures c.at-second.ensures limit.1
-    limit.2))
+    limit.2)
 
 pub find_certificate-requires-clause-first : goal.find_certificate-requires-clause-first
 find_certificate-requires-clause-first g c =
@@ -71,14 +59,12 @@ find_certificate-requires-clause-limits g c =
 pub returns : goal.returns
 returns g c =
     let surface = c.in_ok-surface.surface in
-    let read = c.in_ok-surface.ensures.reads in
     let pair = c.in_ok-pair.pair.walks in
     let first = c.at-first.result.now in
     let second = c.at-second.result.now in
     let shown = c.in_ok-shown.shown in
-    runs_asked g.S.Shelf.held g.S.Shelf.faults c.args.shelf.now c.read_surface.new.shelf c.read_pair.new.shelf c.args.mesh.now
-    (λ files mesh. pair_in files c.args.walks.now mesh) after_pair surface.faces read.only_reads read.end pair c.reply_with.result
-    c.in_ok-pair.ensures.reads.only_reads (c.in_ok-pair.ensures.reads.end surface.faces c.in_ok-surface.ensures.signed.table)
+    runs_asked c.args.mesh.now surface.faces (λ files mesh. pair_in files c.args.walks.now mesh) after_pair c.in_ok-surface.ensures.reads
+    pair c.in_ok-pair.ensures.reads.only_reads (c.in_ok-pair.ensures.reads.end surface.faces c.in_ok-surface.ensures.signed.table)
     (record {
       answer = certificate_answer surface.faces first second (decision_of shown);
       passes =
@@ -91,9 +77,5 @@ returns g c =
 pub returns-in_err-shown : goal.returns-in_err-shown
 returns-in_err-shown g c =
     let surface = c.in_ok-surface.surface in
-    let read = c.in_ok-surface.ensures.reads in
-    let p = err_from_is_err_and c.from_residual-in_err-shown.result c.from_residual-in_err-shown.ensures.1 in
-    rw (p.1, p.2)
-    (runs_wanting g.S.Shelf.held g.S.Shelf.faults c.args.shelf.now c.read_surface.new.shelf c.read_pair.new.shelf c.args.mesh.now
-    (λ files mesh. pair_in files c.args.walks.now mesh) after_pair surface.faces read.only_reads read.end
-    c.in_ok-pair.ensures.reads.only_reads)
+    runs_wanting c.args.mesh.now surface.faces (λ files mesh. pair_in files c.args.walks.now mesh) after_pair c.in_ok-surface.ensures.reads
+    c.in_ok-pair.ensures.reads.only_reads c.from_residual-in_err-shown.ensures.1

@@ -1,7 +1,5 @@
 use Rattle.reduce_commands.proofs.Common.{stops_first, runs_faulty, runs_refused, runs_replied, runs_stopped, yes_with, file, meant, numbers_line, words_text, refl, arith, words_of}
 use Rattle.commands.specs.declared.refusal.Input.TheVariants.{TurnWords}
-use Rattle.std.proofs.lemmas.Result.{err_from_is_err_and}
-use Rattle.reduce_commands.specs.Reduce as of_reduce
 use Rattle.reduce_commands.specs.Reduce.{degree_line}
 use Rattle.reduce_commands.proofs.Reducing.{degree_stops, lines_stop, looks_at_file, words_no_fault, words_pass, words_stop}
 use Rattle.reduce_commands.proofs.reduce.reduce.Goals as goal
@@ -9,23 +7,18 @@ use Rattle.reduce_commands.proofs.reduce.reduce.Goals as goal
 pub returns-then-degree-lt-LEAST_DEGREE : goal.returns-then-degree-lt-LEAST_DEGREE
 returns-then-degree-lt-LEAST_DEGREE g c =
     let files = g.S.Shelf.held c.args.shelf.now in
-    runs_refused g.S.Shelf.held g.S.Shelf.faults c.args.shelf.now (λ files. of_reduce.reduce files c.args.degree c.args.list.now)
-    (degree_line c.args.degree) c.refused.result
+    runs_refused (degree_line c.args.degree)
     (degree_stops files c.args.degree c.args.list.now c.refused.result c.if-degree-lt-LEAST_DEGREE.true c.refused.ensures) c.refused.ensures
 
 pub returns-in_err-bytes : goal.returns-in_err-bytes
 returns-in_err-bytes g c =
     let files = g.S.Shelf.held c.args.shelf.now in
     let stop = c.in_err-bytes.field-0.0 in
-    let p = err_from_is_err_and c.from_residual.result c.from_residual.ensures.1 in
-    rw (p.1, p.2)
-    (runs_stopped g.S.Shelf.held g.S.Shelf.faults c.args.shelf.now c.read_file.new.shelf
-    (λ files. of_reduce.reduce files c.args.degree c.args.list.now)
-    (looks_at_file files c.args.degree c.args.list.now c.if-degree-lt-LEAST_DEGREE.false) c.args.shelf.now _ stop
+    runs_stopped (looks_at_file files c.args.degree c.args.list.now c.if-degree-lt-LEAST_DEGREE.false) c.from_residual.ensures.1
     (record { same_files = refl; never_falls = omega arith }) c.in_err-bytes.ensures
     (lines_stop files c.args.degree c.args.list.now stop c.if-degree-lt-LEAST_DEGREE.false
     (stops_first (file files c.args.list.now TurnWords) (λ bytes. meant (numbers_line TurnWords) (words_of bytes)) stop
-    c.in_err-bytes.ensures.end)))
+    c.in_err-bytes.ensures.end))
 
 pub returns-in_err-words : goal.returns-in_err-words
 returns-in_err-words g c =
@@ -33,22 +26,16 @@ returns-in_err-words g c =
     let stop = c.in_err-words.field-0.0 in
     let bytes = c.in_ok-bytes.bytes.items in
     let ended = rw c.deref.ensures.value at c.in_err-words.ensures.end in
-    let p = err_from_is_err_and c.from_residual-in_err-words.result c.from_residual-in_err-words.ensures.1 in
-    rw (p.1, p.2)
-    (runs_faulty g.S.Shelf.held g.S.Shelf.faults c.args.shelf.now c.read_file.new.shelf
-    (λ files. of_reduce.reduce files c.args.degree c.args.list.now)
-    (looks_at_file files c.args.degree c.args.list.now c.if-degree-lt-LEAST_DEGREE.false) stop c.in_ok-bytes.ensures.only_reads
-    (words_no_fault c.args.degree (words_of bytes) stop ended)
-    (words_stop files c.args.degree c.args.list.now bytes stop c.if-degree-lt-LEAST_DEGREE.false c.in_ok-bytes.ensures.end ended))
+    runs_faulty (looks_at_file files c.args.degree c.args.list.now c.if-degree-lt-LEAST_DEGREE.false) c.from_residual-in_err-words.ensures.1
+    c.in_ok-bytes.ensures.only_reads (words_no_fault c.args.degree (words_of bytes) stop ended)
+    (words_stop files c.args.degree c.args.list.now bytes stop c.if-degree-lt-LEAST_DEGREE.false c.in_ok-bytes.ensures.end ended)
 
 pub returns : goal.returns
 returns g c =
     let files = g.S.Shelf.held c.args.shelf.now in
     let words = c.in_ok-words.words.items in
     let bytes = c.in_ok-bytes.bytes.items in
-    runs_replied g.S.Shelf.held g.S.Shelf.faults c.args.shelf.now c.read_file.new.shelf
-    (λ files. of_reduce.reduce files c.args.degree c.args.list.now)
-    (looks_at_file files c.args.degree c.args.list.now c.if-degree-lt-LEAST_DEGREE.false) _ c.in_ok-bytes.ensures.only_reads
+    runs_replied (looks_at_file files c.args.degree c.args.list.now c.if-degree-lt-LEAST_DEGREE.false) c.in_ok-bytes.ensures.only_reads
     (record {
       answer = yes_with (words_text words);
       passes =
