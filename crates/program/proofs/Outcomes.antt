@@ -1,5 +1,6 @@
 -- The outcome of a list of words, and what is told of a run.
-use Rattle.program.proofs.Common.{Refuse, Pass, found_or, Outcome, IsAnswerOf, wrong_words, Replies, reply_status, reply_text, Runs, IsAnswered, Stops, Tells, Reply, Status, WriteFault, ◌≡◌, ◌⊎◌, inl, inr, ℕ, List, refl, subst, Option, Result, Ok, Err, MatchResult, Files}
+use Rattle.program.proofs.Common.{Refuse, Pass, found_or, wrong_words, Replies, reply_status, reply_text, Runs, IsAnswered, Stops, Tells, Reply, inl, inr, ℕ, List, refl, Option, Result, Ok, Err, MatchResult, Files}
+use Rattle.commands.proofs.Answering.{answers}
 use Rattle.commands.proofs.Checking.{stops_next, told_stops}
 use Rattle.commands.specs.declared.stop.Stop.{Stop}
 use Rattle.commands.specs.declared.text.Text.{Text}
@@ -7,33 +8,21 @@ use Rattle.commands.specs.declared.reply.Reply.TheVariants as replies
 use Rattle.commands.specs.declared.stop.Stop.TheVariants as stops
 use Rattle.program.proofs.Rows.{sound-words}
 use Rattle.program.specs.Commands.{Row, IsRow, answer_to}
-use Rattle.program.specs.Outcomes.{answer_of, IsOutcome, Answers}
-
--- what is answered by an outcome is answered exactly, where the files are told
-pub answers : (files : Option Files) (words : List (List ℕ)) (outcome : Outcome) (status : Status) (text : List ℕ)
-    → IsOutcome files words outcome
-    → IsAnswerOf outcome status text → Answers files words status text
-answers files words outcome status text is answer =
-    record {
-      outcome = outcome;
-      is_outcome = is;
-      is_answer = answer;
-      exact = λ told other other_is.
-          subst (λ (o : Outcome). IsAnswerOf o status text) ((sound-words files words).one told outcome other is other_is) answer;
-    }
+use Rattle.program.specs.Outcomes.{answer_of, Answers}
 
 -- ---- the reply
 
 pub reply_answers : (files : Option Files) (words : List (List ℕ)) (reply : Reply) → Replies (answer_of files words) reply
     → Answers files words (reply_status reply) (reply_text reply)
-reply_answers files words reply found = answers files words (Pass found.answer) (reply_status reply) (reply_text reply) found.passes
+reply_answers files words reply found =
+    answers files (answer_of files words) (Pass found.answer) (reply_status reply) (reply_text reply) (sound-words files words) found.passes
     found.is_answer
 
 pub refusal_answers : (files : Option Files) (words : List (List ℕ)) (text : Text) → Stops (answer_of files words) (stops.Refused text)
     → Answers files words (reply_status (replies.Refused text)) (reply_text (replies.Refused text))
 refusal_answers files words text h =
-    answers files words (Refuse h.0) (reply_status (replies.Refused text)) (reply_text (replies.Refused text)) h.1
-    (record { status_is = refl; text_is = h.2 })
+    answers files (answer_of files words) (Refuse h.0) (reply_status (replies.Refused text)) (reply_text (replies.Refused text))
+    (sound-words files words) h.1 (record { status_is = refl; text_is = h.2 })
 
 -- ---- the reply to a list of words
 
@@ -63,13 +52,6 @@ row_runs held faults old new words row result is h =
     row_end files words row (Err stop) is h = stops_next (found_or wrong_words (IsRow words)) (answer_to files) row stop is h
 
 -- ---- the status of a run
-
--- a status that tells of an answer is that of the reply
-pub answered_status : (status wanted : Status) → IsAnswered status → (status ≡ wanted) ⊎ (status ≡ WriteFault) → status ≡ wanted
-answered_status status wanted answered (inl e) = e
-answered_status status wanted (inl accepted) (inr e) = cc
-answered_status status wanted (inr (inl rejected)) (inr e) = cc
-answered_status status wanted (inr (inr faulty)) (inr e) = cc
 
 pub is_answered : (reply : Reply) → IsAnswered (reply_status reply)
 is_answered (replies.Yes text) = inl refl

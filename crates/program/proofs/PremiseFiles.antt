@@ -15,7 +15,9 @@ use Rattle.walk_files.specs.Pairs.{pair_fault}
 use Rattle.walk_files.specs.declared.fault.WalkFault.{WalkFault}
 use Rattle.commands.specs.declared.refusal.Input.TheVariants as inputs
 use Rattle.verify_homology_commands.specs.VerifyHomology as homology
-use Rattle.program.proofs.PremiseLemmas.{both_passed, file_holds, meant_passed, told_check, unless_passed}
+use Rattle.commands.proofs.Checking.{both_passed, meant_passed, unless_passed}
+use Rattle.commands.proofs.Sound.{file_holds}
+use Rattle.program.proofs.PremiseLemmas.{told_check}
 
 -- ---- a file that means one thing
 

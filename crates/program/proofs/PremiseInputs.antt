@@ -8,7 +8,8 @@ use Rattle.walk_files.specs.NumberLists.{NumberLine}
 use Rattle.verify_homology_commands.specs.VerifyHomology as homology
 use Rattle.open_commands.specs.OpenPairs as open_pairs
 use Rattle.program.proofs.PremiseFiles.{certificate_held, homology_held, loops_held, mesh_held, open_held, pair_held, pairs_held, surface_held}
-use Rattle.program.proofs.PremiseLemmas.{answer_passed, both_passed, holds_itself, unless_passed}
+use Rattle.commands.proofs.Checking.{both_passed, unless_passed}
+use Rattle.program.proofs.PremiseLemmas.{answer_passed, holds_itself}
 use Rattle.program.proofs.Rows.{row_answered}
 use Rattle.program.specs.Commands.{Row, IsRow, Surface, Decide, Certify, Loops, DecideOpen, CertifyOpen, Homology, Verify, VerifyHomology, Reduce, answer_to}
 use Rattle.program.specs.Outcomes.{Answers}

@@ -1,4 +1,5 @@
-use Rattle.pair_commands.proofs.Common.{all_hold, as_many, holds_next, pair_within, mesh_of, ◌≡◌, ◌/◌, ◌<◌, ℕ, true, List, length, get_or, sym, ◌∙◌, subst, arith, err_from_is_err_and, Some, FaceList, AreWalkPair, are_paired, IsFoundOn}
+use Rattle.commands.proofs.Running.{failed_end}
+use Rattle.pair_commands.proofs.Common.{all_hold, as_many, holds_next, pair_within, mesh_of, ◌≡◌, ◌/◌, ◌<◌, ℕ, true, List, length, get_or, sym, ◌∙◌, subst, arith, Some, FaceList, AreWalkPair, are_paired, IsFoundOn}
 use Rattle.component_deciding.specs.declared.order.Placed.{Placed}
 use Rattle.std.proofs.lemmas.List.{get_or_read, length-set}
 use Rattle.surf_model.specs.Edges.{IsTableOf}
@@ -8,17 +9,15 @@ use Rattle.pair_commands.proofs.deciding.decide_all.Goals.{After-index, in-Some,
 
 pub returns-in_err-check_list-clause-ends : goal.returns-in_err-check_list-clause-ends
 returns-in_err-check_list-clause-ends c =
-    let p = err_from_is_err_and c.from_residual.result c.from_residual.ensures.1 in
-    rw (p.1, p.2) (c.in_err-check_list.ensures.ends (mesh_of c.args.decider.now) c.sides.ensures)
+    failed_end _ _ _ _ c.from_residual.ensures.1 (c.in_err-check_list.ensures.ends (mesh_of c.args.decider.now) c.sides.ensures)
 
 pub returns-in_err-check_list-in-None-clause-ends : goal.returns-in_err-check_list-in-None-clause-ends
 returns-in_err-check_list-in-None-clause-ends c =
     let mesh = mesh_of c.args.decider.now in
-    let p = err_from_is_err_and c.from_residual-in_err-check_list-in-None.result c.from_residual-in_err-check_list-in-None.ensures.1 in
     let table : IsTableOf mesh c.sides-in-None.result.now =
     subst (λ (m : FaceList). IsTableOf m c.sides-in-None.result.now) (c.in_ok-decision.ensures.same ∙ c.loop-at.invariant.same)
     c.sides-in-None.ensures in
-    rw (p.1, p.2) (c.in_err-check_list-in-None.ensures.ends mesh table)
+    failed_end _ _ _ _ c.from_residual-in_err-check_list-in-None.ensures.1 (c.in_err-check_list-in-None.ensures.ends mesh table)
 
 -- the pair that stands next in the order is one of them
 there : (c : After-index) → c.index.result.now.pair < length c.args.walks.now.walks / 2

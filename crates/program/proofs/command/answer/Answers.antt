@@ -1,5 +1,4 @@
 use Rattle.program.proofs.Common.{runs_unread}
-use Rattle.trial_commands.specs.Trial.{trial}
 use Rattle.program.proofs.command.answer.Goals as goal
 
 pub returns-in-Decide : goal.returns-in-Decide
@@ -28,6 +27,4 @@ returns-in-VerifyHomology g c = rw c.in-VerifyHomology.is c.verify_homology.ensu
 
 pub returns-in-Trial : goal.returns-in-Trial
 returns-in-Trial g c =
-    rw c.in-Trial.is
-    (runs_unread g.S.Shelf.held g.S.Shelf.faults c.args.shelf.now (λ files. trial c.in-Trial.genus c.in-Trial.grid) c.trial.result
-    c.trial.ensures.no_fault c.trial.ensures.end)
+    rw c.in-Trial.is (runs_unread c.trial.ensures.no_fault c.trial.ensures.end)

@@ -1,5 +1,4 @@
 use Rattle.program.specs.Commands.{row_of}
-use Rattle.program.specs.Outcomes.{answer_of}
 use Rattle.program.proofs.Common.{runs_refused, wrong_words, texts}
 use Rattle.program.proofs.Outcomes.{row_runs, wrong_stops}
 use Rattle.program.proofs.top.find_answer.Goals as goal
@@ -7,7 +6,7 @@ use Rattle.program.proofs.top.find_answer.Goals as goal
 pub returns-in_default : goal.returns-in_default
 returns-in_default g c =
     let words = texts c.args.words.now.items in
-    runs_refused g.S.Shelf.held g.S.Shelf.faults c.args.shelf.now (λ files. answer_of files words) wrong_words c.refused.result
+    runs_refused wrong_words
     (wrong_stops (g.S.Shelf.held c.args.shelf.now) words c.refused.result c.in_default.ensures.none c.refused.ensures) c.refused.ensures
 
 pub returns : goal.returns

@@ -1,6 +1,7 @@
-use Rattle.program.proofs.Common.{reply_status, reply_text, IsAnswered, Stops, texts, Reply, Status, OutOfMemory, ◌≡◌, ◌⊎◌, inl, inr, sym, subst}
+use Rattle.program.proofs.Common.{reply_status, reply_text, IsAnswered, Stops, texts, Reply, OutOfMemory, ◌≡◌, ◌⊎◌, inl, inr, sym, subst}
 use Rattle.program.specs.Outcomes.{Answers, answer_of}
-use Rattle.program.proofs.Outcomes.{reply_answers, refusal_answers, answered_status, is_answered}
+use Rattle.commands.proofs.Answering.{wrote_all, wrote_part}
+use Rattle.program.proofs.Outcomes.{reply_answers, refusal_answers, is_answered}
 use Rattle.program.proofs.top.run.Given as given
 use Rattle.program.proofs.top.run.Goals as goal
 use Rattle.program.proofs.top.run.Goals.{in-Ok, in-Err-Refused}
@@ -23,18 +24,10 @@ all g c =
     ]
 
 pub returns-clause-answered : goal.returns-clause-answered
-returns-clause-answered g c = λ answered.
-    let reply = c.match-find_answer.reply in (
-      reply_text reply,
-      subst (λ (s : Status). Answers (g.S.Shelf.held c.args.shelf.now) (texts c.args.words.now.items) s (reply_text reply))
-          (sym (answered_status c.give.result (reply_status reply) answered c.give.ensures.either)) (all g c),
-      c.give.ensures.written answered,
-    )
+returns-clause-answered g c = wrote_all _ (all g c) c.give.ensures.either c.give.ensures.written
 
 pub returns-clause-write_fault : goal.returns-clause-write_fault
-returns-clause-write_fault g c = λ e.
-    let reply = c.match-find_answer.reply in
-    (reply_status reply, reply_text reply, all g c, c.give.ensures.write_fault e)
+returns-clause-write_fault g c = wrote_part _ (all g c) c.give.ensures.write_fault
 
 pub returns-clause-complete : goal.returns-clause-complete
 returns-clause-complete g c = λ reads writes.

@@ -24,8 +24,7 @@ walks : (c : goal.After-at-2) → AreWalkPair c.args.decider.now c.at.result.now
 walks c =
     let mesh = c.args.decider.now in
     let table : IsTableOf mesh c.sides.result.now = c.sides.ensures in
-    walks_of_pair mesh c.in_ok-pair.pair.walks c.at.result.now c.at-2.result.now ((c.in_ok-check_pair.ensures.pair mesh table).0 refl)
-    c.at.ensures c.at-2.ensures
+    walks_of_pair ((c.in_ok-check_pair.ensures.pair mesh table).0 refl) c.at.ensures c.at-2.ensures
 
 pub answer-requires-clause-first : goal.answer-requires-clause-first
 answer-requires-clause-first c = (walks c).first_walk

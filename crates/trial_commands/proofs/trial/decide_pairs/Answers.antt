@@ -1,18 +1,16 @@
-use Rattle.trial_commands.proofs.Common.{err_from_is_err_and}
+use Rattle.commands.proofs.Running.{failed_end}
 use Rattle.trial_commands.proofs.Trying.{cell_stops, loops_stop, pairs_answered}
 use Rattle.trial_commands.proofs.trial.decide_pairs.Goals as goal
 
 pub returns-in_err-cell-clause-end : goal.returns-in_err-cell-clause-end
 returns-in_err-cell-clause-end c =
-    let p = err_from_is_err_and c.from_residual-in_err-cell.result c.from_residual-in_err-cell.ensures.1 in
-    rw (p.1, p.2)
+    failed_end _ _ _ _ c.from_residual-in_err-cell.ensures.1
     (cell_stops c.args.decider.now c.args.grid c.in_ok-commuting.commuting c.in_err-cell.field-0.0 c.in_ok-commuting.ensures.end
     c.in_err-cell.ensures.end)
 
 pub returns-in_err-loops-clause-end : goal.returns-in_err-loops-clause-end
 returns-in_err-loops-clause-end c =
-    let p = err_from_is_err_and c.from_residual-in_err-loops.result c.from_residual-in_err-loops.ensures.1 in
-    rw (p.1, p.2)
+    failed_end _ _ _ _ c.from_residual-in_err-loops.ensures.1
     (loops_stop c.args.decider.now c.args.grid c.in_ok-commuting.commuting c.in_ok-cell.cell c.in_err-loops.field-0.0
     c.in_ok-commuting.ensures.end c.in_ok-cell.ensures.end c.in_err-loops.ensures.end)
 

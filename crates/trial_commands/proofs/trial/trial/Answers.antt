@@ -1,25 +1,23 @@
-use Rattle.trial_commands.proofs.Common.{yes_with, refl, err_from_is_err_and}
+use Rattle.commands.proofs.Running.{failed_end}
+use Rattle.trial_commands.proofs.Common.{yes_with, refl}
 use Rattle.trial_commands.specs.Trial.{trial_text}
 use Rattle.trial_commands.proofs.Trying.{surface_stops, few_stop, decisions_stop, trial_answered}
 use Rattle.trial_commands.proofs.trial.trial.Goals as goal
 
 pub returns-in_err-chain-clause-end : goal.returns-in_err-chain-clause-end
 returns-in_err-chain-clause-end c =
-    let p = err_from_is_err_and c.from_residual-in_err-chain.result c.from_residual-in_err-chain.ensures.1 in
-    rw (p.1, p.2)
+    failed_end _ _ _ _ c.from_residual-in_err-chain.ensures.1
     (surface_stops c.args.genus c.args.grid c.in_err-chain.field-0.0 c.in_ok-check_sizes.ensures.end c.in_err-chain.ensures.end)
 
 pub returns-in_err-measured-clause-end : goal.returns-in_err-measured-clause-end
 returns-in_err-measured-clause-end c =
-    let p = err_from_is_err_and c.from_residual-in_err-measured.result c.from_residual-in_err-measured.ensures.1 in
-    rw (p.1, p.2)
+    failed_end _ _ _ _ c.from_residual-in_err-measured.ensures.1
     (few_stop c.args.genus c.args.grid c.in_ok-chain.chain.faces c.in_err-measured.field-0.0 c.in_ok-check_sizes.ensures.end
     c.in_ok-chain.ensures.end c.in_err-measured.ensures.end)
 
 pub returns-in_err-decisions-clause-end : goal.returns-in_err-decisions-clause-end
 returns-in_err-decisions-clause-end c =
-    let p = err_from_is_err_and c.from_residual-in_err-decisions.result c.from_residual-in_err-decisions.ensures.1 in
-    rw (p.1, p.2)
+    failed_end _ _ _ _ c.from_residual-in_err-decisions.ensures.1
     (decisions_stop c.args.genus c.args.grid c.in_ok-chain.chain.faces c.in_ok-measured.measured.numbers
     c.in_ok-measured.measured.genera.items c.in_err-decisions.field-0.0
     (record {
@@ -33,7 +31,7 @@ returns-in_err-decisions-clause-end c =
 
 pub returns-in_err-lines-clause-end : goal.returns-in_err-lines-clause-end
 returns-in_err-lines-clause-end c =
-    let p = err_from_is_err_and c.from_residual-in_err-lines.result c.from_residual-in_err-lines.ensures.1 in rw (p.1, p.2) tt
+    failed_end _ _ _ _ c.from_residual-in_err-lines.ensures.1 tt
 
 pub returns-clause-end : goal.returns-clause-end
 returns-clause-end c =
