@@ -3,9 +3,8 @@ pub use Rattle.closed_surfaces.proofs.Genera.{one_genus, part_sphere, whole_sphe
 pub use Rattle.closed_surfaces.specs.SignedSurfaces.{IsComponentOf, IsPart, surface_of}
 pub use Rattle.closed_surfaces.specs.declared.component.Component.{Component}
 pub use Rattle.closed_surfaces.specs.declared.component.Component.TheVariants.{Alone, Whole}
-pub use Rattle.commands.proofs.Deciding.{at_places, behind, differs, refused_behind, walks_of_pair, yes_or_no}
+pub use Rattle.commands.proofs.Deciding.{at_places, behind, differs, pair_long, refused_behind, walks_of_pair, yes_or_no}
 pub use Rattle.commands.proofs.LimitLemmas.{fitting, none_over, refused_beyond}
-pub use Rattle.commands.proofs.Rows.{IsOutcomeOf, sound-pair}
 pub use Rattle.commands.proofs.Sound.{IsSound, held, sound-decided_by, sound-pass_unless, sound-then, unless_told}
 pub use Rattle.commands.specs.Answers.{Answer, Exactly}
 pub use Rattle.commands.specs.Certificates.{Convinces, IsShown, decision_of, decision_status}
@@ -20,7 +19,6 @@ pub use Rattle.labellings.specs.WalkWords.{IsWordOf}
 pub use Rattle.polygon_cut.specs.Polygons.{IsCutFrom, PolygonView}
 pub use Rattle.std.proofs.Common.{List, ap, arith, codes, false, get_or, inl, inr, length, refl, subst, sym, take, true, ℕ, [], ◌*◌, ◌++◌, ◌+◌, ◌<◌, ◌∙◌, ◌∷◌, ◌≡◌, ◌≤◌}
 pub use Rattle.std.proofs.lemmas.List.{ext_get_or, length-map, map-append, take_more}
-pub use Rattle.std.proofs.lemmas.Result.{err_from_is_err_and}
 pub use Rattle.std.specs.Prelude.{All, IfOk, IfSome, MatchOption, None, Option, Some, max, slice_get, ◌↔◌}
 pub use Rattle.surf_io.specs.Files.{Files}
 pub use Rattle.surf_model.specs.ComponentParts.{component_at, component_mesh}

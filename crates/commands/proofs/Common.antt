@@ -9,7 +9,7 @@ pub use Rattle.std.proofs.lemmas.List.{append-nil, length-replicate, map-append,
 pub use Rattle.std.proofs.lemmas.Option.{get_or_from_slice_get, slice_get-get_or, slice_get_read}
 pub use Rattle.std.proofs.lemmas.Result.{err_from_is_err_and}
 pub use Rattle.std.specs.Option.{option_map}
-pub use Rattle.std.specs.Prelude.{All, Err, IfSome, IsSome, IsSomeAnd, MatchOption, MatchResult, None, Ok, OnErr, OnOk, Option, Result, Some, bytes_eq, codes, decimal, flat_map, if◌then◌else◌, map, nat_le, nat_lt, replicate, slice_get, sum_by, ◌&&◌, ◌↔◌}
+pub use Rattle.std.specs.Prelude.{All, Err, IfSome, IsErrAnd, IsSome, IsSomeAnd, MatchOption, MatchResult, None, Ok, OnErr, OnOk, Option, Result, Some, bytes_eq, codes, decimal, flat_map, if◌then◌else◌, map, nat_le, nat_lt, replicate, slice_get, sum_by, ◌&&◌, ◌↔◌}
 pub use Rattle.surf_io.proofs.Appending.{appends_twice, on_err, part_after, part_first, part_last}
 pub use Rattle.surf_io.proofs.Gathering.{EachPut, all-written, each-all, each-fails, each-more, each-none, gathers-put, line_of-numbers, on_ok, only-then, part-written, puts-fails, puts-same, puts-then}
 pub use Rattle.surf_io.specs.Bytes.{Appends, AppendsPrefix, append_told}
@@ -22,5 +22,5 @@ pub use Rattle.surf_model.specs.Walks.{AreWalkPair, darts}
 pub use Rattle.surf_model.specs.declared.decisions.Answer.TheVariants.{Different, Homotopic}
 pub use Rattle.text_scan.specs.Plain.{line_of}
 pub use Rattle.walk_files.specs.DenialTexts.{denial_text, entry_words}
-pub use Rattle.walk_files.specs.Pairs.{IsPair, ends_fault, of_entry, pair_fault}
+pub use Rattle.walk_files.specs.Pairs.{IsPair, pair_fault}
 pub use Rattle.walk_files.specs.WalkTexts.{walk_text_of, walks_in, walks_of}

@@ -1,6 +1,5 @@
 -- Calls that read, one behind another.
-use Rattle.commands.proofs.Common.{◌≡◌, ℕ, ◌<◌, sym, ap, ◌∙◌, subst, arith, refl, Option, Result, Ok, Err, MatchResult, OnlyReads, Rose, Files}
-use Rattle.std.specs.Prelude.{IsErrAnd}
+use Rattle.commands.proofs.Common.{◌≡◌, ℕ, ◌<◌, sym, ap, ◌∙◌, subst, arith, refl, Option, Result, Ok, Err, MatchResult, IsErrAnd, OnlyReads, Rose, Files}
 use Rattle.walk_files.specs.declared.stream_end.StreamEnd.{StreamEnd}
 use Rattle.walk_files.specs.declared.stream_end.StreamEnd.TheVariants.{Fault, TooLarge, Cert}
 use Rattle.walk_files.specs.declared.stream_end.StreamEnd.TheVariants as ends

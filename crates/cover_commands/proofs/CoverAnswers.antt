@@ -1,8 +1,9 @@
 -- What is answered of files that spell a closed manifold, and two walks of it.
-use Rattle.cover_commands.proofs.Common.{mesh_valid, has_file_size, mesh_passes, spelled_pair, pair_told, held, meant_told, yes_with, Pass, Passes, Holds, IsTold, SpellsMesh, SpellsPair, AnswersTo, IsAnswerOf, Status, Yes, No, off_text, cover_by, lift_by, AreWays, ◌≡◌, inl, inr, ℕ, ◌<◌, Bool, true, false, List, [], ◌∷◌, length, get_or, refl, ap, sym, ◌∙◌, arith, cases_Bool, eqb-true, eq-eqb, both_ways, Option, Ok, if◌then◌else◌, Files, FaceList, IsFaceList, HasFileSize, IsClosedManifold, darts, IsWalk, HaveCommonEnds, AreWalkPair, WalkPair, walks_of}
+use Rattle.cover_commands.proofs.Common.{mesh_valid, has_file_size, mesh_passes, spelled_pair, pair_told, held, meant_told, yes_with, Pass, Passes, Holds, IsTold, SpellsMesh, SpellsPair, AnswersTo, IsAnswerOf, Yes, No, off_text, cover_by, lift_by, AreWays, ◌≡◌, inl, inr, ℕ, ◌<◌, Bool, true, false, List, [], ◌∷◌, length, get_or, refl, ap, sym, ◌∙◌, arith, cases_Bool, eqb-true, eq-eqb, both_ways, Option, Ok, if◌then◌else◌, Files, FaceList, IsFaceList, HasFileSize, IsClosedManifold, darts, IsWalk, HaveCommonEnds, AreWalkPair, WalkPair, walks_of}
 use Rattle.closed_covers.proofs.ClosedCovers.{cover_surface}
 use Rattle.commands.specs.Certificates.{decision_line}
 use Rattle.commands.specs.Refusals.{off_line}
+use Rattle.commands.specs.declared.status.Status.{Status}
 use Rattle.double_covers.proofs.LiftedMoves.{cover_valid}
 use Rattle.double_covers.proofs.Sheets.{length-lifted}
 use Rattle.off_reader.specs.OffTexts.{meaning_of}

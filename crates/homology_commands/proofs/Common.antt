@@ -28,7 +28,6 @@ pub use Rattle.std.proofs.lemmas.Bool.Decides.{nat_tests}
 pub use Rattle.std.proofs.lemmas.Int.{ints}
 pub use Rattle.std.proofs.lemmas.List.Elements.{All-cons, All-nil, All-push, filter_passes}
 pub use Rattle.std.proofs.lemmas.Option.{get_or_from_slice_get}
-pub use Rattle.std.proofs.lemmas.Result.{err_from_is_err_and}
 pub use Rattle.std.specs.List.{enumerate_from, list_any, range_with_len, sum_by}
 pub use Rattle.std.specs.Prelude.{All, Err, None, Ok, Option, Result, Some, filter, if◌then◌else◌, map, nat_le, nat_lt, neg_ℤ, slice_get, unsigned_abs, ◌&&◌, ◌*ℤ◌, ◌==◌, ◌||◌}
 pub use Rattle.surf_io.specs.Files.{Files}

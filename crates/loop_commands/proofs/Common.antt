@@ -12,4 +12,4 @@ pub use Rattle.std.specs.Prelude.{Option, Some, slice_get, ◌↔◌}
 pub use Rattle.surf_io.specs.Files.{Files}
 pub use Rattle.surf_model.specs.FaceLists.{FaceList}
 pub use Rattle.surface_commands.proofs.SurfaceRows.{outcome_behind, sound-surface_in}
-pub use Rattle.walk_files.specs.ClosedPairs.{IsClosedPair, loops_fault, of_entry, open_fault}
+pub use Rattle.walk_files.specs.ClosedPairs.{IsClosedPair, loops_fault}

@@ -39,7 +39,7 @@ pub use Rattle.spoke_paths.specs.PathSteps.{PathLeads, after_path_step, after_pa
 pub use Rattle.spoke_paths.specs.PathTurns.{HasQuads, from_vertex}
 pub use Rattle.spoke_paths.specs.declared.step.PathStep.{PathStep}
 pub use Rattle.spoke_paths.specs.declared.step.PathStep.TheVariants.{Spur, Turn}
-pub use Rattle.std.proofs.Common.{Bool, List, ap, append_assoc, arith, cond, drop, eqb, false, get_or, inl, inr, is_some, length, length-append, max, not, refl, rules, set, subst, suc, sym, take, true, zero, ℕ, [], ◌%◌, ◌&&◌, ◌*◌, ◌++◌, ◌+◌, ◌-◌, ◌/◌, ◌<◌, ◌^◌, ◌||◌, ◌∙◌, ◌∷◌, ◌≡◌, ◌≢◌, ◌≤◌, ◌⊎◌}
+pub use Rattle.std.proofs.Common.{Bool, List, ap, append_assoc, ap₂, arith, cond, drop, eqb, false, get_or, inl, inr, is_some, length, length-append, max, not, refl, rules, set, subst, suc, sym, take, true, zero, ℕ, [], ◌%◌, ◌&&◌, ◌*◌, ◌++◌, ◌+◌, ◌-◌, ◌/◌, ◌<◌, ◌^◌, ◌||◌, ◌∙◌, ◌∷◌, ◌≡◌, ◌≢◌, ◌≤◌, ◌⊎◌}
 pub use Rattle.std.proofs.Math.Nat.{mul-le-mul_left, mul-le-mul_right}
 pub use Rattle.std.proofs.Math.Seq.{take-append_seam}
 pub use Rattle.std.proofs.lemmas.Bool.{both_ways, cases_Bool, cases_eq, cases_lt, eq-eqb, eqb-true, ne_eqb, or_cases, or_left, or_right}

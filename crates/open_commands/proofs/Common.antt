@@ -1,11 +1,11 @@
 -- What proofs of this crate cite of others, passed on from one place (by tools/imports). Declares nothing.
-pub use Rattle.commands.proofs.Checking.{memory_stops, stops_first, stops_next, stops_second, told_stops}
-pub use Rattle.commands.proofs.Deciding.{IsRightAnswer, behind, differs, refused_behind, right_answer, sound-decided, walks_of_pair, yes_or_no}
+pub use Rattle.commands.proofs.Checking.{first_fault_stops, stops_first, stops_next, stops_second, told_stops}
+pub use Rattle.commands.proofs.Deciding.{IsRightAnswer, behind, differs, pair_long, refused_behind, right_answer, sound-decided, walks_of_pair, yes_or_no}
 pub use Rattle.commands.proofs.LimitLemmas.{fitting, none_over, refused_beyond}
 pub use Rattle.commands.proofs.RightAnswers.{no_yes, refused_so}
 pub use Rattle.commands.proofs.Rows.{IsOutcomeOf, mesh_passes, pair_told, sound-mesh, sound-pair, spelled_pair}
-pub use Rattle.commands.proofs.Running.{memory_no_fault, only_self, only_then, reads_ended, reads_faulty, reads_made, reads_then, runs_faulty, runs_replied, runs_stopped, tells_no_fault}
-pub use Rattle.commands.proofs.Sound.{IsSound, held, meant_told, sound-decided_by, sound-pass_unless, sound-then, unless_told}
+pub use Rattle.commands.proofs.Running.{failed_end, memory_no_fault, only_self, only_then, reads_ended, reads_faulty, reads_made, reads_then, runs_faulty, runs_replied, runs_stopped, tells_no_fault}
+pub use Rattle.commands.proofs.Sound.{IsSound, held, meant_told, sound-decided_by, sound-pass_unless, sound-then, sound-unless_fault, unless_told}
 pub use Rattle.commands.specs.Answers.{Answer, Exactly}
 pub use Rattle.commands.specs.Certificates.{Convinces, certificate_text, decision_line}
 pub use Rattle.commands.specs.Checks.{Check, End, Holds, IsTold, Pass, Passes, Refuse, pass_unless, ◌>>=◌}
@@ -16,12 +16,10 @@ pub use Rattle.commands.specs.Stops.{Stops, Tells}
 pub use Rattle.commands.specs.declared.certificate.Certificate.TheVariants.{Moves}
 pub use Rattle.commands.specs.declared.status.Status.{Status}
 pub use Rattle.commands.specs.declared.status.Status.TheVariants.{No, Refused, Yes}
-pub use Rattle.commands.specs.declared.stop.Stop.TheVariants.{OutOfMemory}
 pub use Rattle.free_forms.specs.PeakedLists.{IsWithin, LeadsAtPeak}
 pub use Rattle.free_forms.specs.declared.limits.TheConstants.{MOST_OPEN_DARTS, MOST_OPEN_SIDES, MOST_OPEN_STEPS}
 pub use Rattle.std.proofs.Common.{Bool, List, ap, arith, codes, false, get_or, inl, inr, length, length-append, refl, subst, suc, sym, true, zero, ℕ, [], ◌*◌, ◌++◌, ◌+◌, ◌<◌, ◌^◌, ◌∙◌, ◌∷◌, ◌≡◌, ◌≤◌, ◌⊎◌}
 pub use Rattle.std.proofs.lemmas.Option.{get_or_from_slice_get}
-pub use Rattle.std.proofs.lemmas.Result.{err_from_is_err_and}
 pub use Rattle.std.specs.Prelude.{All, Err, IfNone, IfOk, IfSome, IsTrue, MatchOption, MatchResult, None, Ok, Option, Result, Some, decimal, flat_map, if◌then◌else◌, map, slice_get, sum_by, ◌↔◌}
 pub use Rattle.surf_io.specs.Files.{Files}
 pub use Rattle.surf_model.specs.FaceLists.{FaceList, HasFileSize, IsFace, IsFaceList, corners_from, face_at, is_used, total_sides}

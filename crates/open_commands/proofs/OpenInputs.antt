@@ -1,7 +1,6 @@
 -- How the checks of an open surface and of walks of it end.
-use Rattle.open_commands.proofs.Common.{stops_next, stops_second, told_stops, walks_of_pair, sound-mesh, sound-pair, mesh_passes, pair_told, IsSound, sound-then, sound-pass_unless, meant_told, unless_told, Exactly, Check, Refuse, Pass, Passes, Holds, IsTold, pass_unless, ◌>>=◌, mesh_in, pair_in, walk_at, SpellsMesh, orientable, Stops, Tells, MOST_OPEN_SIDES, MOST_OPEN_DARTS, ◌≡◌, inr, ℕ, ◌+◌, ◌≤◌, List, refl, sym, ap, subst, arith, get_or_from_slice_get, Option, Some, None, Result, Ok, Err, IfOk, MatchResult, slice_get, Files, FaceList, IsFaceList, total_sides, darts, AreWalkPair}
+use Rattle.open_commands.proofs.Common.{stops_next, stops_second, told_stops, walks_of_pair, sound-mesh, sound-pair, mesh_passes, pair_told, IsSound, sound-then, sound-pass_unless, meant_told, unless_told, sound-unless_fault, Exactly, Check, Refuse, Pass, Passes, Holds, IsTold, pass_unless, ◌>>=◌, mesh_in, pair_in, walk_at, SpellsMesh, orientable, Stops, Tells, MOST_OPEN_SIDES, MOST_OPEN_DARTS, ◌≡◌, inr, ℕ, ◌+◌, ◌≤◌, List, refl, sym, ap, subst, arith, get_or_from_slice_get, Option, Some, None, Result, Ok, Err, IfOk, MatchResult, slice_get, Files, FaceList, IsFaceList, total_sides, darts, AreWalkPair}
 use Rattle.commands.proofs.MeshTexts.{mesh_valid, sound-orientable}
-use Rattle.commands.proofs.Sound.{sound-unless_fault}
 use Rattle.commands.specs.Refusals.{told, off_line}
 use Rattle.commands.specs.declared.stop.Stop.{Stop}
 use Rattle.free_forms.proofs.FaultLemmas.{one_fault, no_fault}

@@ -1,8 +1,10 @@
 -- What proofs of this crate cite of others, passed on from one place (by tools/imports). Declares nothing.
 pub use Rattle.certify_commands.proofs.CertifyOutcomes.{certified_so, sound-certify}
 pub use Rattle.certify_commands.specs.Certify.{IsCertificatePrinted, IsCertified, IsCertifyInput, IsWithinLimits, certified, certify_limits, limit_fault, limit_word}
+pub use Rattle.commands.proofs.Answering.{answers, wrote_all, wrote_part}
+pub use Rattle.commands.proofs.Checking.{both_passed, meant_passed, stops_next, told_stops, unless_passed}
 pub use Rattle.commands.proofs.Running.{runs_refused, runs_unread}
-pub use Rattle.commands.proofs.Sound.{IsSound, held, sound-found, sound-then}
+pub use Rattle.commands.proofs.Sound.{IsSound, file_holds, held, sound-found, sound-then}
 pub use Rattle.commands.specs.Answers.{Answer, Exactly, Texts, yes_with}
 pub use Rattle.commands.specs.Certificates.{Convinces, IsPeakLow, IsShortOnSphere, certificate_text, decision_of, decision_status}
 pub use Rattle.commands.specs.Checks.{Check, Holds, IsTold, Pass, Passes, Refuse, file, found_or, meant, pass, pass_unless, ◌>>=◌}
@@ -16,10 +18,9 @@ pub use Rattle.commands.specs.Words.{texts}
 pub use Rattle.commands.specs.declared.certificate.Certificate.{Certificate}
 pub use Rattle.commands.specs.declared.certificate.Certificate.TheVariants.{Denial, Moves}
 pub use Rattle.commands.specs.declared.inputs.TheConstants.{MOST_BYTES}
-pub use Rattle.commands.specs.declared.refusal.Input.{Input}
 pub use Rattle.commands.specs.declared.reply.Reply.{Reply}
 pub use Rattle.commands.specs.declared.status.Status.{Status}
-pub use Rattle.commands.specs.declared.status.Status.TheVariants.{No, OutOfMemory, Refused, WriteFault, Yes}
+pub use Rattle.commands.specs.declared.status.Status.TheVariants.{No, OutOfMemory, Refused, Yes}
 pub use Rattle.homology_commands.specs.Homology.{IsHomologyInput, IsHomologyPrinted, homology_shown}
 pub use Rattle.homology_files.specs.HomologyTexts.{cert_of_text}
 pub use Rattle.loop_commands.specs.Loops.{IsLoopsInput, SpellsLoops, freely_decided, loops_in, loops_line}

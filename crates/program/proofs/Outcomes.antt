@@ -1,7 +1,5 @@
 -- The outcome of a list of words, and what is told of a run.
-use Rattle.program.proofs.Common.{Refuse, Pass, found_or, wrong_words, Replies, reply_status, reply_text, Runs, IsAnswered, Stops, Tells, Reply, inl, inr, ℕ, List, refl, Option, Result, Ok, Err, MatchResult, Files}
-use Rattle.commands.proofs.Answering.{answers}
-use Rattle.commands.proofs.Checking.{stops_next, told_stops}
+use Rattle.program.proofs.Common.{answers, stops_next, told_stops, Refuse, Pass, found_or, wrong_words, Replies, reply_status, reply_text, Runs, IsAnswered, Stops, Tells, Reply, inl, inr, ℕ, List, refl, Option, Result, Ok, Err, MatchResult, Files}
 use Rattle.commands.specs.declared.stop.Stop.{Stop}
 use Rattle.commands.specs.declared.text.Text.{Text}
 use Rattle.commands.specs.declared.reply.Reply.TheVariants as replies

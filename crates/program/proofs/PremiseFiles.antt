@@ -1,6 +1,7 @@
 -- What passes the checks of a file that is told is what the file stands for.
-use Rattle.program.proofs.Common.{Texts, Pass, Passes, IsTold, Holds, file, meant, pass_unless, ◌>>=◌, IsCertificateEnd, SpellsCertificate, SpellsMesh, SpellsPair, certificate_in, certificate_in_bytes, certificate_of, mesh_in, pair_in, walk_at, walks_unless, orientable, certificate_line, numbers_line, off_line, pair_line, Certificate, Input, cert_of_text, SpellsLoops, loops_in, loops_line, as_open_surface, open_surface, open_surface_in, SpellsPairs, pairs_in, pairs_line, ◌≡◌, ℕ, List, [], ◌∷◌, refl, sym, ap, subst, ◌∙◌, Option, None, Result, Ok, Err, All, Files, file_of, FaceList, IsOrientableSurface, AreWalkPair, as_surface, closed, surface_in, ArePairs, in_pairs, pairs_fault, WalkText, walk_text_of, walks_in, walks_of}
+use Rattle.program.proofs.Common.{both_passed, meant_passed, unless_passed, file_holds, Texts, Pass, Passes, IsTold, Holds, file, meant, pass_unless, ◌>>=◌, IsCertificateEnd, SpellsCertificate, SpellsMesh, SpellsPair, certificate_in, certificate_in_bytes, certificate_of, mesh_in, pair_in, walk_at, walks_unless, orientable, certificate_line, numbers_line, off_line, pair_line, Certificate, cert_of_text, SpellsLoops, loops_in, loops_line, as_open_surface, open_surface, open_surface_in, SpellsPairs, pairs_in, pairs_line, ◌≡◌, ℕ, List, [], ◌∷◌, refl, sym, ap, subst, ◌∙◌, Option, None, Result, Ok, Err, All, Files, file_of, FaceList, IsOrientableSurface, AreWalkPair, as_surface, closed, surface_in, ArePairs, in_pairs, pairs_fault, WalkText, walk_text_of, walks_in, walks_of}
 use Rattle.closed_walks.specs.FreeHomotopy.{IsClosedWalk}
+use Rattle.commands.specs.declared.refusal.Input.{Input}
 use Rattle.free_forms.specs.OpenSurfaces.{IsOpenSurface}
 use Rattle.homology.specs.declared.certificate.HomologyCert.{HomologyCert}
 use Rattle.off_reader.specs.OffTexts.{meaning_of}
@@ -15,8 +16,6 @@ use Rattle.walk_files.specs.Pairs.{pair_fault}
 use Rattle.walk_files.specs.declared.fault.WalkFault.{WalkFault}
 use Rattle.commands.specs.declared.refusal.Input.TheVariants as inputs
 use Rattle.verify_homology_commands.specs.VerifyHomology as homology
-use Rattle.commands.proofs.Checking.{both_passed, meant_passed, unless_passed}
-use Rattle.commands.proofs.Sound.{file_holds}
 use Rattle.program.proofs.PremiseLemmas.{told_check}
 
 -- ---- a file that means one thing

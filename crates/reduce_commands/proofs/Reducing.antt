@@ -1,6 +1,5 @@
 -- How the checks of `reduce` end.
-use Rattle.reduce_commands.proofs.Common.{stops_first, told_stops, stops_next, tells_no_fault, Answer, NoText, yes_with, End, Refuse, Pass, Passes, IsTold, file, meant, pass_unless, Check, pass, ◌>>=◌, Outcome, status_of, numbers_line, words_text, ◌≡◌, ◌⊎◌, inl, inr, ℕ, ◌<◌, ◌≤◌, Bool, true, false, List, [], ◌∷◌, ◌++◌, refl, sym, ap, ◌∙◌, subst, arith, nat_lt, if◌then◌else◌, Option, Some, None, Result, Err, is_some, All, Files, NumberLine, words_of}
-use Rattle.commands.proofs.Checking.{meant_passed, unless_passed}
+use Rattle.reduce_commands.proofs.Common.{stops_first, told_stops, stops_next, meant_passed, unless_passed, tells_no_fault, Answer, NoText, yes_with, End, Refuse, Pass, Passes, IsTold, file, meant, pass_unless, Check, pass, ◌>>=◌, Outcome, status_of, numbers_line, words_text, ◌≡◌, ◌⊎◌, inl, inr, ℕ, ◌<◌, ◌≤◌, Bool, true, false, List, [], ◌∷◌, ◌++◌, refl, sym, ap, ◌∙◌, subst, arith, nat_lt, if◌then◌else◌, Option, Some, None, Result, Err, is_some, All, Files, NumberLine, words_of}
 use Rattle.commands.proofs.Sound.{IsSound, sound-then, sound-pass, sound-meant, sound-pass_unless, sound-file, meant_told, unless_told, held, file_holds}
 use Rattle.commands.specs.Stops.{Stops, Tells}
 use Rattle.commands.specs.declared.status.Status.TheVariants.{Yes}

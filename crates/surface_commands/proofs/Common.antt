@@ -5,7 +5,7 @@ pub use Rattle.commands.proofs.Checking.{stops_first, stops_next, stops_second, 
 pub use Rattle.commands.proofs.MeshTexts.{mesh_valid, sound-orientable}
 pub use Rattle.commands.proofs.Rows.{IsOutcomeOf, mesh_passes, mesh_told, pair_told, sound-mesh, sound-pair, spelled_pair}
 pub use Rattle.commands.proofs.Running.{err_no_fault, memory_no_fault, only_then, reads_ended, runs_faulty, runs_replied, runs_stopped, tells_no_fault}
-pub use Rattle.commands.proofs.Sound.{IsSound, held, meant_told, sound-pass, sound-then}
+pub use Rattle.commands.proofs.Sound.{IsSound, held, meant_told, sound-pass, sound-then, sound-unless_fault}
 pub use Rattle.commands.specs.Answers.{Answer, OfOddChain, yes_with}
 pub use Rattle.commands.specs.Checks.{Check, End, Holds, IsTold, Pass, Passes, Refuse, pass, ◌>>=◌}
 pub use Rattle.commands.specs.Inputs.{IsInputOnSurface, SpellsMesh, SpellsPair, mesh_in, pair_in}
@@ -14,10 +14,12 @@ pub use Rattle.commands.specs.Stops.{Reads, Stops, Tells}
 pub use Rattle.commands.specs.declared.status.Status.{Status}
 pub use Rattle.commands.specs.declared.stop.Stop.{Stop}
 pub use Rattle.commands.specs.declared.stop.Stop.TheVariants.{OutOfMemory, ReadFault, Refused}
+pub use Rattle.manifold_check.specs.Faults.{IsFirstFault}
 pub use Rattle.std.proofs.Common.{List, ap, arith, codes, inl, inr, refl, subst, sym, take, ℕ, [], ◌++◌, ◌<◌, ◌∙◌, ◌∷◌, ◌≡◌, ◌≤◌}
-pub use Rattle.std.specs.Prelude.{Err, IfOk, MatchResult, Ok, Option, Result, length, map}
+pub use Rattle.std.specs.Prelude.{Err, IfOk, IsErrAnd, MatchResult, Ok, Option, Result, length, map}
 pub use Rattle.surf_io.specs.Files.{Files}
 pub use Rattle.surf_model.specs.FaceLists.{FaceList, IsFaceList}
 pub use Rattle.surf_model.specs.Genera.{AreNumbersOf}
 pub use Rattle.surf_model.specs.OrientableSurfaces.{HasComponents, IsOrientableSurface}
+pub use Rattle.surf_model.specs.Surfaces.{IsClosedManifold, IsOrientable}
 pub use Rattle.surf_model.specs.declared.numbers.SurfaceNumbers.{SurfaceNumbers}

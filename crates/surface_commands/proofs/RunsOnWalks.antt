@@ -1,8 +1,7 @@
 -- Commands that read a surface, then walks of it, and answer what is asked of these.
-use Rattle.surface_commands.proofs.Common.{stops_next, stops_second, memory_no_fault, only_then, runs_faulty, runs_replied, runs_stopped, Answer, Check, Passes, ◌>>=◌, Reads, Stops, Stop, ReadFault, OutOfMemory, ◌≡◌, ℕ, List, inr, subst, Option, Result, Ok, Err, Files, FaceList}
+use Rattle.surface_commands.proofs.Common.{stops_next, stops_second, memory_no_fault, only_then, runs_faulty, runs_replied, runs_stopped, Answer, Check, Passes, ◌>>=◌, Reads, Stops, Stop, ReadFault, OutOfMemory, ◌≡◌, ℕ, List, inr, subst, Option, Result, Ok, Err, IsErrAnd, Files, FaceList}
 use Rattle.commands.specs.Replies.{Replies, Runs}
 use Rattle.commands.specs.declared.reply.Reply.{Reply}
-use Rattle.std.specs.Prelude.{IsErrAnd}
 use Rattle.surf_io.specs.Calls.{OnlyReads}
 use Rattle.surface_commands.specs.SurfaceInput.{surface_in}
 

@@ -1,5 +1,5 @@
 -- How the checks of a surface end.
-use Rattle.surface_commands.proofs.Common.{stops_next, told_stops, sound-orientable, IsSound, sound-then, OfOddChain, End, Refuse, Pass, Passes, mesh_in, Stops, Tells, Stop, Refused, ◌≡◌, inl, inr, ℕ, ◌<◌, ◌≤◌, List, refl, sym, ap, subst, arith, Option, Result, Ok, Err, IfOk, MatchResult, length, Files, FaceList, IsFaceList, HasComponents}
+use Rattle.surface_commands.proofs.Common.{stops_next, told_stops, sound-orientable, IsSound, sound-then, sound-unless_fault, OfOddChain, End, Refuse, Pass, Passes, mesh_in, Stops, Tells, Stop, Refused, IsFirstFault, ◌≡◌, inl, inr, ℕ, ◌<◌, ◌≤◌, List, refl, sym, ap, subst, arith, Option, Result, Ok, Err, IfOk, MatchResult, length, Files, FaceList, IsFaceList, HasComponents, IsClosedManifold}
 use Rattle.closed_surfaces.proofs.SomeParts.{some_parts, same_count}
 use Rattle.closed_surfaces.specs.SignedSurfaces.{IsNoSurface}
 use Rattle.closed_surfaces.specs.declared.signed_mesh.NoSurface.{NoSurface}
@@ -8,9 +8,6 @@ use Rattle.closed_surfaces.specs.declared.signed_mesh.SignedMesh.{SignedMesh}
 use Rattle.commands.specs.declared.text.Text.TheVariants.{OddChain}
 use Rattle.manifold_check.proofs.FaultLemmas.{one_fault, no_fault}
 use Rattle.manifold_check.proofs.OutcomeLemmas.{closed_or_fault}
-use Rattle.manifold_check.specs.Faults.{IsFirstFault}
-use Rattle.commands.proofs.Sound.{sound-unless_fault}
-use Rattle.surf_model.specs.Surfaces.{IsClosedManifold}
 use Rattle.std.proofs.lemmas.Bool.{cases_lt}
 use Rattle.surf_model.specs.ComponentParts.{PartsView, AreParts}
 use Rattle.surf_model.specs.declared.chains.ChainLink.{ChainLink}

@@ -2,6 +2,7 @@
 pub use Rattle.closed_surfaces.specs.ComponentGenera.{AreGeneraOf}
 pub use Rattle.commands.proofs.Checking.{read_passes, stops_first, stops_next, told_stops}
 pub use Rattle.commands.proofs.Deciding.{behind, differs, one_decision, refused_behind, walks_of_pair}
+pub use Rattle.commands.proofs.Running.{failed_end}
 pub use Rattle.commands.proofs.Sound.{IsSound, meant_told, sound-meant, sound-pass, sound-pass_unless, sound-then, unless_told}
 pub use Rattle.commands.specs.Answers.{Answer, yes_with}
 pub use Rattle.commands.specs.Checks.{Check, End, Pass, Passes, Refuse, meant, pass, pass_unless, ◌>>=◌}
@@ -13,7 +14,6 @@ pub use Rattle.off_reader.specs.OffTexts.{meaning_of}
 pub use Rattle.off_reader.specs.declared.off_fault.OffFault.TheVariants.{BadVertex, OutOfMemory}
 pub use Rattle.std.proofs.Common.{List, ap, arith, codes, false, get_or, inl, inr, length, map, refl, subst, suc, sym, true, zero, ℕ, [], ◌*◌, ◌++◌, ◌<◌, ◌^◌, ◌∙◌, ◌∷◌, ◌≡◌, ◌≤◌}
 pub use Rattle.std.proofs.lemmas.Bool.{and_from, le-leb}
-pub use Rattle.std.proofs.lemmas.Result.{err_from_is_err_and}
 pub use Rattle.std.specs.Prelude.{Err, IfOk, MatchResult, None, Ok, Option, Result, Some, decimal, flat_map, if◌then◌else◌, nat_le, sum_by, ◌↔◌, ◌≢◌}
 pub use Rattle.surf_gen.specs.ChainTexts.{chain_text, coordinates}
 pub use Rattle.surf_gen.specs.Chains.{cells, chain_mesh, face, vertices}

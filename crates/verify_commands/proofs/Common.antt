@@ -1,9 +1,10 @@
 -- What proofs of this crate cite of others, passed on from one place (by tools/imports). Declares nothing.
 pub use Rattle.commands.proofs.Checking.{stops_first, stops_next, stops_second, told_stops}
+pub use Rattle.commands.proofs.Judgements.{IsJudgedBy, first_failing, judged_by, judgement_answered}
 pub use Rattle.commands.proofs.MeshTexts.{mesh_valid}
 pub use Rattle.commands.proofs.Rows.{mesh_passes, sound-mesh, sound-pair}
 pub use Rattle.commands.proofs.Running.{judged_no_fault, only_self, only_then, reads_ended, reads_made, reads_stopped, reads_then, runs_read, runs_stopped}
-pub use Rattle.commands.proofs.Sound.{IsSound, held, meant_told, sound-file, sound-meant, sound-pass, sound-then, sound-where_told}
+pub use Rattle.commands.proofs.Sound.{IsSound, held, meant_told, one_made, sound-file, sound-meant, sound-pass, sound-then, sound-where_told}
 pub use Rattle.commands.specs.Answers.{Answer, IsText, Texts}
 pub use Rattle.commands.specs.Checks.{Check, End, Holds, IsTold, Pass, Passes, Refuse, file, meant, where_told, ◌>>=◌}
 pub use Rattle.commands.specs.Inputs.{IsCertificateEnd, SpellsCertificate, SpellsPair, as_certificate, certificate_behind, certificate_in, certificate_in_bytes, certificate_of, mesh_in, pair_in, walk_at}

@@ -1,7 +1,5 @@
 -- Each denial has a verdict, and one.
-use Rattle.commands.proofs.Judgements.{first_failing}
-use Rattle.commands.proofs.Sound.{one_made}
-use Rattle.verify_commands.proofs.Common.{IsSound, sound-pass, Pass, Certificate, Moves, Denial, IsVerdict, HasShape, HasDegree, HasPlaces, IsGood, LabellingView, DenialVerdict, ◌≡◌, ◌⊎◌, inl, inr, ℕ, zero, suc, ◌<◌, List, length, refl, arith, Option, slice_index, Files, Edge, edge_in, FaceList, IsFaceList}
+use Rattle.verify_commands.proofs.Common.{first_failing, one_made, IsSound, sound-pass, Pass, Certificate, Moves, Denial, IsVerdict, HasShape, HasDegree, HasPlaces, IsGood, LabellingView, DenialVerdict, ◌≡◌, ◌⊎◌, inl, inr, ℕ, zero, suc, ◌<◌, List, length, refl, arith, Option, slice_index, Files, Edge, edge_in, FaceList, IsFaceList}
 use Rattle.labellings.proofs.EdgeRuleLemmas.{each-edge, least-against}
 use Rattle.labellings.proofs.VerdictLemmas.{one_verdict}
 use Rattle.labellings.specs.TableRules.{EntryMeetsRule}

@@ -1,6 +1,5 @@
 -- `verify` in the words of the mesh.
-use Rattle.verify_commands.proofs.Common.{mesh_valid, mesh_passes, held, meant_told, Answer, IsText, Refuse, Pass, Passes, IsTold, Holds, IsCertificateEnd, certificate_in, certificate_in_bytes, certificate_of, SpellsPair, SpellsCertificate, Outcome, AnswersTo, IsAnswerOf, certificate_line, Certificate, Status, Yes, IsVerdict, DenialHolds, DenialVerdict, accepted_exactly, verdict_of, Verdict, Accepted, Peak, AtMove, ◌≡◌, inr, ℕ, ◌≤◌, List, [], ◌∷◌, codes, refl, sym, ap, ◌∙◌, subst, ◌↔◌, Option, Files, FaceList, PeakedMoves, Leads, greatest_darts}
-use Rattle.commands.proofs.Judgements.{IsJudgedBy, judged_by, judgement_answered}
+use Rattle.verify_commands.proofs.Common.{IsJudgedBy, judged_by, judgement_answered, mesh_valid, mesh_passes, held, meant_told, Answer, IsText, Refuse, Pass, Passes, IsTold, Holds, IsCertificateEnd, certificate_in, certificate_in_bytes, certificate_of, SpellsPair, SpellsCertificate, Outcome, AnswersTo, IsAnswerOf, certificate_line, Certificate, Status, Yes, IsVerdict, DenialHolds, DenialVerdict, accepted_exactly, verdict_of, Verdict, Accepted, Peak, AtMove, ◌≡◌, inr, ℕ, ◌≤◌, List, [], ◌∷◌, codes, refl, sym, ap, ◌∙◌, subst, ◌↔◌, Option, Files, FaceList, PeakedMoves, Leads, greatest_darts}
 use Rattle.labellings.proofs.WalkWordLemmas.{denial_excludes}
 use Rattle.labellings.specs.declared.denial.Denial.{Denial}
 use Rattle.move_checker.specs.declared.judge.Verdict.TheVariants.{End}

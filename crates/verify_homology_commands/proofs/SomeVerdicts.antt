@@ -1,7 +1,5 @@
 -- Each certificate of homology has a verdict, and one.
-use Rattle.commands.proofs.Judgements.{first_failing}
-use Rattle.commands.proofs.Sound.{one_made}
-use Rattle.verify_homology_commands.proofs.Common.{IsSound, Pass, face_number, edge_number, HasEdge, HasFace, IsFirstAgainst, IsVerdict, HomologyCert, HomologyVerdict, ◌≡◌, ℕ, List, [], ◌∷◌, length, get_or, map, refl, subst, arith, ℤ, pos, ◌-ℤ◌, All, Option, Files, FaceList, IsFaceList}
+use Rattle.verify_homology_commands.proofs.Common.{first_failing, one_made, IsSound, Pass, face_number, edge_number, HasEdge, HasFace, IsFirstAgainst, IsVerdict, HomologyCert, HomologyVerdict, ◌≡◌, ℕ, List, [], ◌∷◌, length, get_or, map, refl, subst, arith, ℤ, pos, ◌-ℤ◌, All, Option, Files, FaceList, IsFaceList}
 use Rattle.homology.proofs.ChainVerdictLemmas.{chain_fails, chain_holds}
 use Rattle.homology.proofs.VerdictLemmas.{one_verdict}
 use Rattle.homology.specs.Chains.{boundary, count_difference}

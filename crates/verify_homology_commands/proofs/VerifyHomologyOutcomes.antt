@@ -1,6 +1,5 @@
 -- `verify-homology` in the words of the mesh.
-use Rattle.verify_homology_commands.proofs.Common.{IsSound, sound-then, sound-meant, sound-file, held, meant_told, Answer, Refuse, Pass, walk_at, SpellsPair, face_number, edge_number, IsVerdict, HomologyCert, HomologyVerdict, cert_of_text, ◌≡◌, inr, ℕ, List, [], ◌∷◌, codes, refl, sym, ◌∙◌, subst, Option, Files, FaceList}
-use Rattle.commands.proofs.Judgements.{IsJudgedBy, judged_by, judgement_answered}
+use Rattle.verify_homology_commands.proofs.Common.{IsJudgedBy, judged_by, judgement_answered, IsSound, sound-then, sound-meant, sound-file, held, meant_told, Answer, Refuse, Pass, walk_at, SpellsPair, face_number, edge_number, IsVerdict, HomologyCert, HomologyVerdict, cert_of_text, ◌≡◌, inr, ℕ, List, [], ◌∷◌, codes, refl, sym, ◌∙◌, subst, Option, Files, FaceList}
 use Rattle.commands.proofs.MeshTexts.{mesh_valid}
 use Rattle.commands.proofs.Rows.{sound-mesh, sound-pair}
 use Rattle.commands.specs.Outcomes.{Outcome, AnswersTo, IsAnswerOf}

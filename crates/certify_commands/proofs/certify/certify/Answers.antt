@@ -1,5 +1,4 @@
-use Rattle.commands.proofs.Deciding.{pair_long}
-use Rattle.certify_commands.proofs.Common.{walks_of_pair, fitting, Exactly, decision_of, pair_in, arith, AreWalkPair}
+use Rattle.certify_commands.proofs.Common.{pair_long, walks_of_pair, fitting, Exactly, decision_of, pair_in, arith, AreWalkPair}
 use Rattle.commands.proofs.Running.{tells_no_fault}
 use Rattle.surface_commands.proofs.RunsOnWalks.{runs_asked, runs_refused_next, runs_refused_walks, runs_wanting}
 use Rattle.certify_commands.specs.Certify.{certificate_answer, certify_limits, limit_word}

@@ -1,5 +1,6 @@
-use Rattle.certify_commands.proofs.Common.{refl, sym, err_from_is_err_and}
+use Rattle.certify_commands.proofs.Common.{refl, sym}
 use Rattle.closed_surfaces.proofs.Components.{walk_there}
+use Rattle.std.proofs.lemmas.Result.{err_from_is_err_and}
 use Rattle.certify_commands.proofs.FoundLemmas.{limits_there}
 use Rattle.certify_commands.proofs.certify.find_certificate.Goals as goal
 

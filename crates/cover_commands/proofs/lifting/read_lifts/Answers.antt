@@ -1,6 +1,5 @@
-use Rattle.cover_commands.proofs.Common.{Passes, Stops, subst, Option, MatchResult, Files}
+use Rattle.cover_commands.proofs.Common.{reads_behind, Passes, Stops, subst, Option, MatchResult, Files}
 use Rattle.cover_commands.specs.MeshCover.{lifts_behind, seen, seen_lifts}
-use Rattle.commands.proofs.Running.{reads_behind}
 use Rattle.cover_commands.proofs.CoverChecks.{lifts_end}
 use Rattle.cover_commands.proofs.lifting.read_lifts.Goals as goal
 

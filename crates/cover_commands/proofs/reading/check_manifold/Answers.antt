@@ -1,6 +1,5 @@
-use Rattle.cover_commands.proofs.Common.{refl, tells_no_fault, surface_line}
-use Rattle.commands.proofs.Checking.{first_fault_stops}
-use Rattle.surface_commands.specs.SurfaceInput.{closed}
+use Rattle.cover_commands.proofs.Common.{first_fault_stops, tells_no_fault, refl, closed}
+use Rattle.surface_commands.specs.SurfaceRefusals.{surface_line}
 use Rattle.cover_commands.proofs.reading.check_manifold.Goals as goal
 
 pub returns-in-Err-clause-end : goal.returns-in-Err-clause-end

@@ -1,6 +1,5 @@
-use Rattle.cover_commands.proofs.Common.{refl, tells_no_fault, subst, HasFileSize}
+use Rattle.cover_commands.proofs.Common.{first_fault_stops, tells_no_fault, refl, subst, HasFileSize}
 use Rattle.cover_commands.specs.MeshCover.{cover_line, covered, seen}
-use Rattle.commands.proofs.Checking.{first_fault_stops}
 use Rattle.cover_commands.proofs.reading.cover_on.Goals as goal
 
 pub returns-in-Ok : goal.returns-in-Ok

@@ -1,4 +1,4 @@
-use Rattle.commands.proofs.Running.{failed_end}
+use Rattle.cover_commands.proofs.Common.{failed_end}
 use Rattle.cover_commands.proofs.CoverChecks.{ways_stop, ways_pass}
 use Rattle.cover_commands.proofs.reading.find_with_ways.Goals as goal
 

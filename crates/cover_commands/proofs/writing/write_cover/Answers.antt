@@ -1,4 +1,4 @@
-use Rattle.commands.proofs.Answering.{wrote_all, wrote_part}
+use Rattle.cover_commands.proofs.Common.{wrote_all, wrote_part}
 use Rattle.cover_commands.proofs.CoverChecks.{mesh_answers, refusal_answers}
 use Rattle.cover_commands.proofs.writing.write_cover.Goals as goal
 

@@ -1,4 +1,5 @@
-use Rattle.homology_commands.proofs.Common.{walk_there, refl, sym, err_from_is_err_and}
+use Rattle.homology_commands.proofs.Common.{walk_there, refl, sym}
+use Rattle.std.proofs.lemmas.Result.{err_from_is_err_and}
 use Rattle.homology_commands.proofs.show_homology.find_certificate.Goals as goal
 
 pub of_walk-requires-clause-signed : goal.of_walk-requires-clause-signed

@@ -1,5 +1,4 @@
-use Rattle.commands.proofs.Running.{failed_end}
-use Rattle.open_commands.proofs.Common.{inr}
+use Rattle.open_commands.proofs.Common.{failed_end, inr}
 use Rattle.open_commands.proofs.OpenInputs.{turned_stop}
 use Rattle.open_commands.proofs.open_input.open_surface_of.Goals as goal
 

@@ -1,5 +1,4 @@
-use Rattle.pair_commands.proofs.Common.{refl}
-use Rattle.commands.proofs.Running.{err_no_fault}
+use Rattle.pair_commands.proofs.Common.{err_no_fault, refl}
 use Rattle.surface_commands.proofs.RunsOnWalks.{runs_asked, runs_refused_read, runs_refused_walks}
 use Rattle.pair_commands.specs.Decide.{decisions_answer}
 use Rattle.pair_commands.specs.PairInput.{pairs_in}

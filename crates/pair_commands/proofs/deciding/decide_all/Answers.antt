@@ -1,5 +1,4 @@
-use Rattle.commands.proofs.Running.{failed_end}
-use Rattle.pair_commands.proofs.Common.{all_hold, as_many, holds_next, pair_within, mesh_of, ◌≡◌, ◌/◌, ◌<◌, ℕ, true, List, length, get_or, sym, ◌∙◌, subst, arith, Some, FaceList, AreWalkPair, are_paired, IsFoundOn}
+use Rattle.pair_commands.proofs.Common.{failed_end, all_hold, as_many, holds_next, pair_within, mesh_of, ◌≡◌, ◌/◌, ◌<◌, ℕ, true, List, length, get_or, sym, ◌∙◌, subst, arith, Some, FaceList, AreWalkPair, are_paired, IsFoundOn}
 use Rattle.component_deciding.specs.declared.order.Placed.{Placed}
 use Rattle.std.proofs.lemmas.List.{get_or_read, length-set}
 use Rattle.surf_model.specs.Edges.{IsTableOf}

@@ -1,5 +1,6 @@
-use Rattle.trial_commands.proofs.Common.{walks_of_pair, ◌≡◌, [], ℕ, List, get_or, refl, sym, subst, ap, ◌∙◌, err_from_is_err_and, ◌↔◌, Some, None, first_walk, second_walk, Homotopic, pair_fault}
+use Rattle.trial_commands.proofs.Common.{walks_of_pair, ◌≡◌, [], ℕ, List, get_or, refl, sym, subst, ap, ◌∙◌, ◌↔◌, Some, None, first_walk, second_walk, Homotopic, pair_fault}
 use Rattle.std.proofs.lemmas.Option.{get_or_from_slice_get}
+use Rattle.std.proofs.lemmas.Result.{err_from_is_err_and}
 use Rattle.surf_model.specs.Edges.{IsTableOf}
 use Rattle.surf_model.specs.Walks.{AreWalkPair}
 use Rattle.walk_files.specs.WalkLists.{WalkText}

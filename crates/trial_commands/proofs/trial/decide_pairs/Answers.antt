@@ -1,4 +1,4 @@
-use Rattle.commands.proofs.Running.{failed_end}
+use Rattle.trial_commands.proofs.Common.{failed_end}
 use Rattle.trial_commands.proofs.Trying.{cell_stops, loops_stop, pairs_answered}
 use Rattle.trial_commands.proofs.trial.decide_pairs.Goals as goal
 
