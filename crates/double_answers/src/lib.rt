@@ -2,7 +2,7 @@
 //!
 //! What `mesh_double` writes is the double of a surface with boundary, and walks of the surface are walks of the double as they stand. So
 //! `decide`, `certify`, `loops` and `homology` are asked of the double, with a file of walks of the surface, and each answer is what holds
-//! there.
+//! there. `verify` is asked of the double, the walks and what `certify` printed, and what it accepts holds there.
 //!
 //!     mesh_double annulus.off | homotopy_cli loops /dev/stdin annulus-round.walks
 #![tactic(auto)]
