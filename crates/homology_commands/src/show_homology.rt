@@ -37,7 +37,7 @@ pub fn show_homology<S: Shelf>(
 }
 
 /// A certificate for two walks of a surface with common ends. It is found on the component in which they lie.
-fn find_certificate(
+pub fn find_certificate(
     alloc: Global,
     surface: SignedMesh,
     first: &Walk,

@@ -1,7 +1,6 @@
 -- Walks that are cut from arrays, and their classes.
-use Rattle.homotopy_arrays.proofs.Common.{◌≡◌, ◌≢◌, ℕ, ◌+◌, ◌<◌, ◌≤◌, List, [], ◌∷◌, ◌++◌, length, get_or, refl, sym, ap, ap₂, subst, ◌∙◌, arith, MatchResult, None, Result, Ok, Err, FaceList, IsOrientableSurface, IsWalk, IsFirstNoWalk, AreClasses}
+use Rattle.homotopy_arrays.proofs.Common.{◌≡◌, ◌≢◌, ℕ, ◌+◌, ◌<◌, ◌≤◌, List, [], ◌∷◌, ◌++◌, length, get_or, refl, sym, ap, ap₂, subst, ◌∙◌, arith, Vec, MatchResult, None, Result, Ok, Err, FaceList, IsOrientableSurface, IsWalk, IsFirstNoWalk, AreClasses}
 use Rattle.std.proofs.lemmas.List.FromFn.{get_or-map-range_with_len, length-map-range_with_len, map-range_with_len_more}
-use Rattle.std.specs.Global.{Vec}
 use Rattle.std.specs.Prelude.{sum}
 use Rattle.homotopy_arrays.specs.Classes.{AreClassed, AreClassesIn, AreCut, IsFirstNone, IsNoClassesIn, IsWalkIn, first_walks}
 use Rattle.homotopy_arrays.specs.Pairs.{length_fault, walk_at}

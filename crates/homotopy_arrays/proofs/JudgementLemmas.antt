@@ -1,9 +1,10 @@
 -- What comes of certificates, from their parts.
-use Rattle.homotopy_arrays.proofs.Common.{◌≡◌, ◌⊎◌, ◌<◌, ◌≤◌, ℕ, zero, suc, List, [], ◌∷◌, length, get_or, refl, sym, ap, subst, ◌∙◌, inl, inr, arith, get_or_from_slice_get, Result, Ok, Err, MatchResult, Option, Some, None, slice_get, FaceList, Move, Line, end_line, left_start, list-moves, list-wrong, before_ok, head_of_text, moves_of_text, denial_of_lines, Certificate, count_in, denial_left, lines_to_come, moves_left, moves_to_come, next_answer, next_of, started, unless_refused, CertHead, CertFault}
+use Rattle.homotopy_arrays.proofs.Common.{◌≡◌, ◌⊎◌, ◌<◌, ◌≤◌, ℕ, zero, suc, List, [], ◌∷◌, length, get_or, refl, sym, ap, subst, ◌∙◌, inl, inr, arith, Result, Ok, Err, MatchResult, Option, Some, None, slice_get, FaceList, Move, Line, end_line, left_start, list-moves, list-wrong, before_ok, head_of_text, moves_of_text, denial_of_lines, Certificate, count_in, denial_left, lines_to_come, moves_left, moves_to_come, next_answer, next_of, started, unless_refused, CertHead, CertFault}
 use Rattle.commands.specs.declared.inputs.TheConstants.{MOST_BYTES}
 use Rattle.labellings.specs.DenialVerdicts.{IsVerdict}
 use Rattle.labellings.specs.declared.verdict.DenialVerdict.{DenialVerdict}
 use Rattle.move_checker.specs.declared.judge.Verdict.{Verdict}
+use Rattle.std.proofs.lemmas.Option.{get_or_from_slice_get}
 use Rattle.verify_commands.proofs.Streaming.{denial_right}
 use Rattle.labellings.specs.declared.denial.Denial as denials
 use Rattle.walk_files.specs.declared.certificate.CertHead.TheVariants as heads

@@ -7,3 +7,5 @@ pub mod EndLemmas
 pub mod CertificateLemmas
 pub mod JudgementLemmas
 pub mod CertificationLemmas
+pub mod SideNumberLemmas
+pub mod HomologyLemmas

@@ -8,3 +8,4 @@ pub mod Loops
 pub mod Classes
 pub mod Judgements
 pub mod Certifications
+pub mod Homologies

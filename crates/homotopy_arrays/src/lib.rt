@@ -3,9 +3,9 @@
 //! `measure_arrays` has what `surface` prints, `decide_arrays` what `decide` answers of any number of pairs, and `KeptMesh` the same of a
 //! mesh that is kept, pair after pair, what `loops` answers of pairs of closed walks there, and the classes of any number of walks;
 //! `decide_any_arrays` decides on surfaces that may have boundary and need not be orientable; `certify_arrays` with `text_of` has what
-//! `certify` prints, and `verify_arrays` what `verify` judges, of a certificate in bytes. Proved: the answer is that of the mesh that the
-//! arrays are, or what is first wrong with them is named, or memory is wanting; and arrays are read as the mesh whose arrays they are
-//! (`laws`).
+//! `certify` prints, `verify_arrays` what `verify` judges, of a certificate in bytes, and `homology_arrays` has what `homology` shows.
+//! Proved: the answer is that of the mesh that the arrays are, or what is first wrong with them is named, or memory is wanting; and arrays
+//! are read as the mesh whose arrays they are (`laws`).
 #![tactic(auto)]
 
 mod answering;
@@ -14,6 +14,7 @@ mod classes;
 mod decide;
 mod decide_any;
 mod fault;
+mod homologies;
 mod kept;
 pub mod laws;
 mod loops;
@@ -28,6 +29,7 @@ pub use classes::NoClasses;
 pub use decide::{PairAnswer, decide_arrays};
 pub use decide_any::decide_any_arrays;
 pub use fault::Fault;
+pub use homologies::{HomologyFault, HomologyNumbers, homology_arrays};
 pub use kept::KeptMesh;
 pub use loops::LoopAnswer;
 pub use mesh::{MeshArrays, mesh_of_arrays};

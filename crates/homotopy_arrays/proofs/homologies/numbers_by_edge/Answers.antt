@@ -1,0 +1,58 @@
+use Rattle.homotopy_arrays.proofs.Common.{number_at-zeros, set, ℤ, pos, length-replicate, length-set, take_all, get_or_default, get_or_from_slice_get, replicate, unsigned_abs, IsEdgeBetween, edge_between, edge_in, is_edge, edge_written, edges_small, sent, edge_number, number_at, AreNumbersOf, EdgeNumber, MOST_NUMBER}
+use Rattle.homology.proofs.Common.{◌≡◌, true, ℕ, ◌<◌, ◌≤◌, List, length, ap, ◌∙◌, subst, arith, get_or}
+use Rattle.homotopy_arrays.proofs.homologies.numbers_by_edge.Goals as goal
+use Rattle.homotopy_arrays.proofs.homologies.numbers_by_edge.Goals.{After-at-line}
+
+-- the line that was read
+read : (c : After-at-line) → get_or c.args.lines.now c.loop-k.k c.at-line.result ≡ c.at-line.result
+read c = get_or_from_slice_get c.args.lines.now c.loop-k.k c.at-line.result c.at-line.result c.at-line.ensures
+
+pub edge_between-edge-requires : goal.edge_between-edge-requires
+edge_between-edge-requires c =
+    let line : EdgeNumber = c.at-line.result in
+    let edge : is_edge c.args.faces.now line.low.0 line.high.0 ≡ true =
+    subst (λ (x : EdgeNumber). is_edge c.args.faces.now x.low.0 x.high.0 ≡ true)
+    (read (goal.at.edge_between-edge-requires c).After-at-line) (c.requires.edges c.loop-k.k line (omega arith)) in
+    let found : IsEdgeBetween c.args.sides.now line.low.0 line.high.0 =
+    edge_between c.args.faces.now c.args.sides.now line.low.0 line.high.0 c.requires.table edge in (
+      found.edge,
+      edge_in c.args.sides.now found.edge,
+      found.in_table,
+      get_or_default c.args.sides.now found.edge _ _ found.in_table,
+      found.ends,
+    )
+
+pub loop-k-init : goal.loop-k-init
+loop-k-init c =
+    let zeros : c.in_ok-of_edge.of_edge.items ≡ replicate c.len.result (pos 0) = c.in_ok-of_edge.ensures.items_if_clones_equal (λ y h. h) in
+    record {
+      long = ap (λ (xs : List ℤ). length xs) zeros ∙ length-replicate c.len.result (pos 0) ∙ c.len.ensures;
+      each = λ k l. ap (λ (xs : List ℤ). number_at xs k) zeros ∙ number_at-zeros c.len.result k;
+    }
+
+pub loop-k-preserved : goal.loop-k-preserved
+loop-k-preserved c =
+    let lines : List EdgeNumber = c.args.lines.now in
+    let line : EdgeNumber = c.at-line.result in
+    let k : ℕ = c.loop-k.k in
+    let within : k < length lines = omega arith in
+    let small : unsigned_abs line.number ≤ MOST_NUMBER =
+    subst (λ (x : EdgeNumber). unsigned_abs x.number ≤ MOST_NUMBER) (read (goal.at.loop-k-preserved c).After-at-line)
+    (c.len-k-end.ensures.valid.small k line within) in
+    record {
+      long = length-set c.loop-k.of_edge.items c.edge_between-edge.result.0 _ ∙ c.loop-k.invariant.long;
+      each = λ f l. edge_written c.args.faces.now c.args.sides.now lines k c.edge_between-edge.result.0 f line c.loop-k.of_edge.items _
+          c.requires.table c.len-k-end.ensures.valid within c.at-line.ensures c.edge_between-edge.ensures.found l
+          c.edge_between-edge.ensures.ends c.loop-k.invariant.long
+          (ap (set c.loop-k.of_edge.items c.edge_between-edge.result.0) (sent line.number (omega (arith, small))))
+          (c.loop-k.invariant.each f l);
+    }
+
+pub returns-clause-numbers : goal.returns-clause-numbers
+returns-clause-numbers c =
+    subst (λ (xs : List EdgeNumber). AreNumbersOf c.args.sides.now c.loop-k.of_edge.items (edge_number xs))
+    (take_all c.loop-k.k c.args.lines.now (omega arith)) c.loop-k.invariant
+
+pub returns-clause-small : goal.returns-clause-small
+returns-clause-small c =
+    edges_small c.args.sides.now c.args.lines.now c.loop-k.of_edge.items c.len-k-end.ensures.valid (returns-clause-numbers c)
