@@ -11,7 +11,8 @@
  *
  * A WALK is an array of the numbers of the vertices that it passes, one after another joined by edges. A walk of one vertex stays there.
  * Two walks with the same first and the same last vertex are homotopic where one can be moved over the surface to the other. A closed walk
- * ends where it starts; two of them are freely homotopic where one can be moved to the other with no vertex held fast.
+ * ends where it starts; two of them are freely homotopic where one can be moved to the other with no vertex held fast. Two walks with
+ * common ends are homologous where the first, and then the second backwards, bound some faces, each counted so often, or so often turned.
  *
  * A DART is an edge with a direction, one step of a walk: a walk of n vertices has n - 1 darts. A SPUR is a dart and the same edge
  * straight back. A MOVE puts a spur into a walk, takes one out, or goes round a face the other way. The PEAK of a list of moves is the
@@ -54,6 +55,7 @@ enum homotopy_code {
     HOMOTOPY_NO_MESH = 6,           /* the handle holds no mesh */
     HOMOTOPY_FREELY_HOMOTOPIC = 7,     /* the walks are freely homotopic */
     HOMOTOPY_NOT_FREELY_HOMOTOPIC = 8, /* they are two closed walks of the surface, and are not freely homotopic */
+    HOMOTOPY_HOMOLOGOUS = 9,        /* the walks are homologous */
 
     HOMOTOPY_MANY_VERTICES = 10,    /* more than 1,000,000 vertices */
     HOMOTOPY_CORNER_COUNT = 11,     /* the sizes of the faces together are not the number of the corners */
@@ -61,6 +63,8 @@ enum homotopy_code {
     HOMOTOPY_FEW_CORNERS = 13,      /* a face has fewer than three corners [face] */
     HOMOTOPY_CORNER_RANGE = 14,     /* a corner is no vertex [face] */
     HOMOTOPY_EQUAL_NEIGHBOURS = 15, /* two neighbours round a face are one vertex [face] */
+
+    HOMOTOPY_NOT_HOMOLOGOUS = 16,   /* the walks are two walks of the surface with common ends, and are not homologous */
 
     HOMOTOPY_NO_FACE = 20,          /* the mesh has no face */
     HOMOTOPY_EDGE_SIDES = 21,       /* an edge is not in exactly two sides of faces, or, where boundary is taken, in three or more
@@ -106,7 +110,8 @@ enum homotopy_code {
     HOMOTOPY_REJECTED_EQUAL = 62,      /* both words are right, and are equal */
 
     HOMOTOPY_CERTIFY_SIDES = 70, /* the surface has more sides than a certificate is made on, 16,384 [sides] */
-    HOMOTOPY_CERTIFY_DARTS = 71  /* the walks together have more darts than one is made for, 512 [darts] */
+    HOMOTOPY_CERTIFY_DARTS = 71, /* the walks together have more darts than one is made for, 512 [darts] */
+    HOMOTOPY_HOMOLOGY_DARTS = 72 /* the walks together have more darts than are counted for homology, 2,147,483,647 [darts] */
 };
 
 /* A code of the list above, and the numbers that belong to it; 0 where there are fewer. */
@@ -217,6 +222,24 @@ void homotopy_certify(
     const uint32_t *first, size_t first_count, const uint32_t *second, size_t second_count,
     uint8_t *text, size_t text_room, homotopy_outcome *outcome);
 
+/* Whether two walks with common ends on an orientable closed surface, in one piece or in several, are homologous, with numbers that show it,
+ * 0 wherever the program's `homology` lists none. The number of either code is how many were written in front of `numbers`.
+ *
+ * HOMOLOGOUS: a number for each face, which together are a chain. Let each side of a face have the number of its face, and count it as plus
+ * that where it runs along its edge one way, and as minus that where it runs the other way: then the two sides of each edge add up to how
+ * much more often the first walk runs along it that way than the second; a run the other way is counted as -1.
+ *
+ * NOT_HOMOLOGOUS: a number for each corner, which together are a cocycle. It is that of the side from the corner to the next one of its
+ * face. The two sides of an edge have opposite numbers where they run opposite ways, and the same one where they run the same way; so a dart
+ * has a number too. Round each face the numbers add up to 0, but along the two walks to different sums, which no chain could tell apart.
+ *
+ * Or SHORT_ROOM, where `numbers` has too little room, with how many are wanted and the code of the answer; or what is first wrong with the
+ * mesh or the walks, or HOMOLOGY_DARTS. `numbers` is left as it was then. The room is looked at last. */
+void homotopy_homology(
+    uint32_t vertices, const uint32_t *sizes, size_t face_count, const uint32_t *corners, size_t corner_count,
+    const uint32_t *first, size_t first_count, const uint32_t *second, size_t second_count,
+    int64_t *numbers, size_t number_room, homotopy_outcome *outcome);
+
 /* What comes of a certificate between two walks on a mesh, which need be no surface. `certificate` is a text as `certify` prints it: a list
  * of moves that leads from the first walk to the second, or a denial, by which none does. Code ACCEPTED where it does; REJECTED_.. for the
  * first reason against it; or what is first wrong with the mesh, the walks, or the text, in this order. */
@@ -237,12 +260,14 @@ void homotopy_verify(
     ROW(NO_MESH, "", "the handle holds no mesh") \
     ROW(FREELY_HOMOTOPIC, "freely homotopic", "the walks are freely homotopic") \
     ROW(NOT_FREELY_HOMOTOPIC, "not freely homotopic", "the walks are not freely homotopic") \
+    ROW(HOMOLOGOUS, "homologous", "the walks are homologous") \
     ROW(MANY_VERTICES, "", "the mesh has more than 1,000,000 vertices") \
     ROW(CORNER_COUNT, "", "the sizes of the faces together are not the number of corners") \
     ROW(MANY_SIDES, "", "the mesh has more than 4,000,000 corners") \
     ROW(FEW_CORNERS, "", "face {0} has fewer than three corners") \
     ROW(CORNER_RANGE, "", "face {0} has a corner that is no vertex of the mesh") \
     ROW(EQUAL_NEIGHBOURS, "", "face {0} has the same vertex twice in a row") \
+    ROW(NOT_HOMOLOGOUS, "not homologous", "the walks are not homologous") \
     ROW(NO_FACE, "refused: no face", "the mesh has no face") \
     ROW(EDGE_SIDES, "refused: edge {0} {1} sides {2}", "the edge {0} {1} should be in two sides of faces, and is in {2}") \
     ROW(PINCHED, "refused: vertex {0} pinched", "vertex {0} is pinched: its corners do not make one ring") \
@@ -279,7 +304,8 @@ void homotopy_verify(
     ROW(REJECTED_WORD, "rejected: word {0}", "the word of walk {0} is another one") \
     ROW(REJECTED_EQUAL, "rejected: equal", "both words are right, and are equal") \
     ROW(CERTIFY_SIDES, "refused: certify sides {0}", "the surface has {0} sides, and a certificate is made on at most 16,384") \
-    ROW(CERTIFY_DARTS, "refused: certify darts {0}", "the walks have {0} darts together, and a certificate is made for at most 512")
+    ROW(CERTIFY_DARTS, "refused: certify darts {0}", "the walks have {0} darts together, and a certificate is made for at most 512") \
+    ROW(HOMOLOGY_DARTS, "", "the walks have {0} darts together, and at most 2,147,483,647 are counted for homology")
 
 /* The program's line for a code, and the sentence; "" for what is no code. Neither is written to. The merged archive and the shared library
  * have both functions as symbols too, homotopy_line_of and homotopy_text_of, for languages that read no header. */

@@ -25,7 +25,8 @@ except ImportError:
     numpy = None
 
 __version__ = "1.1.0"
-__all__ = ["Answer", "Faces", "Mesh", "Refused", "Surface", "Verdict", "certify", "decide", "decide_any", "surface", "verify"]
+__all__ = ["Answer", "Faces", "Mesh", "Refused", "Surface", "Verdict", "certify", "decide", "decide_any", "homology", "surface",
+           "verify"]
 
 _SHORT_ROOM, _NO_MEMORY, _ACCEPTED = 4, 5, 3
 _REJECTED = range(50, 70)
@@ -41,12 +42,15 @@ characteristic, and the genus of each piece, in the order of their least vertice
 
 
 class Answer(enum.IntEnum):
-    """What is answered of a pair of walks: one of the first two, or of the next two of closed walks, or what is first wrong with them."""
+    """What is answered of a pair of walks: one of the first two, of the next two of closed walks, or of the next two by homology; or what
+    is first wrong with them."""
 
     HOMOTOPIC = 1
     DIFFERENT = 2
     FREELY_HOMOTOPIC = 7
     NOT_FREELY_HOMOTOPIC = 8
+    HOMOLOGOUS = 9
+    NOT_HOMOLOGOUS = 16
     EMPTY_WALK = 31
     LONG_WALK = 32
     NO_VERTEX = 33
@@ -316,6 +320,24 @@ def certify(vertices, faces, first, second):
         room = outcome.numbers[0]
     if outcome.code in (Answer.HOMOTOPIC, Answer.DIFFERENT):
         return Answer(outcome.code), ctypes.string_at(text, outcome.numbers[0])
+    return _check(outcome)
+
+
+def homology(vertices, faces, first, second):
+    """HOMOLOGOUS or NOT_HOMOLOGOUS, with the numbers that show it: of a chain for each face, or of a cocycle for each side.
+
+    Of a chain, the two sides of each edge, with the numbers of their faces, add up to what the first walk runs along it more than the
+    second. A cocycle has a number for each corner, that of the side from it to the next one of its face: round each face they add up to 0,
+    and along the two walks to different sums. Refused where the mesh is no orientable closed surface, or the walks are none of it with
+    common ends.
+    """
+    mesh, _kept = _mesh(vertices, faces)
+    one, other, outcome = _Lent.of(first, "the first walk"), _Lent.of(second, "the second walk"), Outcome()
+    room = mesh[-1]
+    numbers = (ctypes.c_int64 * max(room, 1))()
+    call("homotopy_homology", *mesh, *one.words, *other.words, ctypes.addressof(numbers), room, outcome)
+    if outcome.code in (Answer.HOMOLOGOUS, Answer.NOT_HOMOLOGOUS):
+        return Answer(outcome.code), numbers[:outcome.numbers[0]]
     return _check(outcome)
 
 

@@ -33,6 +33,7 @@ _ARGUMENTS = {
     "homotopy_mesh_classes": [ctypes.POINTER(Handle)] + 3 * _ARRAY + _ENDING,
     "homotopy_mesh_free": [ctypes.POINTER(Handle)],
     "homotopy_certify": [ctypes.c_uint32] + 5 * _ARRAY + _ENDING,
+    "homotopy_homology": [ctypes.c_uint32] + 5 * _ARRAY + _ENDING,
     "homotopy_verify": [ctypes.c_uint32] + 5 * _ARRAY + _ENDING,
 }
 

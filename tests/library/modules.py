@@ -15,10 +15,11 @@ sys.path.insert(0, PYTHON)
 os.environ.setdefault("LIBHOMOTOPY", os.path.join(TOP, "crates/homotopy_c/out/libhomotopy.so"))
 
 import homotopy  # noqa: E402
-from homotopy import Answer, Faces, Mesh, Surface, certify, decide, surface, verify  # noqa: E402
+from homotopy import Answer, Faces, Mesh, Surface, certify, decide, homology, surface, verify  # noqa: E402
 
 numpy = homotopy.numpy
 TETRA = [[0, 1, 2], [0, 3, 1], [0, 2, 3], [1, 3, 2]]
+TORUS = [[i, (i + 1) % 7, (i + 3) % 7] for i in range(7)] + [[i, (i + 3) % 7, (i + 2) % 7] for i in range(7)]
 SPHERE = Surface(4, 6, 4, 2, [0])
 LIST = b"MOVES 1 2\nf 0 0 0 + 2\n"
 failures = []
@@ -51,6 +52,17 @@ def take():
     expect(homotopy.decide_any(4, TETRA[:3], [([1, 2, 3, 1], [1]), ([0, 4], [0])]), [Answer.HOMOTOPIC, Answer.NO_VERTEX], "on a disc")
     refuse(homotopy.Refused, "the edge 0 1 should be in two sides of faces, and is in 3", homotopy.decide_any, 4, [TETRA[0]] * 3, [])
     expect(certify(4, TETRA, [0, 1, 2], [0, 2])[0], Answer.HOMOTOPIC, "certify")
+    answer, numbers = homology(4, TETRA, [0, 1, 2], [0, 2])
+    expect((answer, len(numbers), [number - numbers[3] for number in numbers]), (Answer.HOMOLOGOUS, 4, [1, 0, 0, 0]), "a chain")
+    answer, numbers = homology(7, TORUS, [0, 1, 2, 0], [0])
+    sides = {(face[at], face[(at + 1) % 3]): numbers[3 * number + at] for number, face in enumerate(TORUS) for at in range(3)}
+    expect((answer, len(numbers)), (Answer.NOT_HOMOLOGOUS, 42), "a cocycle")
+    expect([sum(numbers[3 * face:3 * face + 3]) for face in range(14)], [0] * 14, "the sums round the faces")
+    expect([u for u, v in sides if sides[u, v] != -sides[v, u]], [], "the two sides of an edge")
+    expect(sides[0, 1] + sides[1, 2] + sides[2, 0] != 0, True, "the sum along the walk")
+    refuse(homotopy.Refused, "the walks end at different vertices", homology, 4, TETRA, [0, 1], [0])
+    refuse(homotopy.Refused, "walk 2 has no vertex", homology, 4, TETRA, [0, 1], [])
+    refuse(homotopy.Refused, "the edge 1 2 should be in two sides of faces, and is in 1", homology, 4, TETRA[:3], [0], [0])
     for text in (LIST, bytearray(LIST), memoryview(LIST)):
         expect(bool(verify(4, TETRA, [0, 1, 2], [0, 2], text)), True, "a list that leads")
     verdict = verify(4, TETRA, [0, 1, 2], [0, 2], LIST.replace(b"+", b"-"))

@@ -1,9 +1,6 @@
 -- What is told of a fault is no answer.
-use Rattle.homotopy_c.proofs.Common.{CertifyFault, Fault, VerifyFault, ◌≡◌, ◌≢◌, ◌<◌, ℕ, true, false, sym, ◌∙◌, arith}
-use Rattle.homotopy_arrays.specs.declared.pair.WalkFault.{WalkFault}
-use Rattle.homotopy_arrays.specs.declared.pair.WalkFault.TheVariants.{Empty, Long, Pair, Loops}
+use Rattle.homotopy_c.proofs.Common.{CertifyFault, Fault, WalkFault, Empty, Long, Pair, Loops, VerifyFault, ◌<◌, true, false, arith, NotTwo, NoVertex, NoEdge, EndsDiffer}
 use Rattle.walk_files.specs.declared.fault.CertFault.{CertFault}
-use Rattle.walk_files.specs.declared.pair.PairFault.TheVariants.{NotTwo, NoVertex, NoEdge, EndsDiffer}
 use Rattle.walk_files.specs.declared.fault.CertFault.TheVariants as certificates
 use Rattle.walk_files.specs.declared.loops.LoopFault.TheVariants as loops
 use Rattle.commands.specs.declared.limits.OverLimit.TheVariants as limits

@@ -9,13 +9,15 @@ pub use Rattle.homotopy_arrays.specs.contracts.kept.KeptMesh.{the_row}
 pub use Rattle.homotopy_arrays.specs.declared.certify.CertifyFault.{CertifyFault}
 pub use Rattle.homotopy_arrays.specs.declared.decide.PairAnswer.TheVariants.{Different, Faulty, Homotopic}
 pub use Rattle.homotopy_arrays.specs.declared.fault.Fault.{Fault}
+pub use Rattle.homotopy_arrays.specs.declared.pair.WalkFault.{WalkFault}
+pub use Rattle.homotopy_arrays.specs.declared.pair.WalkFault.TheVariants.{Empty, Long, Loops, Pair}
 pub use Rattle.homotopy_arrays.specs.declared.verify.VerifyFault.{VerifyFault}
-pub use Rattle.std.proofs.Common.{List, ap, append_assoc, ap₂, arith, false, get_or, inl, inr, length, length-take-le, lit<, refl, set, subst, sym, take, true, ℕ, [], ◌*◌, ◌++◌, ◌+◌, ◌/◌, ◌<◌, ◌^◌, ◌↔◌, ◌∙◌, ◌∷◌, ◌≡◌, ◌≢◌, ◌≤◌, ◌⊎◌}
+pub use Rattle.std.proofs.Common.{List, ap, append_assoc, arith, false, get_or, inl, inr, length, length-take-le, lit<, refl, set, subst, sym, take, true, ℕ, [], ◌*◌, ◌++◌, ◌+◌, ◌/◌, ◌<◌, ◌↔◌, ◌∙◌, ◌∷◌, ◌≡◌, ◌≢◌, ◌≤◌, ◌⊎◌}
 pub use Rattle.std.proofs.lemmas.Bool.{cases_lt}
 pub use Rattle.std.proofs.lemmas.List.{drop_more, get_or-map, get_or_append_left, length-map, map-append, set_at, take_at, take_more}
 pub use Rattle.std.proofs.raw_atomic.Walks.{leaves, proved_at}
 pub use Rattle.std.specs.Global.{Vec}
-pub use Rattle.std.specs.Prelude.{Err, MatchResult, None, Ok, Option, Result, Some, map}
+pub use Rattle.std.specs.Prelude.{Bool, Err, MatchResult, None, Ok, Option, Result, Some, map, ℤ, ◌==◌, ◌||◌}
 pub use Rattle.std.specs.contracts.impls.GlobalAllocator.TheImpl.{ghosts}
 pub use Rattle.std.specs.declared.alloc.Global.{Global}
 pub use Rattle.std_alloc.proofs.BoxSteps.Steps.{box_in, box_out}
@@ -23,6 +25,7 @@ pub use Rattle.std_alloc.proofs.ResultValues.{and_tt}
 pub use Rattle.std_alloc.specs.Box.Ownership.{box_owns}
 pub use Rattle.surf_model.specs.FaceLists.{FaceList, HasFileSize, IsFaceList}
 pub use Rattle.surf_model.specs.OrientableSurfaces.{IsOrientableSurface}
+pub use Rattle.walk_files.specs.declared.pair.PairFault.TheVariants.{EndsDiffer, NoEdge, NoVertex, NotTwo}
 pub use base.Fml.{Fml, fex, flft, fsep, ftrue}
 pub use base.Logic.{SProp, emp, ent, fst∗, guard, guard_i, id⊢, never, snd∗, via}
 pub use contract.Monad.{fact, fact_i, fact_use}

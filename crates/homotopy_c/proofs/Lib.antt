@@ -6,3 +6,4 @@ pub mod HandleValues
 pub mod TellingLemmas
 pub mod ClassTellings
 pub mod ShowingLemmas
+pub mod HomologyTellings

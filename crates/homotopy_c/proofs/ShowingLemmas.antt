@@ -1,7 +1,7 @@
 -- What is told of certificates, that are written and that are judged, and what it means.
-use Rattle.homotopy_c.proofs.Common.{AreWalks, CertifyFault, VerifyFault, ◌≡◌, ◌≢◌, ◌⊎◌, inl, inr, ℕ, ◌^◌, ◌<◌, ◌≤◌, List, ◌++◌, length, get_or, take, refl, sym, ap, ◌∙◌, subst, arith, cases_lt, Result, Ok, Err, MatchResult, FaceList, IsFaceList, HasFileSize, IsOrientableSurface}
+use Rattle.homotopy_c.proofs.Common.{AreWalks, CertifyFault, VerifyFault, ◌≡◌, ◌≢◌, ◌⊎◌, inl, inr, ℕ, ◌<◌, ◌≤◌, List, length, get_or, take, refl, sym, ap, ◌∙◌, subst, arith, cases_lt, Result, Ok, Err, MatchResult, FaceList, IsFaceList, HasFileSize, IsOrientableSurface}
 use Rattle.commands.specs.Certificates.{Convinces, certificate_text, decision_of}
-use Rattle.commands.specs.Inputs.{SpellsCertificate, certificate_of}
+use Rattle.commands.specs.Inputs.{SpellsCertificate}
 use Rattle.commands.specs.declared.certificate.Certificate.{Certificate}
 use Rattle.commands.specs.declared.certificate.Certificate.TheVariants.{Moves, Denial}
 use Rattle.commands.specs.declared.inputs.TheConstants.{MOST_BYTES}
@@ -13,22 +13,19 @@ use Rattle.labellings.specs.DenialVerdicts.{IsVerdict}
 use Rattle.labellings.specs.declared.fault.LabelFault.{LabelFault}
 use Rattle.labellings.specs.declared.verdict.DenialVerdict.{DenialVerdict}
 use Rattle.move_checker.proofs.Judgement.{accepted_exactly}
-use Rattle.move_checker.specs.Verdicts.{LeadsWithin, verdict_of}
 use Rattle.move_checker.specs.declared.fault.MoveFault.{MoveFault}
 use Rattle.move_checker.specs.declared.fault.MoveFault.TheVariants.{Place, NoEdge, NotSpur, NotOnFace, OverPeak}
 use Rattle.move_checker.specs.declared.judge.Verdict.{Verdict}
 use Rattle.std.proofs.Common.{drop}
 use Rattle.std.proofs.Math.Seq.{take-append_seam}
 use Rattle.std.specs.Prelude.{◌↔◌}
-use Rattle.surf_model.specs.Moves.{PeakedMoves}
 use Rattle.verify_commands.proofs.Accepting.{spelled}
-use Rattle.surf_model.specs.Moves as moves
 use Rattle.labellings.specs.declared.fault.LabelFault.TheVariants as labels
 use Rattle.labellings.specs.declared.verdict.DenialVerdict.TheVariants as denials
 use Rattle.move_checker.specs.declared.judge.Verdict.TheVariants as verdicts
 use Rattle.surf_model.specs.declared.decisions.Answer.TheVariants as decisions
 use Rattle.homotopy_arrays.specs.declared.verify.Judgement.TheVariants as judgements
-use Rattle.homotopy_c.specs.Certified.{IsCertifyCall, IsShownPut, TellsCertificate, code_of, told_certify}
+use Rattle.homotopy_c.specs.Certified.{IsCertifyCall, TellsCertificate, code_of}
 use Rattle.homotopy_c.specs.Judged.{IsVerifyCall, ended, judged, judged_denial, judged_labels, judged_moves, move_code, told_verify}
 use Rattle.homotopy_c.specs.Meanings.{IsAccepted, Shows, ShowsDifferent, ShowsHomotopic}
 use Rattle.homotopy_c.specs.Told.{in_front}

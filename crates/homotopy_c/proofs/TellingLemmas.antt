@@ -1,16 +1,15 @@
 -- What is told of surfaces and of pairs, and what it means.
-use Rattle.homotopy_c.proofs.Common.{AreAnsweredOn, IsDecideFault, IsKept, IsLoopAnswer, AreWalks, IsAnswer, walk_at, Homotopic, Different, Faulty, Fault, ◌≡◌, ◌≢◌, ◌⊎◌, inl, inr, ℕ, ◌+◌, ◌*◌, ◌/◌, ◌<◌, ◌≤◌, List, ◌++◌, length, get_or, refl, sym, ap, ◌∙◌, subst, arith, cases_lt, get_or_append_left, get_or-map, length-map, Vec, Option, Some, None, Result, Ok, Err, FaceList, IsOrientableSurface}
+use Rattle.homotopy_c.proofs.Common.{AreAnsweredOn, IsKept, IsLoopAnswer, IsAnswer, walk_at, Homotopic, Different, Faulty, Fault, ◌≡◌, ◌≢◌, inl, inr, ℕ, ◌+◌, ◌*◌, ◌/◌, ◌<◌, List, length, get_or, refl, sym, ap, ◌∙◌, subst, arith, cases_lt, get_or_append_left, get_or-map, length-map, Vec, Option, Some, None, Result, Ok, Err, FaceList}
 use Rattle.homotopy_arrays.specs.Surfaces.{EndsOn, IsMeasured, IsSurfaceFault, OfMesh}
 use Rattle.homotopy_arrays.specs.declared.decide.PairAnswer.{PairAnswer}
 use Rattle.homotopy_arrays.specs.declared.loops.LoopAnswer.{LoopAnswer}
 use Rattle.homotopy_arrays.specs.declared.surface.Measured.{Measured}
 use Rattle.std.proofs.Common.{drop, map}
 use Rattle.homotopy_arrays.specs.declared.loops.LoopAnswer.TheVariants as free
-use Rattle.surf_model.specs.Moves as moves
 use Rattle.homotopy_c.specs.Kept.{IsMeshAnswersCall, IsMeshDecideCall, IsMeshNewCall, TellsKept}
 use Rattle.homotopy_c.specs.Meanings.{DoesAnswer, DoesAnswerLoops, DoesMeasure}
 use Rattle.homotopy_c.specs.Outcomes.{byte_of, done, loop_byte, told}
-use Rattle.homotopy_c.specs.Told.{IsBytesCall, IsDecideCall, IsPut, IsSurfaceTold, TellsBytes, TellsSurface, in_front}
+use Rattle.homotopy_c.specs.Told.{IsBytesCall, IsDecideCall, IsSurfaceTold, TellsBytes, TellsSurface}
 use Rattle.homotopy_c.specs.declared.codes.TheConstants as codes
 use Rattle.homotopy_c.specs.declared.outcome.Outcome.{Outcome}
 use Rattle.homotopy_c.specs.declared.surface.SurfaceNumbers.{SurfaceNumbers}

@@ -1,5 +1,6 @@
 -- What each end of a call is told as, by the numbers that homotopy.h lists. Each is proved by computing.
-use Rattle.std.specs.Prelude.{◌≡◌, ℕ, true, false, refl}
+use Rattle.std.specs.Prelude.{◌≡◌, ℕ, true, false, refl, ℤ}
+use Rattle.std.specs.Global.{Vec}
 use Rattle.surf_model.specs.declared.names.FaceName.{FaceName}
 use Rattle.surf_model.specs.declared.names.VertexName.{VertexName}
 use Rattle.labellings.specs.declared.fault.LabelFault.TheVariants as labels
@@ -14,10 +15,13 @@ use Rattle.homotopy_arrays.specs.declared.certify.CertifyFault.TheVariants.{Over
 use Rattle.homotopy_arrays.specs.declared.classes.NoClasses.TheVariants as none
 use Rattle.homotopy_arrays.specs.declared.decide.PairAnswer.TheVariants.{Homotopic, Different, Faulty}
 use Rattle.homotopy_arrays.specs.declared.fault.Fault.TheVariants as faults
+use Rattle.homotopy_arrays.specs.declared.homologies.HomologyFault.TheVariants as homologies
+use Rattle.homotopy_arrays.specs.declared.homologies.HomologyNumbers.TheVariants.{Chain, Cocycle}
 use Rattle.homotopy_arrays.specs.declared.loops.LoopAnswer.TheVariants as free
 use Rattle.homotopy_arrays.specs.declared.pair.WalkFault.TheVariants.{Empty, Long, Pair, Loops}
 use Rattle.homotopy_arrays.specs.declared.verify.VerifyFault.TheVariants as unjudged
 use Rattle.homotopy_c.specs.Certified.{told_certify}
+use Rattle.homotopy_c.specs.Homologous.{answer_code, told_homology}
 use Rattle.homotopy_c.specs.Judged.{judged_moves, judged_labels, judged_denial, told_certificate, told_verify}
 use Rattle.homotopy_c.specs.Outcomes.{byte_of, coded, done, loop_byte, no_mesh, short_room, told, told_no_classes, told_walks}
 
@@ -97,3 +101,10 @@ verdicts_on_denials = (refl, refl, refl, refl, refl, refl, refl, refl)
 
 limits : (told_certify (Over (Sides 16388)) ≡ coded 70 16388 0 0) × (told_certify (Over (Darts 513)) ≡ coded 71 513 0 0)
 limits = (refl, refl)
+
+-- ---- homology
+
+homology :
+    (numbers : Vec ℤ) → (answer_code (Chain numbers) ≡ 9) × (answer_code (Cocycle numbers) ≡ 16)
+    × (told_homology (homologies.Darts 2147483648) ≡ coded 72 2147483648 0 0)
+homology numbers = (refl, refl, refl)

@@ -4,5 +4,6 @@ pub mod Handles
 pub mod Kept
 pub mod Judged
 pub mod Certified
+pub mod Homologous
 pub mod Meanings
 pub mod Examples

@@ -1,9 +1,10 @@
 -- What the codes mean, in the words of meshes, walks and moves.
-use Rattle.std.specs.Prelude.{◌≡◌, ◌↔◌, ℕ, ◌≤◌, ◌==◌, ◌&&◌, not, Bool, true, List, [], ◌∷◌, length, slice_index}
+use Rattle.std.specs.Prelude.{◌≡◌, ◌↔◌, ℕ, ◌≤◌, ◌==◌, ◌&&◌, not, Bool, true, List, [], ◌∷◌, length, slice_index, ℤ}
 use Rattle.std.specs.List.{list_any}
 use Rattle.surf_model.specs.FaceLists.{FaceList}
 use Rattle.surf_model.specs.Moves as moves
 use Rattle.closed_walks.specs.FreeHomotopy.{FreelyHomotopic}
+use Rattle.homology.specs.Chains.{AreHomologous}
 use Rattle.labellings.specs.Denials.{DenialHolds}
 use Rattle.move_checker.specs.Verdicts.{LeadsWithin}
 use Rattle.commands.specs.Certificates.{Convinces, certificate_text}
@@ -13,9 +14,9 @@ use Rattle.surf_model.specs.Genera.{AreNumbersOf}
 use Rattle.surf_model.specs.declared.numbers.SurfaceNumbers as counted
 use Rattle.commands.specs.declared.certificate.Certificate.{Certificate}
 use Rattle.commands.specs.declared.certificate.Certificate.TheVariants as shown
+use Rattle.homotopy_arrays.specs.Homologies.{AreChainNumbers, AreCocycleNumbers}
 use Rattle.homotopy_arrays.specs.Loops.{AreLoops}
 use Rattle.homotopy_arrays.specs.Pairs.{AreWalks}
-use Rattle.homotopy_c.specs.Outcomes.{coded}
 use Rattle.homotopy_c.specs.Told.{in_front}
 use Rattle.homotopy_c.specs.declared.codes.TheConstants as codes
 use Rattle.homotopy_c.specs.declared.outcome.Outcome.{Outcome}
@@ -32,15 +33,16 @@ are_distinct (code ∷ codes) = not (list_any (λ other. other == code) codes) &
 abbrev pub all_codes : List ℕ
 all_codes =
     codes.DONE ∷ codes.HOMOTOPIC ∷ codes.DIFFERENT ∷ codes.ACCEPTED ∷ codes.SHORT_ROOM ∷ codes.NO_MEMORY ∷ codes.NO_MESH
-    ∷ codes.FREELY_HOMOTOPIC ∷ codes.NOT_FREELY_HOMOTOPIC
+    ∷ codes.FREELY_HOMOTOPIC ∷ codes.NOT_FREELY_HOMOTOPIC ∷ codes.HOMOLOGOUS
     ∷ codes.MANY_VERTICES ∷ codes.CORNER_COUNT ∷ codes.MANY_SIDES ∷ codes.FEW_CORNERS ∷ codes.CORNER_RANGE ∷ codes.EQUAL_NEIGHBOURS
+    ∷ codes.NOT_HOMOLOGOUS
     ∷ codes.NO_FACE ∷ codes.EDGE_SIDES ∷ codes.PINCHED ∷ codes.NOT_ORIENTABLE ∷ codes.DOUBLE_VERTICES ∷ codes.DOUBLE_SIDES
     ∷ codes.COVER_VERTICES ∷ codes.COVER_SIDES ∷ codes.WALK_COUNT ∷ codes.EMPTY_WALK ∷ codes.LONG_WALK
     ∷ codes.NO_VERTEX ∷ codes.NO_EDGE ∷ codes.STARTS_DIFFER ∷ codes.ENDS_DIFFER ∷ codes.OPEN_WALK ∷ codes.LONG_CERTIFICATE ∷ codes.NO_HEAD
     ∷ codes.BAD_LINE ∷ codes.ENDED_EARLY ∷ codes.EXTRA_LINE ∷ codes.LARGE_PEAK ∷ codes.REJECTED_PEAK ∷ codes.REJECTED_MOVE_PLACE
     ∷ codes.REJECTED_MOVE_EDGE ∷ codes.REJECTED_MOVE_SPUR ∷ codes.REJECTED_MOVE_FACE ∷ codes.REJECTED_MOVE_PEAK ∷ codes.REJECTED_END
     ∷ codes.REJECTED_SHAPE ∷ codes.REJECTED_DEGREE ∷ codes.REJECTED_PLACE ∷ codes.REJECTED_EDGE ∷ codes.REJECTED_WORD
-    ∷ codes.REJECTED_EQUAL ∷ codes.CERTIFY_SIDES ∷ codes.CERTIFY_DARTS ∷ []
+    ∷ codes.REJECTED_EQUAL ∷ codes.CERTIFY_SIDES ∷ codes.CERTIFY_DARTS ∷ codes.HOMOLOGY_DARTS ∷ []
 
 -- ---- what was answered
 
@@ -87,6 +89,31 @@ pub record ShowsDifferent (mesh : FaceList) (first second old text : List ℕ) (
   pub walks : AreWalks mesh first second
   pub different : moves.Homotopic mesh first second → ⊥
   pub shows : Shows mesh first second old text outcome
+
+-- numbers stand in front, and how many they are is told
+pub record StandCounted (numbers old new : List ℤ) (outcome : Outcome) : Type 0 where
+  pub stand : new ≡ in_front numbers old
+  pub counted : slice_index outcome.numbers 0 ≡ length numbers
+  pub fit : length numbers ≤ length old
+
+-- the two walks are homologous walks of the surface, and a number for each face is a chain for them
+pub record ShowsHomologous (mesh : FaceList) (first second : List ℕ) (old new : List ℤ) (outcome : Outcome) : Type 0 where
+  pub surface : IsOrientableSurface mesh
+  pub walks : AreWalks mesh first second
+  pub homologous : AreHomologous mesh first second
+  pub numbers : List ℤ
+  pub chain : AreChainNumbers mesh first second numbers
+  pub stand : StandCounted numbers old new outcome
+
+-- the two walks are walks of the surface with common ends that are not homologous, and a number for each side is what a cocycle gives it
+-- that separates them
+pub record ShowsNotHomologous (mesh : FaceList) (first second : List ℕ) (old new : List ℤ) (outcome : Outcome) : Type 0 where
+  pub surface : IsOrientableSurface mesh
+  pub walks : AreWalks mesh first second
+  pub apart : AreHomologous mesh first second → ⊥
+  pub numbers : List ℤ
+  pub cocycle : AreCocycleNumbers mesh first second numbers
+  pub stand : StandCounted numbers old new outcome
 
 -- a list of moves leads within its peak, or a denial holds
 abbrev pub IsAccepted : FaceList → (first second : List ℕ) → Certificate → Type 0

@@ -27,6 +27,9 @@ pub const FREELY_HOMOTOPIC: u8 = 7;
 /// The walks are two closed walks of the surface, and are not freely homotopic.
 pub const NOT_FREELY_HOMOTOPIC: u8 = 8;
 
+/// The walks are homologous.
+pub const HOMOLOGOUS: u8 = 9;
+
 /// There are more vertices than a mesh may have.
 pub const MANY_VERTICES: u8 = 10;
 
@@ -44,6 +47,9 @@ pub const CORNER_RANGE: u8 = 14;
 
 /// Two neighbours round the face are one vertex.
 pub const EQUAL_NEIGHBOURS: u8 = 15;
+
+/// The walks are two walks of the surface with common ends, and are not homologous.
+pub const NOT_HOMOLOGOUS: u8 = 16;
 
 /// The mesh has no face.
 pub const NO_FACE: u8 = 20;
@@ -156,3 +162,6 @@ pub const CERTIFY_SIDES: u8 = 70;
 
 /// The walks together have more darts than a certificate is made for, and their number.
 pub const CERTIFY_DARTS: u8 = 71;
+
+/// The walks together have more darts than are counted for homology, and their number.
+pub const HOMOLOGY_DARTS: u8 = 72;

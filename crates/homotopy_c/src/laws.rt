@@ -1,8 +1,8 @@
 //! What the calls tell, said of their definitions. A call of one of these functions does nothing; its contract is the law. Each of
 //! `homotopy_surface`, `homotopy_decide`, `homotopy_decide_any`, `homotopy_mesh_new`, `homotopy_mesh_decide`, `homotopy_mesh_loops`,
-//! `homotopy_mesh_classes`, `homotopy_certify` and `homotopy_verify` ensures the record that its law takes as a premise; `Ok mesh` there
-//! says that the arrays are a mesh, and `Some mesh` that the handle holds it.
-ghost use Rattle.std.specs.Prelude.{◌≡◌, ◌≢◌, ◌⊎◌, ◌↔◌, ◌*◌, ◌+◌, ◌/◌, ◌<◌, ◌≤◌, ℕ, List, length, take, slice_index, IsTrue, Option, Some, Result, Ok};
+//! `homotopy_mesh_classes`, `homotopy_certify`, `homotopy_verify` and `homotopy_homology` ensures the record that its law takes as a
+//! premise; `Ok mesh` there says that the arrays are a mesh, and `Some mesh` that the handle holds it.
+ghost use Rattle.std.specs.Prelude.{◌≡◌, ◌≢◌, ◌⊎◌, ◌↔◌, ◌*◌, ◌+◌, ◌/◌, ◌<◌, ◌≤◌, ℕ, ℤ, List, length, take, slice_index, IsTrue, Option, Some, Result, Ok};
 ghost use Rattle.surf_model.specs.FaceLists.{FaceList, IsFaceList, HasFileSize};
 ghost use Rattle.surf_model.specs.OrientableSurfaces.{IsOrientableSurface};
 ghost use Rattle.commands.specs.Inputs.{SpellsCertificate};
@@ -14,9 +14,10 @@ ghost use Rattle.homotopy_arrays.specs.Classes.{walks_in};
 ghost use Rattle.homotopy_arrays.specs.Pairs.{AreWalks, walk_at};
 ghost use Rattle.homotopy_arrays.specs.declared.fault.Fault.{Fault};
 ghost use Rattle.homotopy_c.specs.Certified.{IsCertifyCall};
+ghost use Rattle.homotopy_c.specs.Homologous.{IsHomologyCall};
 ghost use Rattle.homotopy_c.specs.Judged.{IsVerifyCall};
 ghost use Rattle.homotopy_c.specs.Kept.{IsMeshClassesCall, IsMeshDecideCall, IsMeshLoopsCall, IsMeshNewCall};
-ghost use Rattle.homotopy_c.specs.Meanings.{DoesAnswer, DoesAnswerLoops, DoesMeasure, IsAccepted, ShowsDifferent, ShowsHomotopic, are_distinct, all_codes};
+ghost use Rattle.homotopy_c.specs.Meanings.{DoesAnswer, DoesAnswerLoops, DoesMeasure, IsAccepted, ShowsDifferent, ShowsHomologous, ShowsHomotopic, ShowsNotHomologous, are_distinct, all_codes};
 ghost use Rattle.homotopy_c.specs.Told.{IsDecideAnyCall, IsDecideCall, IsSurfaceTold};
 ghost use Rattle.homotopy_c.specs.declared.codes.TheConstants as codes;
 ghost use Rattle.homotopy_c.specs.declared.outcome.Outcome.{Outcome};
@@ -130,4 +131,19 @@ pub fn written_texts_are_accepted()
         → (written.code ≡ codes.HOMOTOPIC) ⊎ (written.code ≡ codes.DIFFERENT) → slice_index written.numbers 0 ≤ MOST_BYTES
         → IsVerifyCall (Ok mesh) first second (take (slice_index written.numbers 0) text) judged
         → (judged.code ≡ codes.ACCEPTED) ⊎ (judged.code ≡ codes.NO_MEMORY) }
+{}
+
+/// `homotopy_homology` tells `HOMOLOGOUS` where the two walks are homologous, and writes for each face its number in a chain for them. It
+/// tells `NOT_HOMOLOGOUS` where they are not, and writes for each side what a cocycle gives it that separates them. Where it does not
+/// answer, nothing is written.
+pub fn homology_shows_what_is_homologous()
+    ensures homologous { (mesh : FaceList) (first second : List ℕ) (old numbers : List ℤ) (outcome : Outcome)
+        → IsHomologyCall (Ok mesh) first second old numbers outcome → outcome.code ≡ codes.HOMOLOGOUS
+        → ShowsHomologous mesh first second old numbers outcome }
+    ensures apart { (mesh : FaceList) (first second : List ℕ) (old numbers : List ℤ) (outcome : Outcome)
+        → IsHomologyCall (Ok mesh) first second old numbers outcome → outcome.code ≡ codes.NOT_HOMOLOGOUS
+        → ShowsNotHomologous mesh first second old numbers outcome }
+    ensures else_nothing { (mesh : FaceList) (first second : List ℕ) (old numbers : List ℤ) (outcome : Outcome)
+        → IsHomologyCall (Ok mesh) first second old numbers outcome → outcome.code ≢ codes.HOMOLOGOUS
+        → outcome.code ≢ codes.NOT_HOMOLOGOUS → numbers ≡ old }
 {}

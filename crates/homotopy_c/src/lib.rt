@@ -12,6 +12,7 @@ pub mod codes;
 mod decide;
 mod decide_any;
 pub mod handle;
+mod homologies;
 pub mod laws;
 mod loops;
 mod loose;

@@ -68,6 +68,11 @@ int main() {
     for (const auto number : kept.classes({both, ring, other, long_way, {0, 1, 0}, {0}, twice})) std::cout << ' ' << number;
     std::cout << '\n';
 
+    std::cout << "homology";
+    for (const auto &pair : {std::make_pair(both, other), std::make_pair(long_way, ring)})
+        std::cout << (homotopy::homology(mesh, pair.first, pair.second).answer == HOMOTOPY_HOMOLOGOUS ? " homologous" : " not");
+    std::cout << '\n';
+
     // A Moebius band of five triangles: its boundary goes round twice.
     const homotopy::Mesh band{5, {3, 3, 3, 3, 3}, {0, 1, 2, 1, 2, 3, 2, 3, 4, 3, 4, 0, 4, 0, 1}};
     const homotopy::Walk boundary = {0, 2, 4, 1, 3, 0}, core = {0, 1, 2, 3, 4, 0}, core_twice = {0, 1, 2, 3, 4, 0, 1, 2, 3, 4, 0};

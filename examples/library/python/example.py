@@ -35,6 +35,8 @@ answer, text = homotopy.certify(GRID * GRID, faces, row, column)
 if answer is homotopy.Answer.DIFFERENT and homotopy.verify(GRID * GRID, faces, row, column, text):
     print("a denial of", text.count(b"\n"), "lines, which is accepted")
 
+print("homology", *[homotopy.homology(GRID * GRID, faces, *pair)[0] for pair in pairs[:3]], sep=", ")
+
 # A Moebius band of five triangles: its boundary goes round twice.
 band = [(k, (k + 1) % 5, (k + 2) % 5) for k in range(5)]
 core, boundary = [0, 1, 2, 3, 4, 0], [0, 2, 4, 1, 3, 0]

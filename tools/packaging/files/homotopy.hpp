@@ -16,8 +16,8 @@ namespace homotopy {
 
 using Walk = std::vector<std::uint32_t>;
 
-// The code of a pair: HOMOTOPY_HOMOTOPIC, HOMOTOPY_DIFFERENT, HOMOTOPY_FREELY_HOMOTOPIC or HOMOTOPY_NOT_FREELY_HOMOTOPIC, or 31 to 37 for
-// what is first wrong with its walks.
+// The code of a pair: HOMOTOPY_HOMOTOPIC, HOMOTOPY_DIFFERENT, HOMOTOPY_FREELY_HOMOTOPIC, HOMOTOPY_NOT_FREELY_HOMOTOPIC, HOMOTOPY_HOMOLOGOUS or
+// HOMOTOPY_NOT_HOMOLOGOUS, or 31 to 37 for what is first wrong with its walks.
 using Answer = homotopy_code;
 
 // A mesh: a vertex count, the number of corners of each face, and the corners of all faces, face after face.
@@ -35,6 +35,13 @@ struct Surface {
 struct Certificate {
     Answer answer;
     std::string text;
+};
+
+// What two walks are, HOMOTOPY_HOMOLOGOUS or HOMOTOPY_NOT_HOMOLOGOUS, and the numbers that show it: of a chain for each face, or of a cocycle
+// for each side, from each corner to the next.
+struct Homology {
+    Answer answer;
+    std::vector<std::int64_t> numbers;
 };
 
 // What comes of a certificate: accepted, or the first reason against it.
@@ -203,6 +210,16 @@ inline Certificate certify(const Mesh &mesh, const Walk &first, const Walk &seco
     if (outcome.code != HOMOTOPY_HOMOTOPIC && outcome.code != HOMOTOPY_DIFFERENT) detail::refuse(outcome);
     text.resize(outcome.numbers[0]);
     return {static_cast<Answer>(outcome.code), std::move(text)};
+}
+
+inline Homology homology(const Mesh &mesh, const Walk &first, const Walk &second) {
+    std::vector<std::int64_t> numbers(mesh.corners.size() + 1);
+    homotopy_outcome outcome;
+    homotopy_homology(mesh.vertices, detail::of(mesh.sizes), mesh.sizes.size(), detail::of(mesh.corners), mesh.corners.size(),
+                      detail::of(first), first.size(), detail::of(second), second.size(), numbers.data(), numbers.size(), &outcome);
+    if (outcome.code != HOMOTOPY_HOMOLOGOUS && outcome.code != HOMOTOPY_NOT_HOMOLOGOUS) detail::refuse(outcome);
+    numbers.resize(outcome.numbers[0]);
+    return {static_cast<Answer>(outcome.code), std::move(numbers)};
 }
 
 inline Verdict verify(const Mesh &mesh, const Walk &first, const Walk &second, const std::string &certificate) {

@@ -63,6 +63,15 @@ pub enum Certificate {
     Denial(Vec<u8>),
 }
 
+/// What two walks are by homology, with the numbers that show it.
+#[derive(Clone, Debug, PartialEq, Eq)]
+pub enum Homology {
+    /// Homologous, by the numbers of a chain: one for each face.
+    Chain(Vec<i64>),
+    /// Not homologous, by those of a cocycle: one for each side, from each corner to the next.
+    Cocycle(Vec<i64>),
+}
+
 /// What comes of a certificate.
 #[derive(Clone, Debug, PartialEq, Eq)]
 pub enum Verdict {
@@ -91,6 +100,8 @@ const HOMOTOPIC: u32 = 1;
 const DIFFERENT: u32 = 2;
 const ACCEPTED: u32 = 3;
 const SHORT_ROOM: u32 = 4;
+const HOMOLOGOUS: u32 = 9;
+const NOT_HOMOLOGOUS: u32 = 16;
 const REJECTED: std::ops::Range<u32> = 50..70;
 
 #[repr(C)]
@@ -155,6 +166,11 @@ extern "C" {
         vertices: u32, sizes: *const u32, face_count: usize, corners: *const u32, corner_count: usize,
         first: *const u32, first_count: usize, second: *const u32, second_count: usize,
         text: *mut u8, text_room: usize, outcome: *mut Outcome,
+    );
+    fn homotopy_homology(
+        vertices: u32, sizes: *const u32, face_count: usize, corners: *const u32, corner_count: usize,
+        first: *const u32, first_count: usize, second: *const u32, second_count: usize,
+        numbers: *mut i64, number_room: usize, outcome: *mut Outcome,
     );
     fn homotopy_verify(
         vertices: u32, sizes: *const u32, face_count: usize, corners: *const u32, corner_count: usize,
@@ -266,6 +282,23 @@ impl Mesh<'_> {
                 _ => return Err(outcome.refused()),
             }
         }
+    }
+
+    /// Whether two walks on an orientable closed surface are homologous, with the numbers that show it.
+    pub fn homology(&self, first: &[u32], second: &[u32]) -> Result<Homology, Refused> {
+        let (mut outcome, mut numbers) = (Outcome::default(), vec![0i64; self.corners.len()]);
+        // SAFETY: as above.
+        unsafe {
+            homotopy_homology(
+                self.vertices, self.sizes.as_ptr(), self.sizes.len(), self.corners.as_ptr(), self.corners.len(),
+                first.as_ptr(), first.len(), second.as_ptr(), second.len(), numbers.as_mut_ptr(), numbers.len(), &mut outcome,
+            );
+        }
+        match outcome.code {
+            HOMOLOGOUS | NOT_HOMOLOGOUS => numbers.truncate(outcome.numbers[0] as usize),
+            _ => return Err(outcome.refused()),
+        }
+        Ok(if outcome.code == HOMOLOGOUS { Homology::Chain(numbers) } else { Homology::Cocycle(numbers) })
     }
 
     /// What comes of a certificate between two walks of the mesh, which need be no surface.

@@ -1,5 +1,5 @@
 //! Walks on a tetrahedron, and on what is no surface.
-use homotopy::{Certificate, Mesh};
+use homotopy::{Certificate, Homology, Mesh};
 
 fn main() -> Result<(), homotopy::Refused> {
     let corners = [0, 1, 2, 0, 3, 1, 0, 2, 3, 1, 3, 2];
@@ -20,6 +20,10 @@ fn main() -> Result<(), homotopy::Refused> {
     println!("{:?}", tetrahedron.verify(&[0, 1, 2], &[0, 2], b"MOVES 0 2\n")?);
     println!("{}", tetrahedron.verify(&[0, 1, 2], &[0, 2], b"MOVES 1 2\n").unwrap_err());
     println!("{}", tetrahedron.certify(&[0, 1, 1], &[0, 1]).unwrap_err());
+    match tetrahedron.homology(&[0, 1, 2], &[0, 2])? {
+        Homology::Chain(numbers) => println!("a chain of {} numbers", numbers.len()),
+        Homology::Cocycle(_) => println!("not homologous"),
+    }
     let open = Mesh { vertices: 4, sizes: &[3; 3], corners: &corners[..9] };
     println!("{}", open.surface().unwrap_err());
     println!("{}", open.keep().err().unwrap());

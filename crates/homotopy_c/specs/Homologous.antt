@@ -1,0 +1,45 @@
+-- How a call tells whether walks are homologous.
+use Rattle.std.specs.Prelude.{◌≡◌, ℕ, ◌<◌, ◌≤◌, List, length, ℤ, Result, Ok, Err, MatchResult}
+use Rattle.surf_model.specs.FaceLists.{FaceList}
+use Rattle.homotopy_arrays.specs.Homologies.{IsHomologyFault, ShowsWalks}
+use Rattle.homotopy_arrays.specs.declared.fault.Fault.{Fault}
+use Rattle.homotopy_arrays.specs.declared.homologies.HomologyFault.{HomologyFault}
+use Rattle.homotopy_arrays.specs.declared.homologies.HomologyFault.TheVariants.{Mesh, Walks, Darts}
+use Rattle.homotopy_arrays.specs.declared.homologies.HomologyNumbers.{HomologyNumbers}
+use Rattle.homotopy_arrays.specs.declared.homologies.HomologyNumbers.TheVariants.{Chain, Cocycle}
+use Rattle.homotopy_c.specs.Outcomes.{coded, told, told_walks}
+use Rattle.homotopy_c.specs.Told.{in_front}
+use Rattle.homotopy_c.specs.declared.codes.TheConstants as codes
+use Rattle.homotopy_c.specs.declared.outcome.Outcome.{Outcome}
+
+-- the answer that numbers show, and the numbers
+abbrev pub answer_code : HomologyNumbers → ℕ
+answer_code (Chain numbers) = codes.HOMOLOGOUS
+answer_code (Cocycle numbers) = codes.NOT_HOMOLOGOUS
+
+abbrev pub numbers_of : HomologyNumbers → List ℤ
+numbers_of (Chain numbers) = numbers.items
+numbers_of (Cocycle numbers) = numbers.items
+
+-- why nothing is shown
+abbrev pub told_homology : HomologyFault → Outcome
+told_homology (Mesh fault) = told fault
+told_homology (Walks fault) = told_walks fault
+told_homology (Darts darts) = coded codes.HOMOLOGY_DARTS darts 0 0
+
+-- The numbers stand in front of the array, and their answer is told with how many they are; where there is too little room the array is as
+-- it was, and how many are wanted is told, with the answer.
+pub record AreNumbersPut (numbers old new : List ℤ) (code : ℕ) (outcome : Outcome) : Type 0 where
+  pub room : length numbers ≤ length old → (new ≡ in_front numbers old) × (outcome ≡ coded code (length numbers) 0 0)
+  pub short : length old < length numbers → (new ≡ old) × (outcome ≡ coded codes.SHORT_ROOM (length numbers) code 0)
+
+-- how the question ended is told
+abbrev pub TellsHomology : Result HomologyNumbers HomologyFault → (old new : List ℤ) → Outcome → Type 0
+TellsHomology (Ok shown) old new outcome = AreNumbersPut (numbers_of shown) old new (answer_code shown) outcome
+TellsHomology (Err fault) old new outcome = (new ≡ old) × (outcome ≡ told_homology fault)
+
+-- `read` is the mesh that the arrays are, or what is first wrong with them
+pub record IsHomologyCall (read : Result FaceList Fault) (first second : List ℕ) (old new : List ℤ) (outcome : Outcome) : Type 0 where
+  pub end : Result HomologyNumbers HomologyFault
+  pub right : MatchResult end (ShowsWalks read first second) (IsHomologyFault read first second)
+  pub tells : TellsHomology end old new outcome
