@@ -14,8 +14,9 @@ returns c = record {
       ((lifts_homotopic mesh bits first second polygons ways one two).1 led);
   moves = λ files words status text a mesh bits first second list polygons ways one two input yes.
       let judged = verified files words status text
-          (λ mesh walks certificate is. row_answered files words (Verify mesh walks certificate) status text a is) in
-      (lifts_homotopic mesh bits first second polygons ways one two).0
-      (list.moves,
-      ((judged.accepted (cover_by mesh bits) (lift_by mesh bits first) (lift_by mesh bits second) list input).0 yes).0);
+      (λ mesh walks certificate is. row_answered files words (Verify mesh walks certificate) status text a is) in
+      (lifts_homotopic mesh bits first second polygons ways one two).0 (
+        list.moves,
+        ((judged.accepted (cover_by mesh bits) (lift_by mesh bits first) (lift_by mesh bits second) list input).0 yes).0,
+      );
 }

@@ -13,7 +13,7 @@ returns c = record {
       (double_of mesh) first second denial input yes ((keeps_homotopy mesh first second polygons one two).1 led);
   moves = λ files words status text a mesh first second list polygons one two input yes.
       let judged = verified files words status text
-          (λ mesh walks certificate is. row_answered files words (Verify mesh walks certificate) status text a is) in
+      (λ mesh walks certificate is. row_answered files words (Verify mesh walks certificate) status text a is) in
       (keeps_homotopy mesh first second polygons one two).0
       (list.moves, ((judged.accepted (double_of mesh) first second list input).0 yes).0);
 }
