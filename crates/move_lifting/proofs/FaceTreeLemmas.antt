@@ -42,13 +42,15 @@ names_next : (s : OrientedMesh) (split : SplitView) → IsOrientedSurface s → 
     → StepsUp (rotations_of s) split c f
     → IsPath (StepsUp (rotations_of s) split) g path split.root_face → names c (g ∷ path) ≡ true → names f (g ∷ path) ≡ true
 names_next s split o t c f g [] step p h = elim (or_cases (eqb g c) (names c []) h) [
-  | inl here ↦ absurd ((faces_upward s split o t).top f (subst (λ (x : ℕ). StepsUp (rotations_of s) split x f) (sym (eqb-true g c here) ∙ p) step))
+  | inl here ↦
+      absurd ((faces_upward s split o t).top f
+      (subst (λ (x : ℕ). StepsUp (rotations_of s) split x f) (sym (eqb-true g c here) ∙ p) step))
   | inr none ↦ absurd (both_ways false refl none)
 ]
 names_next s split o t c f g (x ∷ path) step p h = elim (or_cases (eqb g c) (names c (x ∷ path)) h) [
   | inl here ↦
-      let same : x ≡ f = (faces_upward s split o t).one c x f (subst (λ (y : ℕ). StepsUp (rotations_of s) split y x) (eqb-true g c here) p.0)
-      step in
+      let same : x ≡ f =
+      (faces_upward s split o t).one c x f (subst (λ (y : ℕ). StepsUp (rotations_of s) split y x) (eqb-true g c here) p.0) step in
       or_right (eqb g f) (names f (x ∷ path)) (or_left (eqb x f) (names f path) (eq-eqb x f same))
   | inr later ↦ or_right (eqb g f) (names f (x ∷ path)) (names_next s split o t c f x path step p.1 later)
 ]

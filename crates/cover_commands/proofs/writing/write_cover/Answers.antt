@@ -4,8 +4,8 @@ use Rattle.cover_commands.proofs.writing.write_cover.Goals as goal
 
 pub returns-in-Ok-clause-answered : goal.returns-in-Ok-clause-answered
 returns-in-Ok-clause-answered g c =
-    wrote_all _ (mesh_answers (g.S.Shelf.held c.args.shelf.now) c.args.mesh.now c.in-Ok.cover c.in-Ok.ensures.end) c.give_mesh.ensures.either
-    c.give_mesh.ensures.written
+    wrote_all _ (mesh_answers (g.S.Shelf.held c.args.shelf.now) c.args.mesh.now c.in-Ok.cover c.in-Ok.ensures.end)
+    c.give_mesh.ensures.either c.give_mesh.ensures.written
 
 pub returns-in-Ok-clause-write_fault : goal.returns-in-Ok-clause-write_fault
 returns-in-Ok-clause-write_fault g c =
