@@ -34,10 +34,10 @@ no_links mesh signs face = record { starts = refl; leads = tt; even = bit_even (
 join_even : (a b c m n : ℕ) → (m + a + b) % 2 ≡ 0 → (n + b + c) % 2 ≡ 0 → (m + n + a + c) % 2 ≡ 0
 join_even a b c m n h k = omega arith
 
-pub link_path : (mesh : FaceList) (signs : List Bool) (link : ChainLink) (links : List ChainLink) (next to : ℕ) → LeadsTo mesh link next
+pub link_path : {mesh : FaceList} {signs : List Bool} {link : ChainLink} {links : List ChainLink} {next to : ℕ} → LeadsTo mesh link next
     → is_turned mesh link ≡ differ (is_flipped signs link.face.0) (is_flipped signs next) → IsEvenPath mesh signs next links to →
     IsEvenPath mesh signs link.face.0 (link ∷ links) to
-link_path mesh signs link links next to leads turned h = record {
+link_path {mesh} {signs} {link} {links} {next} {to} leads turned h = record {
   starts = refl;
   leads = (subst (LeadsTo mesh link) (sym h.starts) leads, h.leads);
   even =
@@ -63,10 +63,10 @@ two_from_map f (x ∷ []) a b h = cc
 two_from_map f (x ∷ y ∷ []) a b h = record { first = x; second = y; are = refl; is_a = cc; is_b = cc }
 two_from_map f (x ∷ y ∷ z ∷ xs) a b h = cc
 
-turned_if : (mesh : FaceList) (signs : List Bool) (link : ChainLink) (a b : ℕ) → IsFaceList mesh → IsCoherent mesh signs
+turned_if : {mesh : FaceList} {signs : List Bool} (link : ChainLink) (a b : ℕ) → IsFaceList mesh → IsCoherent mesh signs
     → map (λ (s : FaceSide). s.face) (filter (joins link.low.0 link.high.0) (all_sides mesh)) ≡ a ∷ b ∷ [] → differ (is_flipped signs a)
     (is_flipped signs b) ≡ is_turned mesh link
-turned_if mesh signs link a b is h faces =
+turned_if {mesh} {signs} link a b is h faces =
     let two : AreTwo (λ (s : FaceSide). s.face) (filter (joins link.low.0 link.high.0) (all_sides mesh)) a b = two_from_map
     (λ (s : FaceSide). s.face) (filter (joins link.low.0 link.high.0) (all_sides mesh)) a b faces in
     let s : FaceSide = two.first in
@@ -76,7 +76,7 @@ turned_if mesh signs link a b is h faces =
     λ k d l. subst (λ (xs : List FaceSide). Joins mesh link.low.0 link.high.0 (get_or xs k d)) two.are
     (joining mesh link.low.0 link.high.0 k d (omega (arith, l, ap (λ (xs : List FaceSide). length xs) two.are))) in
     let fit : differ (is_flipped signs s.face) (is_flipped signs t.face) ≡ runs_alike mesh (side_name s) (side_name t) =
-    fit_if_opposite mesh signs (side_name s) (side_name t) is partners (h.opposite (side_name s) (side_name t) partners) in
+    fit_if_opposite is partners (h.opposite (side_name s) (side_name t) partners) in
     let tails : eqb t.tail s.tail ≡ runs_alike mesh (side_name s) (side_name t) =
     eqb_swap t.tail s.tail ∙ ap (λ n. eqb n t.tail) (all 0 s (omega arith)).listed.tail ∙ ap (eqb (tail_of mesh (side_name s)))
     (all 1 s (omega arith)).listed.tail in
@@ -90,23 +90,21 @@ differ_swap true false = refl
 differ_swap false true = refl
 differ_swap false false = refl
 
-turned_under : (mesh : FaceList) (signs : List Bool) (link : ChainLink) (next : ℕ) → IsFaceList mesh → IsCoherent mesh signs
+turned_under : {mesh : FaceList} {signs : List Bool} {link : ChainLink} {next : ℕ} → IsFaceList mesh → IsCoherent mesh signs
     → LeadsTo mesh link next
     → is_turned mesh link ≡ differ (is_flipped signs link.face.0) (is_flipped signs next)
-turned_under mesh signs link next is h leads =
+turned_under {signs} {link} {next} is h leads =
     elim leads.faces [
-      | inl one ↦ sym (turned_if mesh signs link link.face.0 next is h one)
-      | inr other ↦ sym (turned_if mesh signs link next link.face.0 is h other) ∙ differ_swap (is_flipped signs next)
-          (is_flipped signs link.face.0)
+      | inl one ↦ sym (turned_if link link.face.0 next is h one)
+      | inr other ↦ sym (turned_if link next link.face.0 is h other) ∙ differ_swap (is_flipped signs next) (is_flipped signs link.face.0)
     ]
 
-even_path : (mesh : FaceList) (signs : List Bool) (links : List ChainLink) (to : ℕ) → IsFaceList mesh → IsCoherent mesh signs
+even_path : {mesh : FaceList} {signs : List Bool} (links : List ChainLink) (to : ℕ) → IsFaceList mesh → IsCoherent mesh signs
     → LeadOnTo mesh links to
     → IsEvenPath mesh signs (first_face links to) links to
-even_path mesh signs [] to is h leads = no_links mesh signs to
-even_path mesh signs (link ∷ links) to is h leads =
-    link_path mesh signs link links (first_face links to) to leads.0 (turned_under mesh signs link (first_face links to) is h leads.0)
-    (even_path mesh signs links to is h leads.1)
+even_path {mesh} {signs} [] to is h leads = no_links mesh signs to
+even_path (link ∷ links) to is h leads =
+    link_path leads.0 (turned_under is h leads.0) (even_path links to is h leads.1)
 
 not_both : (n b : ℕ) → (n + b + b) % 2 ≡ 0 → n % 2 ≡ 1 → ⊥
 not_both n b h k = omega arith
@@ -119,7 +117,7 @@ pub odd_excludes : (mesh : FaceList) (chain : List ChainLink) → IsFaceList mes
     → (signs : List Bool) × IsCoherent mesh signs → ⊥
 odd_excludes mesh chain is odd some =
     let face : ℕ = first_face chain 0 in
-    let path : IsEvenPath mesh some.0 (first_face chain face) chain face = even_path mesh some.0 chain face is some.1 odd.closed in
+    let path : IsEvenPath mesh some.0 (first_face chain face) chain face = even_path chain face is some.1 odd.closed in
     let same : first_face chain face ≡ face = first_face_of chain face 0 odd.some_link in
     not_both (count_by (is_turned mesh) chain) (bit (is_flipped some.0 face))
     (subst (λ f. (count_by (is_turned mesh) chain + bit (is_flipped some.0 f) + bit (is_flipped some.0 face)) % 2 ≡ 0) same path.even)

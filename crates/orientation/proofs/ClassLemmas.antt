@@ -25,12 +25,11 @@ agree_before true false false d h e = cc
 agree_before false true true d h e = cc
 agree_before false false true d h e = cc
 
-agree_on_step : (mesh : FaceList) (signs others : List Bool) (f g : ℕ) → IsFaceList mesh → IsCoherent mesh signs → IsCoherent mesh others
+agree_on_step : {mesh : FaceList} {signs others : List Bool} {f g : ℕ} → IsFaceList mesh → IsCoherent mesh signs → IsCoherent mesh others
     → IsFaceStep mesh f g → is_flipped signs g ≡ is_flipped others g → is_flipped signs f ≡ is_flipped others f
-agree_on_step mesh signs others f g is h k step same =
-    let one : Fit mesh signs step.side step.partner = fit_if_opposite mesh signs step.side step.partner is step.partners
-    (h.opposite step.side step.partner step.partners) in
-    let two : Fit mesh others step.side step.partner = fit_if_opposite mesh others step.side step.partner is step.partners
+agree_on_step {mesh} {signs} {others} is h k step same =
+    let one : Fit mesh signs step.side step.partner = fit_if_opposite is step.partners (h.opposite step.side step.partner step.partners) in
+    let two : Fit mesh others step.side step.partner = fit_if_opposite is step.partners
     (k.opposite step.side step.partner step.partners) in
     let there : is_flipped signs step.partner.face.0 ≡ is_flipped others step.partner.face.0 = subst
     (λ n. is_flipped signs n ≡ is_flipped others n) (sym step.to) same in
@@ -38,12 +37,11 @@ agree_on_step mesh signs others f g is h k step same =
     (agree_before (is_flipped signs step.side.face.0) (is_flipped signs step.partner.face.0) (is_flipped others step.side.face.0)
     (is_flipped others step.partner.face.0) (one ∙ sym two) there)
 
-agree_on_path : (mesh : FaceList) (signs others : List Bool) (f g : ℕ) (path : List ℕ) → IsFaceList mesh → IsCoherent mesh signs
+agree_on_path : {mesh : FaceList} {signs others : List Bool} (f g : ℕ) (path : List ℕ) → IsFaceList mesh → IsCoherent mesh signs
     → IsCoherent mesh others
     → IsPath (IsFaceStep mesh) f path g → is_flipped signs g ≡ is_flipped others g → is_flipped signs f ≡ is_flipped others f
-agree_on_path mesh signs others f g [] is h k path same = subst (λ n. is_flipped signs n ≡ is_flipped others n) (sym path) same
-agree_on_path mesh signs others f g (w ∷ more) is h k path same =
-    agree_on_step mesh signs others f w is h k path.0 (agree_on_path mesh signs others w g more is h k path.1 same)
+agree_on_path {signs} {others} f g [] is h k path same = subst (λ n. is_flipped signs n ≡ is_flipped others n) (sym path) same
+agree_on_path f g (w ∷ more) is h k path same = agree_on_step is h k path.0 (agree_on_path w g more is h k path.1 same)
 
 bool_cases : (a b : Bool) → (a ≡ b) ⊎ (a ≢ b)
 bool_cases true true = inl refl
@@ -51,25 +49,24 @@ bool_cases true false = inr (λ h. cc)
 bool_cases false true = inr (λ h. cc)
 bool_cases false false = inl refl
 
-agree_below : (mesh : FaceList) (signs others : List Bool) → IsFaceList mesh → IsCoherent mesh signs → IsCoherent mesh others
+agree_below : {mesh : FaceList} {signs others : List Bool} → IsFaceList mesh → IsCoherent mesh signs → IsCoherent mesh others
     → IsLeastKept mesh signs → IsLeastKept mesh others
     → (n f : ℕ) → f < n → f < length mesh.faces → is_flipped signs f ≡ is_flipped others f
-agree_below mesh signs others is h k keep keeps zero f below few = absurd (omega arith)
-agree_below mesh signs others is h k keep keeps (suc n) f below few =
+agree_below is h k keep keeps zero f below few = absurd (omega arith)
+agree_below {mesh} {signs} {others} is h k keep keeps (suc n) f below few =
     elim (bool_cases (is_flipped signs f) (is_flipped others f)) [
       | inl same ↦ same
       | inr other ↦
           (let least : IsLeastOfClass mesh f = λ g joined. elim (cases_lt g f) [
-            | inl less ↦ absurd (other
-                (agree_on_path mesh signs others f g joined.0 is h k joined.1
-                (agree_below mesh signs others is h k keep keeps n g (omega arith) (omega arith))))
+            | inl less ↦ absurd (other (agree_on_path f g joined.0 is h k joined.1
+                (agree_below is h k keep keeps n g (omega arith) (omega arith))))
             | inr more ↦ more
           ] in
           keep f few least ∙ sym (keeps f few least))
     ]
 
-pub signs_unique : (mesh : FaceList) (signs others : List Bool) → IsFaceList mesh → IsCoherent mesh signs → IsCoherent mesh others
+pub signs_unique : {mesh : FaceList} {signs others : List Bool} → IsFaceList mesh → IsCoherent mesh signs → IsCoherent mesh others
     → IsLeastKept mesh signs → IsLeastKept mesh others → signs ≡ others
-signs_unique mesh signs others is h k keep keeps =
+signs_unique {signs} {others} is h k keep keeps =
     ext_get_or false signs others (h.each_face ∙ sym k.each_face)
-    (λ f few. agree_below mesh signs others is h k keep keeps (f + 1) f (omega arith) (omega (arith, few, h.each_face)))
+    (λ f few. agree_below is h k keep keeps (f + 1) f (omega arith) (omega (arith, few, h.each_face)))

@@ -11,9 +11,9 @@ corner_face : (mesh : FaceList) (v : ℕ) (side corner : Side) → IsCornerOfSid
 corner_face mesh v side corner (inl h) = ap (λ (s : Side). s.face.0) (sym h.1)
 corner_face mesh v side corner (inr h) = ap (λ (s : Side). s.face.0) (sym h.1)
 
-around_step : (mesh : FaceList) (v : ℕ) (corner other : Side) → IsStepAround mesh v corner other
+around_step : {mesh : FaceList} {v : ℕ} {corner other : Side} → IsStepAround mesh v corner other
     → IsFaceStep mesh corner.face.0 other.face.0
-around_step mesh v corner other h = record {
+around_step {mesh} {v} {corner} {other} h = record {
   side = h.side;
   partner = h.partner;
   partners = h.partners;
@@ -26,13 +26,12 @@ around_path : (mesh : FaceList) (v : ℕ) (corner : Side) (path : List Side) (ot
 around_path mesh v corner [] other h = joined_refl (IsFaceStep mesh) _ _ (ap (λ (s : Side). s.face.0) h)
 around_path mesh v corner (next ∷ path) other h =
     joined_trans (IsFaceStep mesh) corner.face.0 next.face.0 other.face.0
-    (joined_step (IsFaceStep mesh) corner.face.0 next.face.0 (around_step mesh v corner next h.0))
-    (around_path mesh v next path other h.1)
+    (joined_step (IsFaceStep mesh) corner.face.0 next.face.0 (around_step h.0)) (around_path mesh v next path other h.1)
 
 -- the faces of two corners at a vertex
-at_vertex : (mesh : FaceList) (v : ℕ) (corner other : Side) → IsClosedManifold mesh → IsCornerAt mesh v corner → IsCornerAt mesh v other
+at_vertex : {mesh : FaceList} {v : ℕ} {corner other : Side} → IsClosedManifold mesh → IsCornerAt mesh v corner → IsCornerAt mesh v other
     → AreOfOneClass mesh corner.face.0 other.face.0
-at_vertex mesh v corner other closed first second =
+at_vertex {mesh} {v} {corner} {other} closed first second =
     let ring : HasOneRing mesh v = closed.one_ring v (corner_used mesh v corner first) in
     let joined : AreJoined (IsStepAround mesh v) corner other = ring corner other first second in
     around_path mesh v corner joined.0 other joined.1
@@ -69,12 +68,10 @@ corners_between mesh u v is =
 along_path : (mesh : FaceList) (u : ℕ) (path : List ℕ) (v : ℕ) (corner other : Side) → IsClosedManifold mesh
     → IsPath (IsEdgeStep mesh) u path v → IsCornerAt mesh u corner → IsCornerAt mesh v other
     → AreOfOneClass mesh corner.face.0 other.face.0
-along_path mesh u [] v corner other closed h first second =
-    at_vertex mesh v corner other closed (subst (λ w. IsCornerAt mesh w corner) h first) second
+along_path mesh u [] v corner other closed h first second = at_vertex closed (subst (λ w. IsCornerAt mesh w corner) h first) second
 along_path mesh u (w ∷ path) v corner other closed h first second =
     let between : HasCorners mesh u w = corners_between mesh u w h.0 in
-    joined_trans (IsFaceStep mesh) corner.face.0 between.first.face.0 other.face.0
-    (at_vertex mesh u corner between.first closed first between.at_first)
+    joined_trans (IsFaceStep mesh) corner.face.0 between.first.face.0 other.face.0 (at_vertex closed first between.at_first)
     (subst (λ f. AreOfOneClass mesh f other.face.0) (sym between.one_face)
     (along_path mesh w path v between.second other closed h.1 between.at_second second))
 
@@ -98,21 +95,19 @@ face_joined mesh f (suc t) l b =
 abbrev first_of : FaceList → ℕ → ℕ
 first_of mesh f = get_or (face_at mesh f) 0 0
 
-side_joined : (mesh : FaceList) (side : Side) → IsSide mesh side
+side_joined : {mesh : FaceList} {side : Side} → IsSide mesh side
     → AreJoined (IsEdgeStep mesh) (first_of mesh side.face.0) (tail_of mesh side)
-side_joined mesh side h = face_joined mesh side.face.0 side.at h.face h.place
+side_joined {mesh} {side} h = face_joined mesh side.face.0 side.at h.face h.place
 
-partners_joined : (mesh : FaceList) (side partner : Side) → ArePartners mesh side partner
+partners_joined : {mesh : FaceList} {side partner : Side} → ArePartners mesh side partner
     → AreJoined (IsEdgeStep mesh) (first_of mesh side.face.0) (first_of mesh partner.face.0)
-partners_joined mesh side partner h =
-    let there = side_joined mesh side h.first in
+partners_joined {mesh} {side} {partner} h =
+    let there = side_joined h.first in
     let back : (corner : Side) → IsSide mesh corner → tail_of mesh side ≡ tail_of mesh corner
     → AreJoined (IsEdgeStep mesh) (first_of mesh side.face.0) (first_of mesh corner.face.0) =
     λ corner in_mesh same. joined_trans (IsEdgeStep mesh) (first_of mesh side.face.0) (tail_of mesh side) (first_of mesh corner.face.0)
-    there
-    (subst (λ v. AreJoined (IsEdgeStep mesh) v (first_of mesh corner.face.0)) (sym same)
-    (joined_sym (IsEdgeStep mesh) (edge_swap mesh) (first_of mesh corner.face.0) (tail_of mesh corner)
-    (side_joined mesh corner in_mesh))) in
+    there (subst (λ v. AreJoined (IsEdgeStep mesh) v (first_of mesh corner.face.0)) (sym same)
+    (joined_sym (IsEdgeStep mesh) (edge_swap mesh) (first_of mesh corner.face.0) (tail_of mesh corner) (side_joined in_mesh))) in
     elim h.one_edge [
       | inl e ↦ back partner h.second e.0
       | inr e ↦ back (side_after mesh partner) (after_in_mesh mesh partner h.second) e.0
@@ -124,15 +119,14 @@ class_path mesh f [] g h = joined_refl (IsEdgeStep mesh) _ _ (ap (first_of mesh)
 class_path mesh f (next ∷ path) g h =
     joined_trans (IsEdgeStep mesh) (first_of mesh f) (first_of mesh next) (first_of mesh g)
     (subst (λ a. AreJoined (IsEdgeStep mesh) (first_of mesh a) (first_of mesh next)) h.0.from
-    (subst (λ b. AreJoined (IsEdgeStep mesh) (first_of mesh h.0.side.face.0) (first_of mesh b)) h.0.to
-    (partners_joined mesh h.0.side h.0.partner h.0.partners)))
+    (subst (λ b. AreJoined (IsEdgeStep mesh) (first_of mesh h.0.side.face.0) (first_of mesh b)) h.0.to (partners_joined h.0.partners)))
     (class_path mesh next path g h.1)
 
 -- ---- both ways
 
-corner_of_face : (mesh : FaceList) (f : ℕ) → IsFaceList mesh → f < length mesh.faces
+corner_of_face : {mesh : FaceList} (f : ℕ) → IsFaceList mesh → f < length mesh.faces
     → IsCornerAt mesh (first_of mesh f) (record { face = record { 0 = f }; at = 0 })
-corner_of_face mesh f valid l =
+corner_of_face f valid l =
     let is_face = valid.faces f [] l in
     record { side = record { face = l; place = omega (arith, is_face.polygon) }; vertex = refl }
 
@@ -142,12 +136,12 @@ classes_are_components mesh f g valid closed lf lg = (there, back)
   where
     there : AreOfOneClass mesh f g → AreJoinedByWalk mesh (first_of mesh f) (first_of mesh g)
     there h =
-        let corner = corner_of_face mesh f valid lf in
+        let corner = corner_of_face f valid lf in
         walk_from_joined mesh (first_of mesh f) (first_of mesh g) (corner_used mesh (first_of mesh f) _ corner)
         (class_path mesh f h.0 g h.1)
 
     back : AreJoinedByWalk mesh (first_of mesh f) (first_of mesh g) → AreOfOneClass mesh f g
     back h =
         let joined = joined_from_walk mesh (first_of mesh f) (first_of mesh g) h in
-        along_path mesh (first_of mesh f) joined.0 (first_of mesh g) _ _ closed joined.1 (corner_of_face mesh f valid lf)
-        (corner_of_face mesh g valid lg)
+        along_path mesh (first_of mesh f) joined.0 (first_of mesh g) _ _ closed joined.1 (corner_of_face f valid lf)
+        (corner_of_face g valid lg)

@@ -23,8 +23,8 @@ join_parity m n true false h k = omega arith
 join_parity m n false true h k = omega arith
 join_parity m n false false h k = omega arith
 
-band-append : (mesh : FaceList) (a b : Bool) (f g h : ℕ) → HasBand mesh a f g → HasBand mesh b g h → HasBand mesh (differ a b) f h
-band-append mesh a b f g h x y = record {
+band-append : {mesh : FaceList} {a b : Bool} {f g h : ℕ} → HasBand mesh a f g → HasBand mesh b g h → HasBand mesh (differ a b) f h
+band-append {mesh} {a} {b} {h} x y = record {
   links = x.links ++ y.links;
   starts = first_face-append x.links y.links h ∙ ap (first_face x.links) y.starts ∙ x.starts;
   leads = LeadOnTo-append mesh x.links y.links h (subst (LeadOnTo mesh x.links) (sym y.starts) x.leads) y.leads;
@@ -43,9 +43,9 @@ twice true = refl
 twice false = refl
 
 -- a step across an edge makes a band
-step_band : (mesh : FaceList) (side other : Side) → IsFaceList mesh → EachEdgeHasAtMostTwoSides mesh → ArePartners mesh side other
+step_band : {mesh : FaceList} {side other : Side} → IsFaceList mesh → EachEdgeHasAtMostTwoSides mesh → ArePartners mesh side other
     → HasBand mesh (runs_alike mesh side other) side.face.0 other.face.0
-step_band mesh side other is two h =
+step_band {mesh} {side} {other} is two h =
     let low : ℕ = min (tail_of mesh side) (head_of mesh side) in
     let high : ℕ = max (tail_of mesh side) (head_of mesh side) in
     let link : ChainLink = record { face = side.face; low = record { 0 = low }; high = record { 0 = high } } in
@@ -53,9 +53,9 @@ step_band mesh side other is two h =
     record {
       links = link ∷ [];
       starts = refl;
-      leads = (link_leads mesh side other link two h along refl, tt);
+      leads = (link_leads link two h along refl, tt);
       parity =
-          ap (λ n. (n + bit (runs_alike mesh side other)) % 2) (count-one mesh link ∙ ap bit (link_turned mesh side other link two h along))
+          ap (λ n. (n + bit (runs_alike mesh side other)) % 2) (count-one mesh link ∙ ap bit (link_turned link two h along))
           ∙ twice (runs_alike mesh side other);
     }
 
@@ -64,14 +64,14 @@ record AreBanded (mesh : FaceList) (odd : Bool) (f g : ℕ) : Type 0 where
   to : HasBand mesh odd f g
   back : HasBand mesh odd g f
 
-step_both : (mesh : FaceList) (f g : ℕ) → IsFaceList mesh → EachEdgeHasAtMostTwoSides mesh → IsFaceStep mesh f g
+step_both : {mesh : FaceList} {f g : ℕ} → IsFaceList mesh → EachEdgeHasAtMostTwoSides mesh → IsFaceStep mesh f g
     → (odd : Bool) × AreBanded mesh odd f g
-step_both mesh f g is two step =
+step_both {mesh} {f} {g} is two step =
     let alike : Bool = runs_alike mesh step.side step.partner in
-    let to : HasBand mesh alike step.side.face.0 step.partner.face.0 = step_band mesh step.side step.partner is two step.partners in
+    let to : HasBand mesh alike step.side.face.0 step.partner.face.0 = step_band is two step.partners in
     let back : HasBand mesh alike step.partner.face.0 step.side.face.0 =
     subst (λ b. HasBand mesh b step.partner.face.0 step.side.face.0) (eqb_swap (tail_of mesh step.partner) (tail_of mesh step.side))
-    (step_band mesh step.partner step.side is two (partners_swap mesh step.side step.partner step.partners)) in (
+    (step_band is two (partners_swap mesh step.side step.partner step.partners)) in (
       alike,
       record {
         to = subst (λ n. HasBand mesh alike n g) step.from (subst (HasBand mesh alike step.side.face.0) step.to to);
@@ -79,25 +79,24 @@ step_both mesh f g is two step =
       },
     )
 
-path_both : (mesh : FaceList) (f g : ℕ) (path : List ℕ) → IsFaceList mesh → EachEdgeHasAtMostTwoSides mesh
+path_both : {mesh : FaceList} (f g : ℕ) (path : List ℕ) → IsFaceList mesh → EachEdgeHasAtMostTwoSides mesh
     → IsPath (IsFaceStep mesh) f path g → (odd : Bool) × AreBanded mesh odd f g
-path_both mesh f g [] is two path =
+path_both {mesh} f g [] is two path =
     subst (λ n. (odd : Bool) × AreBanded mesh odd f n) path (false, record { to = no_band mesh f; back = no_band mesh f })
-path_both mesh f g (h ∷ more) is two path =
-    let first = step_both mesh f h is two path.0 in
-    let rest = path_both mesh h g more is two path.1 in (
+path_both {mesh} f g (h ∷ more) is two path =
+    let first = step_both is two path.0 in
+    let rest = path_both h g more is two path.1 in (
       differ first.0 rest.0,
       record {
-        to = band-append mesh first.0 rest.0 f h g first.1.to rest.1.to;
+        to = band-append first.1.to rest.1.to;
         back =
-            subst (λ b. HasBand mesh b g f) (differ_swap rest.0 first.0)
-            (band-append mesh rest.0 first.0 g h f rest.1.back first.1.back);
+            subst (λ b. HasBand mesh b g f) (differ_swap rest.0 first.0) (band-append rest.1.back first.1.back);
       },
     )
 
 -- a band from a face to itself with an odd number of turned links is an odd chain
-odd_band : (mesh : FaceList) (f : ℕ) → HasBand mesh true f f → (chain : List ChainLink) × IsOddChain mesh chain
-odd_band mesh f h = (h.links, ring h.links h.starts h.leads h.parity)
+odd_band : {mesh : FaceList} {f : ℕ} → HasBand mesh true f f → (chain : List ChainLink) × IsOddChain mesh chain
+odd_band {mesh} {f} h = (h.links, ring h.links h.starts h.leads h.parity)
   where
     odd_number : (n : ℕ) → (n + 1) % 2 ≡ 0 → n % 2 ≡ 1
     odd_number n h = omega arith
@@ -119,24 +118,22 @@ record HasSign (mesh : FaceList) (f : ℕ) (sign : Bool) : Type 0 where
   bands : AreBanded mesh sign f root
 
 -- no face is without one
-signed_face : (mesh : FaceList) (n f : ℕ) → IsFaceList mesh → EachEdgeHasAtMostTwoSides mesh → f < n →
+signed_face : {mesh : FaceList} (n f : ℕ) → IsFaceList mesh → EachEdgeHasAtMostTwoSides mesh → f < n →
     ((sign : Bool) → HasSign mesh f sign → ⊥)
     → ⊥
-signed_face mesh zero f is two below none = omega arith
-signed_face mesh (suc n) f is two below none =
+signed_face zero f is two below none = omega arith
+signed_face {mesh} (suc n) f is two below none =
     let least : IsLeastOfClass mesh f = λ g joined. elim (cases_lt g f) [
       | inl less ↦
-          absurd (signed_face mesh n g is two (omega arith)
-          (λ sign h.
-          let bands = path_both mesh f g joined.0 is two joined.1 in
+          absurd (signed_face n g is two (omega arith) (λ sign h.
+          let bands = path_both f g joined.0 is two joined.1 in
           none (differ bands.0 sign) (record {
             root = h.root;
             least = h.least;
             joined = joined_trans (IsFaceStep mesh) f g h.root joined h.joined;
             bands = record {
-              to = band-append mesh bands.0 sign f g h.root bands.1.to h.bands.to;
-              back = subst (λ b. HasBand mesh b h.root f) (differ_swap sign bands.0)
-                  (band-append mesh sign bands.0 h.root g f h.bands.back bands.1.back);
+              to = band-append bands.1.to h.bands.to;
+              back = subst (λ b. HasBand mesh b h.root f) (differ_swap sign bands.0) (band-append h.bands.back bands.1.back);
             };
           })))
       | inr more ↦ more
@@ -148,16 +145,12 @@ record AreSigns (mesh : FaceList) (n : ℕ) (signs : List Bool) : Type 0 where
   long : length signs ≡ n
   each : (f : ℕ) → f < n → HasSign mesh f (is_flipped signs f)
 
-some_signs : (mesh : FaceList) (n : ℕ) → IsFaceList mesh → EachEdgeHasAtMostTwoSides mesh →
+some_signs : {mesh : FaceList} (n : ℕ) → IsFaceList mesh → EachEdgeHasAtMostTwoSides mesh →
     ((signs : List Bool) → AreSigns mesh n signs → ⊥)
     → ⊥
-some_signs mesh zero is two none = none [] (record { long = refl; each = λ f less. absurd (omega arith) })
-some_signs mesh (suc n) is two none =
-    some_signs mesh n is two
-    (λ signs h.
-    signed_face mesh (n + 1) n is two (omega arith)
-    (λ sign last.
-    none (signs ++ sign ∷ []) (record {
+some_signs zero is two none = none [] (record { long = refl; each = λ f less. absurd (omega arith) })
+some_signs {mesh} (suc n) is two none =
+    some_signs n is two (λ signs h. signed_face (n + 1) n is two (omega arith) (λ sign last. none (signs ++ sign ∷ []) (record {
       long = omega (arith, length_push signs sign, h.long);
       each = λ f less. elim (cases_lt f n) [
         | inl before ↦
@@ -176,10 +169,10 @@ same_or_odd false true = inr refl
 same_or_odd false false = inl refl
 
 -- without an odd chain such signs fit
-signs_fit : (mesh : FaceList) (signs : List Bool) (side other : Side) → IsFaceList mesh → EachEdgeHasAtMostTwoSides mesh
+signs_fit : {mesh : FaceList} {signs : List Bool} {side other : Side} → IsFaceList mesh → EachEdgeHasAtMostTwoSides mesh
     → AreSigns mesh (length mesh.faces) signs
     → ((chain : List ChainLink) → IsOddChain mesh chain → ⊥) → ArePartners mesh side other → Fit mesh signs side other
-signs_fit mesh signs side other is two h none partners =
+signs_fit {mesh} {signs} {side} {other} is two h none partners =
     let f : ℕ = side.face.0 in
     let g : ℕ = other.face.0 in
     let a : HasSign mesh f (is_flipped signs f) = h.each f partners.first.face in
@@ -194,30 +187,27 @@ signs_fit mesh signs side other is two h none partners =
     let one : b.root ≡ a.root = omega arith in
     let alike : Bool = runs_alike mesh side other in
     -- from the face to the least one, to the other face, and back across the edge
-    let way : HasBand mesh (differ (is_flipped signs f) (is_flipped signs g)) f g =
-    band-append mesh (is_flipped signs f) (is_flipped signs g) f a.root g a.bands.to
+    let way : HasBand mesh (differ (is_flipped signs f) (is_flipped signs g)) f g = band-append a.bands.to
     (subst (λ n. HasBand mesh (is_flipped signs g) n g) one b.bands.back) in
-    let edge : HasBand mesh alike g f =
-    subst (λ x. HasBand mesh x g f) (eqb_swap (tail_of mesh other) (tail_of mesh side))
-    (step_band mesh other side is two (partners_swap mesh side other partners)) in
-    let ring : HasBand mesh (differ (differ (is_flipped signs f) (is_flipped signs g)) alike) f f = band-append mesh
-    (differ (is_flipped signs f) (is_flipped signs g)) alike f g f way edge in
+    let edge : HasBand mesh alike g f = subst (λ x. HasBand mesh x g f) (eqb_swap (tail_of mesh other) (tail_of mesh side))
+    (step_band is two (partners_swap mesh side other partners)) in
+    let ring : HasBand mesh (differ (differ (is_flipped signs f) (is_flipped signs g)) alike) f f = band-append way edge in
     elim (same_or_odd (differ (is_flipped signs f) (is_flipped signs g)) alike) [
       | inl same ↦ same
-      | inr odd ↦ (let chain = odd_band mesh f (subst (λ x. HasBand mesh x f f) odd ring) in absurd (none chain.0 chain.1))
+      | inr odd ↦ (let chain = odd_band (subst (λ x. HasBand mesh x f f) odd ring) in absurd (none chain.0 chain.1))
     ]
 
-signs_kept : (mesh : FaceList) (signs : List Bool) → AreSigns mesh (length mesh.faces) signs →
+signs_kept : {mesh : FaceList} {signs : List Bool} → AreSigns mesh (length mesh.faces) signs →
     ((chain : List ChainLink) → IsOddChain mesh chain → ⊥)
     → IsLeastKept mesh signs
-signs_kept mesh signs h none f few least =
+signs_kept {mesh} {signs} h none f few least =
     let a : HasSign mesh f (is_flipped signs f) = h.each f few in
     let below : f ≤ a.root = least a.root a.joined in
     let above : a.root ≤ f = a.least f (joined_back (IsFaceStep mesh) (step_back mesh) f a.root a.joined) in
     let one : a.root ≡ f = omega arith in
     let ring : HasBand mesh (is_flipped signs f) f f = subst (HasBand mesh (is_flipped signs f) f) one a.bands.to in
     elim (cases_Bool (is_flipped signs f)) [
-      | inl odd ↦ (let chain = odd_band mesh f (subst (λ x. HasBand mesh x f f) odd ring) in absurd (none chain.0 chain.1))
+      | inl odd ↦ (let chain = odd_band (subst (λ x. HasBand mesh x f f) odd ring) in absurd (none chain.0 chain.1))
       | inr kept ↦ kept
     ]
 
@@ -225,12 +215,7 @@ pub signs_or_chain : (mesh : FaceList) → IsFaceList mesh → EachEdgeHasAtMost
     ((signs : List Bool) → IsCoherent mesh signs → IsLeastKept mesh signs → ⊥)
     → ((chain : List ChainLink) → IsOddChain mesh chain → ⊥) → ⊥
 signs_or_chain mesh is two no_signs no_chain =
-    some_signs mesh (length mesh.faces) is two
-    (λ signs h.
-    no_signs signs
-    (record {
+    some_signs (length mesh.faces) is two (λ signs h. no_signs signs (record {
       each_face = h.long;
-      opposite = λ side other partners. opposite_if_fit mesh signs side other is partners
-          (signs_fit mesh signs side other is two h no_chain partners);
-    })
-    (signs_kept mesh signs h no_chain))
+      opposite = λ side other partners. opposite_if_fit signs is partners (signs_fit is two h no_chain partners);
+    }) (signs_kept h no_chain))

@@ -16,10 +16,10 @@ pub fit_fewer : (mesh : FaceList) (m n : ℕ) → m ≤ n → FitUpTo mesh n →
 fit_fewer mesh m n few h side other partners l before = h side other partners (omega (arith, l, few)) before
 
 -- one side more, whose partner comes later or runs oppositely
-pub fit_passed : (mesh : FaceList) (side : Side) (n next : ℕ) → side_number mesh side ≡ n → IsSide mesh side → FitUpTo mesh n
+pub fit_passed : {mesh : FaceList} {side : Side} (n next : ℕ) → side_number mesh side ≡ n → IsSide mesh side → FitUpTo mesh n
     → ((other : Side) → ArePartners mesh side other → side_number mesh other < n → runs_alike mesh side other ≡ false)
     → FitUpTo mesh (n + 1)
-fit_passed mesh side n next number is h here one other partners l before =
+fit_passed {mesh} {side} n next number is h here one other partners l before =
     elim (cases_lt (side_number mesh one) n) [
       | inl less ↦ h one other partners less before
       | inr last ↦
@@ -30,19 +30,19 @@ fit_passed mesh side n next number is h here one other partners l before =
     ]
 
 -- the partner that is looked up is the only one
-pub other_partner : (mesh : FaceList) (side other : Side) (next : ℕ) → EachEdgeHasAtMostTwoSides mesh → IsOther mesh side next
+pub other_partner : {mesh : FaceList} {side other : Side} {next : ℕ} → EachEdgeHasAtMostTwoSides mesh → IsOther mesh side next
     → IsSide mesh other → side_number mesh other ≡ next → ArePartners mesh side other
-other_partner mesh side other next two o is number =
+other_partner {mesh} {side} {other} two o is number =
     subst (ArePartners mesh side) (number_once mesh o.other other o.partners.second is (o.number ∙ sym number)) o.partners
 
-pub only_partner : (mesh : FaceList) (side other partner : Side) (next : ℕ) → EachEdgeHasAtMostTwoSides mesh → IsOther mesh side next
+pub only_partner : {mesh : FaceList} {side other partner : Side} {next : ℕ} → EachEdgeHasAtMostTwoSides mesh → IsOther mesh side next
     → IsSide mesh other → side_number mesh other ≡ next → ArePartners mesh side partner → other ≡ partner
-only_partner mesh side other partner next two o is number partners =
-    sym (one_partner mesh side other partner two (other_partner mesh side other next two o is number) partners)
+only_partner {mesh} {side} {other} {partner} two o is number partners =
+    sym (one_partner mesh side other partner two (other_partner two o is number) partners)
 
-pub partner_number : (mesh : FaceList) (side partner : Side) (next : ℕ) → EachEdgeHasAtMostTwoSides mesh → IsOther mesh side next
+pub partner_number : {mesh : FaceList} {side partner : Side} {next : ℕ} → EachEdgeHasAtMostTwoSides mesh → IsOther mesh side next
     → ArePartners mesh side partner → side_number mesh partner ≡ next
-partner_number mesh side partner next two o partners =
+partner_number {mesh} {side} {partner} two o partners =
     ap (side_number mesh) (one_partner mesh side o.other partner two o.partners partners) ∙ o.number
 
 pub fit_all : (mesh : FaceList) (n : ℕ) → total_sides mesh ≤ n → FitUpTo mesh n → AreListedCoherently mesh
@@ -64,12 +64,12 @@ kept zero f = refl
 kept (suc n) zero = refl
 kept (suc n) (suc f) = kept n f
 
-pub kept_coherent : (mesh : FaceList) (signs : List Bool) → IsFaceList mesh → signs ≡ replicate (length mesh.faces) false
+pub kept_coherent : {mesh : FaceList} (signs : List Bool) → IsFaceList mesh → signs ≡ replicate (length mesh.faces) false
     → AreListedCoherently mesh
     → IsCoherent mesh signs
-kept_coherent mesh signs is all listed = record {
+kept_coherent {mesh} signs is all listed = record {
   each_face = ap (λ (ss : List Bool). length ss) all ∙ length-replicate (length mesh.faces) false;
-  opposite = λ side other partners. opposite_if_fit mesh signs side other is partners
+  opposite = λ side other partners. opposite_if_fit signs is partners
       (ap (λ b. differ b (is_flipped signs other.face.0)) (kept_is side.face.0) ∙ kept_is other.face.0 ∙ sym (listed side other partners));
 }
   where

@@ -33,19 +33,18 @@ unfolding is_edge
 joined_edge mesh u v s has h = list_any-from_Any (joins u v) (all_sides mesh) (has.0, s, has.1, has.2, h)
 
 -- partners are all the sides of their edge
-pub are_all : (mesh : FaceList) (u v : ℕ) (side other : Side) → EachEdgeHasAtMostTwoSides mesh → ArePartners mesh side other
+pub are_all : {mesh : FaceList} (u v : ℕ) {side other : Side} → EachEdgeHasAtMostTwoSides mesh → ArePartners mesh side other
     → joins u v (entry_of mesh side) ≡ true
     → (filter (joins u v) (all_sides mesh) ≡ entry_of mesh side ∷ entry_of mesh other ∷ []) ⊎
     (filter (joins u v) (all_sides mesh) ≡ entry_of mesh other ∷ entry_of mesh side ∷ [])
-are_all mesh u v side other few h joined =
+are_all {mesh} u v {side} {other} few h joined =
     let s : FaceSide = entry_of mesh side in
     let t : FaceSide = entry_of mesh other in
     let has_s : Contains (all_sides mesh) s = face_side_in mesh side.face.0 side.at h.first.face h.first.place in
     let has_t : Contains (all_sides mesh) t = face_side_in mesh other.face.0 other.at h.second.face h.second.place in
     let joined_t : joins u v t ≡ true = joins_other u v s t joined h.one_edge in
     two_of (filter (joins u v) (all_sides mesh)) s t (few u v (joined_edge mesh u v s has_s joined))
-    (Contains-filter (joins u v) (all_sides mesh) s joined has_s)
-    (Contains-filter (joins u v) (all_sides mesh) t joined_t has_t)
+    (Contains-filter (joins u v) (all_sides mesh) s joined has_s) (Contains-filter (joins u v) (all_sides mesh) t joined_t has_t)
     (λ same. h.different (ap (λ (x : FaceSide). let name : Side = record { face = record { 0 = x.face }; at = x.at } in name) same))
 
 -- a side has one partner at most
@@ -54,8 +53,8 @@ pub one_partner : (mesh : FaceList) (side other third : Side) → EachEdgeHasAtM
 one_partner mesh side other third few h k =
     let joined : joins (tail_of mesh side) (head_of mesh side) (entry_of mesh side) ≡ true = grind (arith, nat_tests) in
     let name : FaceSide → Side = λ x. record { face = record { 0 = x.face }; at = x.at } in
-    let one = are_all mesh (tail_of mesh side) (head_of mesh side) side other few h joined in
-    let two = are_all mesh (tail_of mesh side) (head_of mesh side) side third few k joined in
+    let one = are_all (tail_of mesh side) (head_of mesh side) few h joined in
+    let two = are_all (tail_of mesh side) (head_of mesh side) few k joined in
     elim one [
       | inl a ↦ elim two [
         | inl b ↦ (let e : entry_of mesh third ≡ entry_of mesh other = cc (sym b ∙ a) in ap name e)

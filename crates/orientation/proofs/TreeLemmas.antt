@@ -10,8 +10,8 @@ use Rattle.orientation.specs.declared.trees.Place.{Place}
 use Rattle.orientation.proofs.Fitting.{opposite_if_fit}
 use Rattle.orientation.proofs.ClassLemmas.{step_back, joined_back}
 
-pub extends_more : (old new newer : Growth) → Extends old new → Extends new newer → Extends old newer
-extends_more old new newer h k = record {
+pub extends_more : {old new newer : Growth} → Extends old new → Extends new newer → Extends old newer
+extends_more {old} {new} {newer} h k = record {
   kept = λ f seen.
       let first : IsKept old new f = h.kept f seen in
       let then : IsKept new newer f = k.kept f first.seen in
@@ -56,22 +56,22 @@ count-with_face growth g b p few none =
     omega (arith, sum, one)
 
 -- what holds of a face that was seen before holds still
-first_kept : (mesh : FaceList) (old new : Growth) (f : ℕ) → Extends old new → is_seen old f ≡ true → IsFirst mesh old f → IsFirst mesh new f
-first_kept mesh old new f more seen h =
+first_kept : {mesh : FaceList} {old new : Growth} {f : ℕ} → Extends old new → is_seen old f ≡ true → IsFirst mesh old f → IsFirst mesh new f
+first_kept {old} {new} {f} more seen h =
     let same : IsKept old new f = more.kept f seen in
     record { depth = ap (λ (p : Place). p.depth) same.place ∙ h.depth; kept = same.sign ∙ h.kept; least = h.least }
 
-fit_kept : (mesh : FaceList) (old new : Growth) (side other : Side) → Extends old new → is_seen old side.face.0 ≡ true
+fit_kept : (mesh : FaceList) {old new : Growth} (side other : Side) → Extends old new → is_seen old side.face.0 ≡ true
     → is_seen old other.face.0 ≡ true
     → Fit mesh old.flipped side other → Fit mesh new.flipped side other
-fit_kept mesh old new side other more seen too fit =
+fit_kept mesh {old} {new} side other more seen too fit =
     ap (λ b. differ b (is_flipped new.flipped other.face.0)) (more.kept side.face.0 seen).sign
     ∙ ap (differ (is_flipped old.flipped side.face.0)) (more.kept other.face.0 too).sign ∙ fit
 
-found_kept : (mesh : FaceList) (old new : Growth) (f : ℕ) → Extends old new → is_seen old f ≡ true
+found_kept : {mesh : FaceList} {old new : Growth} {f : ℕ} → Extends old new → is_seen old f ≡ true
     → IsFoundFrom mesh old f (place_of old f).from
     → IsFoundFrom mesh new f (place_of new f).from
-found_kept mesh old new f more seen h =
+found_kept {mesh} {old} {new} {f} more seen h =
     let same : IsKept old new f = more.kept f seen in
     let before : IsKept old new (place_of old f).from.face.0 = more.kept (place_of old f).from.face.0 h.seen in
     subst (λ (p : Place). IsFoundFrom mesh new f p.from) (sym same.place) (record {
@@ -80,34 +80,32 @@ found_kept mesh old new f more seen h =
       here = h.here;
       seen = before.seen;
       deeper = ap (λ (p : Place). p.depth) same.place ∙ h.deeper ∙ ap (λ (p : Place). p.depth + 1) (sym before.place);
-      fit = fit_kept mesh old new (place_of old f).from h.side more h.seen (subst (λ n. is_seen old n ≡ true) (sym h.here) seen) h.fit;
+      fit = fit_kept mesh (place_of old f).from h.side more h.seen (subst (λ n. is_seen old n ≡ true) (sym h.here) seen) h.fit;
     })
 
-pub explored_kept : (mesh : FaceList) (old new : Growth) (f : ℕ) → Extends old new → is_seen old f ≡ true → IsExplored mesh old f
+pub explored_kept : (mesh : FaceList) {old new : Growth} (f : ℕ) → Extends old new → is_seen old f ≡ true → IsExplored mesh old f
     → IsExplored mesh new f
-explored_kept mesh old new f more seen h side other partners here =
+explored_kept mesh {old} f more seen h side other partners here =
     let was = h side other partners here in (
       (more.kept other.face.0 was.0).seen,
-      fit_kept mesh old new side other more (subst (λ n. is_seen old n ≡ true) (sym here) seen)
-          was.0 was.1,
+      fit_kept mesh side other more (subst (λ n. is_seen old n ≡ true) (sym here) seen) was.0 was.1,
     )
 
-pub explored_up_to_kept : (mesh : FaceList) (old new : Growth) (f at : ℕ) → Extends old new → is_seen old f ≡ true
+pub explored_up_to_kept : (mesh : FaceList) {old new : Growth} (f at : ℕ) → Extends old new → is_seen old f ≡ true
     → IsExploredUpTo mesh old f at → IsExploredUpTo mesh new f at
-explored_up_to_kept mesh old new f at more seen h side other partners here below =
+explored_up_to_kept mesh {old} f at more seen h side other partners here below =
     let was = h side other partners here below in (
       (more.kept other.face.0 was.0).seen,
-      fit_kept mesh old new side other more (subst (λ n. is_seen old n ≡ true) (sym here) seen)
-          was.0 was.1,
+      fit_kept mesh side other more (subst (λ n. is_seen old n ≡ true) (sym here) seen) was.0 was.1,
     )
 
 -- one more face, which is either a first one or found from another
-put_kept : (mesh : FaceList) (growth : Growth) (g : ℕ) (b : Bool) (p : Place) → AreTrees mesh growth → g < length mesh.faces
+put_kept : {mesh : FaceList} {growth : Growth} (g : ℕ) (b : Bool) (p : Place) → AreTrees mesh growth → g < length mesh.faces
     → is_seen growth g ≡ false
     → IsFirst mesh (with_face growth g b p) g ⊎ IsFoundFrom mesh (with_face growth g b p) g p.from → p.depth + count_unseen growth ≤
     length mesh.faces
     → AreTrees mesh (with_face growth g b p)
-put_kept mesh growth g b p h few none new shallow =
+put_kept {mesh} {growth} g b p h few none new shallow =
     let more : Extends growth (with_face growth g b p) = with_face_extends growth g b p none in
     let count : count_unseen (with_face growth g b p) + 1 ≡ count_unseen growth = count-with_face growth g b p
     (omega (arith, few, h.each_face)) none in
@@ -124,14 +122,13 @@ put_kept mesh growth g b p h few none new shallow =
             (place_of (with_face growth g b p) g).from =
             elim new [
               | inl first ↦ inl first
-              | inr found ↦ inr
-                  (subst (λ (q : Place). IsFoundFrom mesh (with_face growth g b p) g q.from) (sym place) found)
+              | inr found ↦ inr (subst (λ (q : Place). IsFoundFrom mesh (with_face growth g b p) g q.from) (sym place) found)
             ] in
             subst (λ n. IsFirst mesh (with_face growth g b p) n ⊎ IsFoundFrom mesh (with_face growth g b p) n
             (place_of (with_face growth g b p) n).from) (sym same) at_g)
         | inr before ↦ elim (h.placed f before) [
-          | inl first ↦ inl (first_kept mesh growth (with_face growth g b p) f more before first)
-          | inr found ↦ inr (found_kept mesh growth (with_face growth g b p) f more before found)
+          | inl first ↦ inl (first_kept more before first)
+          | inr found ↦ inr (found_kept more before found)
         ]
       ];
       shallow = λ f seen. elim (seen_before growth g f b p seen) [
@@ -154,9 +151,9 @@ unseen_path mesh growth x y (z ∷ more) all none path =
     ] in
     unseen_path mesh growth z y more all next path.1
 
-pub least_unseen : (mesh : FaceList) (growth : Growth) (f : ℕ) → IsFrontier mesh growth [] → is_seen growth f ≡ false
+pub least_unseen : {mesh : FaceList} {growth : Growth} (f : ℕ) → IsFrontier mesh growth [] → is_seen growth f ≡ false
     → ((g : ℕ) → g < f → is_seen growth g ≡ true) → IsLeastOfClass mesh f
-least_unseen mesh growth f h none before other joined =
+least_unseen {mesh} {growth} f h none before other joined =
     let all : (g : ℕ) → is_seen growth g ≡ true → IsExplored mesh growth g = λ g seen. elim (h.explored (record { 0 = g }) seen) [
       | inl waits ↦ absurd (omega (arith, waits.1))
       | inr explored ↦ explored
@@ -167,35 +164,32 @@ least_unseen mesh growth f h none before other joined =
       | inr more ↦ more
     ]
 
-pub planted : (mesh : FaceList) (growth : Growth) (f : ℕ) (p : Place) → AreTrees mesh growth → IsFrontier mesh growth []
+pub planted : {mesh : FaceList} {growth : Growth} (f : ℕ) (p : Place) → AreTrees mesh growth → IsFrontier mesh growth []
     → f < length mesh.faces → is_seen growth f ≡ false
     → ((g : ℕ) → g < f → is_seen growth g ≡ true) → p.depth ≡ 0 → AreTrees mesh (with_face growth f false p)
-planted mesh growth f p h frontier few none before depth =
-    put_kept mesh growth f false p h few none
-    (inl (record {
+planted {growth} f p h frontier few none before depth =
+    put_kept f false p h few none (inl (record {
       depth = ap (λ (q : Place). q.depth) (get_or-set_same growth.places f p _ (omega (arith, few, h.places))) ∙ depth;
       kept = get_or-set_same growth.flipped f false false (omega (arith, few, h.signs));
-      least = least_unseen mesh growth f frontier none before;
-    }))
-    (omega (arith, depth, unseen_few growth, h.each_face))
+      least = least_unseen f frontier none before;
+    })) (omega (arith, depth, unseen_few growth, h.each_face))
   where
     unseen_few : (growth : Growth) → count_unseen growth ≤ length growth.seen
     unseen_few growth = count_by-le-length not growth.seen
 
 -- a face that is found across the edge of a side, with the sign that fits
-pub found : (mesh : FaceList) (growth : Growth) (from side : Side) (b : Bool) (p : Place) → AreTrees mesh growth
+pub found : {mesh : FaceList} {growth : Growth} {from side : Side} (b : Bool) (p : Place) → AreTrees mesh growth
     → ArePartners mesh from side
     → is_seen growth from.face.0 ≡ true → is_seen growth side.face.0 ≡ false → differ (is_flipped growth.flipped from.face.0) b ≡
     runs_alike mesh from side
     → p.from ≡ from → p.depth ≡ (place_of growth from.face.0).depth + 1 → AreTrees mesh (with_face growth side.face.0 b p)
-found mesh growth from side b p h partners seen none fits is depth =
+found {mesh} {growth} {from} {side} b p h partners seen none fits is depth =
     let g : ℕ = side.face.0 in
     let few : g < length mesh.faces = partners.second.face in
     let more : Extends growth (with_face growth g b p) = with_face_extends growth g b p none in
     let kept : IsKept growth (with_face growth g b p) from.face.0 = more.kept from.face.0 seen in
     let sign : is_flipped (with_face growth g b p).flipped g ≡ b = get_or-set_same growth.flipped g b false (omega (arith, few, h.signs)) in
-    put_kept mesh growth g b p h few none
-    (inr (subst (IsFoundFrom mesh (with_face growth g b p) g) (sym is) (record {
+    put_kept g b p h few none (inr (subst (IsFoundFrom mesh (with_face growth g b p) g) (sym is) (record {
       side = side;
       partners = partners;
       here = refl;
@@ -205,15 +199,14 @@ found mesh growth from side b p h partners seen none fits is depth =
           ∙ ap (λ (q : Place). q.depth + 1) (sym kept.place);
       fit = ap (λ c. differ c (is_flipped (with_face growth g b p).flipped g)) kept.sign ∙ ap
           (differ (is_flipped growth.flipped from.face.0)) sign ∙ fits;
-    })))
-    (omega (arith, depth, h.shallow from.face.0 seen))
+    }))) (omega (arith, depth, h.shallow from.face.0 seen))
 
-pub fits_then : (mesh : FaceList) (growth : Growth) (from side : Side) (b : Bool) (p : Place) → AreTrees mesh growth
+pub fits_then : {mesh : FaceList} {growth : Growth} {from side : Side} (b : Bool) (p : Place) → AreTrees mesh growth
     → ArePartners mesh from side
     → is_seen growth from.face.0 ≡ true → is_seen growth side.face.0 ≡ false → differ (is_flipped growth.flipped from.face.0) b ≡
     runs_alike mesh from side
     → (is_seen (with_face growth side.face.0 b p) side.face.0 ≡ true) × Fit mesh (with_face growth side.face.0 b p).flipped from side
-fits_then mesh growth from side b p h partners seen none fits =
+fits_then {mesh} {growth} {from} {side} b p h partners seen none fits =
     let g : ℕ = side.face.0 in
     let few : g < length mesh.faces = partners.second.face in
     let kept : IsKept growth (with_face growth g b p) from.face.0 = (with_face_extends growth g b p none).kept from.face.0 seen in
@@ -242,7 +235,7 @@ frontier_put mesh growth g b p waiting trees few none h =
             (Contains-push waiting g))
         | inr before ↦ elim (h.explored f before) [
           | inl waits ↦ inl (Contains-append_left waiting (g ∷ []) f waits)
-          | inr explored ↦ inr (explored_kept mesh growth new f.0 more before explored)
+          | inr explored ↦ inr (explored_kept mesh f.0 more before explored)
         ]
       ];
     }
@@ -252,9 +245,9 @@ first_or_rest x y xs (zero, l, is) = inl is
 first_or_rest x y xs (suc k, l, is) = inr (k, omega arith, is)
 
 -- the last one that waits may be taken as the first
-pub frontier_last : (mesh : FaceList) (growth : Growth) (f : FaceName) (waiting : List FaceName)
+pub frontier_last : {mesh : FaceList} {growth : Growth} (f : FaceName) (waiting : List FaceName)
     → IsFrontier mesh growth (waiting ++ f ∷ []) → IsFrontier mesh growth (f ∷ waiting)
-frontier_last mesh growth f waiting h = record {
+frontier_last {growth} f waiting h = record {
   queued =
       λ k d l. elim (first_or_rest f (get_or (f ∷ waiting) k d) waiting (Contains-get_or (f ∷ waiting) k d l)) [
         | inl same ↦ subst (λ (x : FaceName). is_seen growth x.0 ≡ true) same
@@ -272,9 +265,9 @@ frontier_last mesh growth f waiting h = record {
 }
 
 -- the first one that waits is explored
-pub frontier_done : (mesh : FaceList) (growth : Growth) (f : FaceName) (waiting : List FaceName) → IsFrontier mesh growth (f ∷ waiting)
+pub frontier_done : {mesh : FaceList} {growth : Growth} (f : FaceName) (waiting : List FaceName) → IsFrontier mesh growth (f ∷ waiting)
     → IsExplored mesh growth f.0 → IsFrontier mesh growth waiting
-frontier_done mesh growth f waiting h done = record {
+frontier_done {mesh} {growth} f waiting h done = record {
   queued = All-tail (λ (x : FaceName). is_seen growth x.0 ≡ true) f waiting h.queued;
   explored = λ g seen. elim (h.explored g seen) [
     | inl waits ↦ elim (first_or_rest f g waiting waits) [
@@ -309,26 +302,24 @@ explored_all mesh growth f at long h side other partners here =
     h side other partners here (omega (arith, long, partners.first.place, ap (λ n. length (face_at mesh n)) here))
 
 -- where all faces were seen and none waits, the signs are coherent, and the least face of each class is kept
-pub all_coherent : (mesh : FaceList) (growth : Growth) → AreTrees mesh growth → IsFrontier mesh growth [] →
+pub all_coherent : {mesh : FaceList} {growth : Growth} → AreTrees mesh growth → IsFrontier mesh growth [] →
     ((f : ℕ) → f < length mesh.faces → is_seen growth f ≡ true)
     → IsCoherent mesh growth.flipped
-all_coherent mesh growth trees h all = record {
+all_coherent {growth} trees h all = record {
   each_face = trees.signs;
   opposite = λ side other partners. elim (h.explored side.face (all side.face.0 partners.first.face)) [
     | inl waits ↦ absurd (omega (arith, waits.1))
-    | inr explored ↦ opposite_if_fit mesh growth.flipped side other trees.mesh_is partners (explored side other partners refl).1
+    | inr explored ↦ opposite_if_fit growth.flipped trees.mesh_is partners (explored side other partners refl).1
   ];
 }
 
-pub up_joined : (mesh : FaceList) (growth : Growth) (f : ℕ) → IsFoundFrom mesh growth f (place_of growth f).from
+pub up_joined : {mesh : FaceList} {growth : Growth} {f : ℕ} → IsFoundFrom mesh growth f (place_of growth f).from
     → AreOfOneClass mesh f (place_of growth f).from.face.0
-up_joined mesh growth f h =
-    joined_step (IsFaceStep mesh) f (place_of growth f).from.face.0
-    (record {
+up_joined {mesh} {growth} {f} h =
+    joined_step (IsFaceStep mesh) f (place_of growth f).from.face.0 (record {
       side = h.side;
       partner = (place_of growth f).from;
-      partners = partners_swap mesh (place_of growth f).from h.side
-          h.partners;
+      partners = partners_swap mesh (place_of growth f).from h.side h.partners;
       from = h.here;
       to = refl;
     })
@@ -339,33 +330,32 @@ pub record HasFirst (mesh : FaceList) (growth : Growth) (f : ℕ) : Type 0 where
   pub is_first : IsFirst mesh growth first
   pub joined : AreOfOneClass mesh f first
 
-first_above : (mesh : FaceList) (growth : Growth) (n f : ℕ) → AreTrees mesh growth → is_seen growth f ≡ true
+first_above : {mesh : FaceList} {growth : Growth} (n f : ℕ) → AreTrees mesh growth → is_seen growth f ≡ true
     → (place_of growth f).depth < n → HasFirst mesh growth f
-first_above mesh growth zero f h seen depth = absurd (omega arith)
-first_above mesh growth (suc n) f h seen depth =
+first_above zero f h seen depth = absurd (omega arith)
+first_above {mesh} {growth} (suc n) f h seen depth =
     elim (h.placed f seen) [
       | inl is_first ↦ record { first = f; is_first = is_first; joined = ([], refl) }
       | inr from ↦
           (let parent : ℕ = (place_of growth f).from.face.0 in
-          let next : HasFirst mesh growth parent = first_above mesh growth n parent h from.seen (omega (arith, from.deeper)) in
+          let next : HasFirst mesh growth parent = first_above n parent h from.seen (omega (arith, from.deeper)) in
           record {
             first = next.first;
             is_first = next.is_first;
-            joined = joined_trans (IsFaceStep mesh) f parent next.first
-                (up_joined mesh growth f from) next.joined;
+            joined = joined_trans (IsFaceStep mesh) f parent next.first (up_joined from) next.joined;
           })
     ]
 
-pub has_first : (mesh : FaceList) (growth : Growth) (f : ℕ) → AreTrees mesh growth → is_seen growth f ≡ true → HasFirst mesh growth f
-has_first mesh growth f h seen = first_above mesh growth ((place_of growth f).depth + 1) f h seen (omega arith)
+pub has_first : {mesh : FaceList} {growth : Growth} (f : ℕ) → AreTrees mesh growth → is_seen growth f ≡ true → HasFirst mesh growth f
+has_first {growth} f h seen = first_above ((place_of growth f).depth + 1) f h seen (omega arith)
 
-pub all_kept : (mesh : FaceList) (growth : Growth) → AreTrees mesh growth → ((f : ℕ) → f < length mesh.faces → is_seen growth f ≡ true)
+pub all_kept : {mesh : FaceList} {growth : Growth} → AreTrees mesh growth → ((f : ℕ) → f < length mesh.faces → is_seen growth f ≡ true)
     → IsLeastKept mesh growth.flipped
-all_kept mesh growth h all f few least =
+all_kept {mesh} {growth} h all f few least =
     elim (h.placed f (all f few)) [
       | inl is_first ↦ is_first.kept
       | inr from ↦
-          (let top : HasFirst mesh growth f = has_first mesh growth f h (all f few) in
+          (let top : HasFirst mesh growth f = has_first f h (all f few) in
           let below : f ≤ top.first = least top.first top.joined in
           let above : top.first ≤ f = top.is_first.least f (joined_back (IsFaceStep mesh) (step_back mesh) f top.first top.joined) in
           let same : top.first ≡ f = omega arith in
@@ -373,10 +363,10 @@ all_kept mesh growth h all f few least =
     ]
 
 -- of two different faces of one class, one that lies no less deep than the other was found from another
-pub deeper_found : (mesh : FaceList) (growth : Growth) (f g : ℕ) → AreTrees mesh growth → is_seen growth f ≡ true
+pub deeper_found : {mesh : FaceList} {growth : Growth} (f g : ℕ) → AreTrees mesh growth → is_seen growth f ≡ true
     → is_seen growth g ≡ true → AreOfOneClass mesh f g → f ≢ g
     → (place_of growth g).depth ≤ (place_of growth f).depth → IsFoundFrom mesh growth f (place_of growth f).from
-deeper_found mesh growth f g h seen too joined other depth =
+deeper_found {mesh} f g h seen too joined other depth =
     elim (h.placed f seen) [
       | inr from ↦ from
       | inl first ↦ elim (h.placed g too) [
@@ -399,8 +389,8 @@ faces_few count (face ∷ faces) h =
       sum_by-cons {X = List ℕ} length face faces,
     )
 
-pub few_faces : (mesh : FaceList) → IsFaceList mesh → HasFileSize mesh → 3 * length mesh.faces ≤ MOST_SIDES
-few_faces mesh h small = omega (arith, faces_few mesh.count mesh.faces h.faces, small.few_sides)
+pub few_faces : {mesh : FaceList} → IsFaceList mesh → HasFileSize mesh → 3 * length mesh.faces ≤ MOST_SIDES
+few_faces {mesh} h small = omega (arith, faces_few mesh.count mesh.faces h.faces, small.few_sides)
 
 -- the sign that fits
 pub fitting : (a b : Bool) → differ a (not (beq a b)) ≡ b

@@ -11,15 +11,14 @@ loop-face-init c =
     subst (λ chain. IsClimb c.args.faces.now c.args.trees.now c.args.tear.other.face.0 chain c.new-down.result.items
     c.args.tear.side.face.0 c.args.tear.other.face.0) (sym c.in_ok-chain.ensures)
     (subst (λ down. IsClimb c.args.faces.now c.args.trees.now c.args.tear.other.face.0 (c.link.result ∷ []) down c.args.tear.side.face.0
-    c.args.tear.other.face.0) (sym c.new-down.ensures.items)
-    (climb_first c.args.faces.now c.args.trees.now c.args.tear c.link.result c.requires.two c.requires.trees c.requires.tear
+    c.args.tear.other.face.0) (sym c.new-down.ensures.items) (climb_first c.link.result c.requires.two c.requires.trees c.requires.tear
     c.link.ensures.edge (ap (λ (f : FaceName). f.0) c.link.ensures.face)))
 
 pub place-place-requires : goal.place-place-requires
 place-place-requires c =
     omega (
       arith,
-      seen_below c.args.faces.now c.args.trees.now c.loop-face.face.0 c.requires.trees c.loop-face.invariant.seen,
+      seen_below c.loop-face.face.0 c.requires.trees c.loop-face.invariant.seen,
       c.requires.trees.each_face,
     )
 
@@ -27,7 +26,7 @@ pub place-other_place-requires : goal.place-other_place-requires
 place-other_place-requires c =
     omega (
       arith,
-      seen_below c.args.faces.now c.args.trees.now c.loop-face.other.0 c.requires.trees c.loop-face.invariant.other_seen,
+      seen_below c.loop-face.other.0 c.requires.trees c.loop-face.invariant.other_seen,
       c.requires.trees.each_face,
     )
 
@@ -35,16 +34,14 @@ place-other_place-requires c =
 up : (c : After-place-other_place) → c.place-other_place.result.depth ≤ c.place-place.result.depth
     → IsFoundFrom c.args.faces.now c.args.trees.now c.loop-face.face.0 c.place-place.result.from
 up c deep =
-    found_up c.args.faces.now c.args.trees.now c.args.tear.other.face.0 c.loop-face.chain c.loop-face.down.items c.loop-face.face.0
-    c.loop-face.other.0 c.place-place.result c.place-other_place.result c.requires.trees c.loop-face.invariant
+    found_up c.place-place.result c.place-other_place.result c.requires.trees c.loop-face.invariant
     (apart_from_test c.loop-face.face.0 c.loop-face.other.0 (sym c.ne.ensures ∙ c.loop-face-test.true))
     c.place-place.ensures c.place-other_place.ensures deep
 
 down : (c : After-place-other_place) → c.place-place.result.depth < c.place-other_place.result.depth
     → IsFoundFrom c.args.faces.now c.args.trees.now c.loop-face.other.0 c.place-other_place.result.from
 down c deep =
-    found_down c.args.faces.now c.args.trees.now c.args.tear.other.face.0 c.loop-face.chain c.loop-face.down.items c.loop-face.face.0
-    c.loop-face.other.0 c.place-place.result c.place-other_place.result c.requires.trees c.loop-face.invariant
+    found_down c.place-place.result c.place-other_place.result c.requires.trees c.loop-face.invariant
     (apart_from_test c.loop-face.face.0 c.loop-face.other.0 (sym c.ne.ensures ∙ c.loop-face-test.true))
     c.place-place.ensures c.place-other_place.ensures deep
 
@@ -53,15 +50,14 @@ link-requires-then-place-other_place-clause-side c =
     (up (goal.at.link-requires-then-place-other_place-clause-side c).After-place-other_place c.if-place-other_place.true).partners.first
 
 pub push-requires : goal.push-requires
-push-requires c = omega (arith, c.loop-face.invariant.size, few_faces c.args.faces.now c.requires.trees.mesh_is c.requires.trees.small)
+push-requires c = omega (arith, c.loop-face.invariant.size, few_faces c.requires.trees.mesh_is c.requires.trees.small)
 
 pub link-requires-else-place-other_place-clause-side : goal.link-requires-else-place-other_place-clause-side
 link-requires-else-place-other_place-clause-side c =
     (down (goal.at.link-requires-else-place-other_place-clause-side c).After-place-other_place c.if-place-other_place.false).partners.first
 
 pub push_reversed-requires : goal.push_reversed-requires
-push_reversed-requires c =
-    omega (arith, c.loop-face.invariant.size, few_faces c.args.faces.now c.requires.trees.mesh_is c.requires.trees.small)
+push_reversed-requires c = omega (arith, c.loop-face.invariant.size, few_faces c.requires.trees.mesh_is c.requires.trees.small)
 
 pub loop-face-smaller-then-place-other_place : goal.loop-face-smaller-then-place-other_place
 loop-face-smaller-then-place-other_place c =
@@ -69,8 +65,7 @@ loop-face-smaller-then-place-other_place c =
 
 pub loop-face-preserved-then-place-other_place : goal.loop-face-preserved-then-place-other_place
 loop-face-preserved-then-place-other_place c =
-    climbed_up c.args.faces.now c.args.trees.now c.args.tear.other.face.0 c.loop-face.chain c.loop-face.down.items c.loop-face.face.0
-    c.loop-face.other.0 c.link-then-place-other_place.result
+    climbed_up c.link-then-place-other_place.result
     c.place-place.result c.push.new.self c.requires.two c.loop-face.invariant c.place-place.ensures
     (up (goal.at.loop-face-preserved-then-place-other_place c).After-place-other_place c.if-place-other_place.true)
     c.link-then-place-other_place.ensures.edge
@@ -82,8 +77,7 @@ loop-face-smaller c =
 
 pub loop-face-preserved : goal.loop-face-preserved
 loop-face-preserved c =
-    climbed_down c.args.faces.now c.args.trees.now c.args.tear.other.face.0 c.loop-face.chain c.loop-face.down.items c.loop-face.face.0
-    c.loop-face.other.0 c.link-else-place-other_place.result
+    climbed_down c.link-else-place-other_place.result
     c.place-other_place.result c.push-else-place-other_place.new.self.items c.requires.two c.loop-face.invariant
     c.place-other_place.ensures
     (down (goal.at.loop-face-preserved c).After-place-other_place c.if-place-other_place.false) c.link-else-place-other_place.ensures.edge
@@ -91,7 +85,5 @@ loop-face-preserved c =
 
 pub returns : goal.returns
 returns c =
-    subst (IsOddChain c.args.faces.now) (sym c.in_ok-push_reversed.ensures)
-    (climb_last c.args.faces.now c.args.trees.now c.args.tear.other.face.0 c.loop-face.chain c.loop-face.down.items c.loop-face.face.0
-    c.loop-face.other.0 c.loop-face.invariant
+    subst (IsOddChain c.args.faces.now) (sym c.in_ok-push_reversed.ensures) (climb_last c.loop-face.invariant
     (same_from_test c.loop-face.face.0 c.loop-face.other.0 (sym c.ne.ensures ∙ c.loop-face-test.false)))

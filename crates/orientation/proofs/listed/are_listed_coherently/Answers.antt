@@ -13,12 +13,11 @@ pub returns-then-run_alike-clause-torn : goal.returns-then-run_alike-clause-torn
 returns-then-run_alike-clause-torn c is listed =
     let mesh = c.args.faces.now in
     let side : Side = at_hand c.loop-face.face c.loop-at.at in
-    let o : IsOther mesh side c.other-other.result.0 =
-    has_other mesh c.args.sides.now side c.dart-dart.result.0 c.other-other.result.0 c.requires.table c.requires.two
+    let o : IsOther mesh side c.other-other.result.0 = has_other c.requires.table c.requires.two
     (record { face = omega arith; place = omega arith }) c.dart-dart.ensures.number (c.other-other.ensures mesh c.requires.table)
     (λ same. omega (arith, c.if-other-dart.true, same)) in
     let partners : ArePartners mesh side c.side_at.result =
-    other_partner mesh side c.side_at.result c.other-other.result.0 c.requires.two o c.side_at.ensures.side c.side_at.ensures.number in
+    other_partner c.requires.two o c.side_at.ensures.side c.side_at.ensures.number in
     both_ways (runs_alike mesh side c.side_at.result) (listed side c.side_at.result partners)
     (sym c.run_alike.ensures ∙ c.if-run_alike.true)
 
@@ -31,26 +30,23 @@ loop-at-preserved c =
     let is : IsSide mesh side = record { face = omega arith; place = omega arith } in
     let number : c.dart-dart.result.0 ≡ n = c.dart-dart.ensures.number in
     let other : next ≢ c.dart-dart.result.0 → IsOther mesh side next = λ apart.
-    has_other mesh c.args.sides.now side c.dart-dart.result.0 next c.requires.table c.requires.two is c.dart-dart.ensures.number
-    (c.other-other.ensures mesh c.requires.table) apart in
+    has_other c.requires.table c.requires.two is c.dart-dart.ensures.number (c.other-other.ensures mesh c.requires.table) apart in
     fit_fewer mesh (first_side mesh c.loop-face.face + (c.loop-at.at + 1)) (n + 1) (omega arith)
-    (fit_passed mesh side n next refl is c.loop-at.invariant (λ partner partners before. elim c.else-other-dart.branch [
+    (fit_passed n next refl is c.loop-at.invariant (λ partner partners before. elim c.else-other-dart.branch [
       | else-other-dart-via-then-other-dart+else-run_alike w ↦
           (let o : IsOther mesh side next = other (λ same. omega (arith, w.if-other-dart.true, same)) in
-          let one : w.side_at.result ≡ partner = only_partner mesh side w.side_at.result partner next c.requires.two o
-          w.side_at.ensures.side w.side_at.ensures.number partners in
+          let one : w.side_at.result ≡ partner = only_partner c.requires.two o w.side_at.ensures.side w.side_at.ensures.number partners in
           ap (runs_alike mesh side) (sym one) ∙ sym w.run_alike.ensures ∙ w.if-run_alike.false)
       | else-other-dart-via-else-other-dart w ↦
           (elim (cases_eq next c.dart-dart.result.0) [
-            | inl same ↦ absurd (alone mesh c.args.sides.now side c.dart-dart.result.0 next c.requires.table c.requires.two is
-                c.dart-dart.ensures.number
+            | inl same ↦ absurd (alone c.requires.table c.requires.two is c.dart-dart.ensures.number
                 (c.other-other.ensures mesh c.requires.table) same partner partners)
             | inr apart ↦ absurd (omega (
               arith,
               w.if-other-dart.false,
               before,
               number,
-              partner_number mesh side partner next c.requires.two (other apart) partners,
+              partner_number c.requires.two (other apart) partners,
             ))
           ])
     ]))

@@ -7,12 +7,12 @@ use Rattle.orientation.proofs.orienting.orient.Goals as goal
 pub signs-requires : goal.signs-requires
 signs-requires c =
     let trees = c.in_ok-quick.ensures.trees in
-    omega (arith, trees.each_face, few_faces c.args.faces.now trees.mesh_is trees.small)
+    omega (arith, trees.each_face, few_faces trees.mesh_is trees.small)
 
 pub signs-requires-in-None : goal.signs-requires-in-None
 signs-requires-in-None c =
     let trees = c.in_ok-short.ensures.trees in
-    omega (arith, trees.each_face, few_faces c.args.faces.now trees.mesh_is trees.small)
+    omega (arith, trees.each_face, few_faces trees.mesh_is trees.small)
 
 pub returns-in-Some-clause-not_orientable : goal.returns-in-Some-clause-not_orientable
 returns-in-Some-clause-not_orientable c chain is signs =
@@ -21,7 +21,6 @@ returns-in-Some-clause-not_orientable c chain is signs =
 
 pub returns-then-are_listed_coherently-clause-coherent : goal.returns-then-are_listed_coherently-clause-coherent
 returns-then-are_listed_coherently-clause-coherent c =
-    let mesh = c.args.faces.now in
-    kept_coherent mesh c.in_ok-kept.field-0 c.are_listed_coherently.ensures.valid
+    kept_coherent c.in_ok-kept.field-0 c.are_listed_coherently.ensures.valid
     (c.in_ok-kept.ensures ∙ ap (λ n. replicate n false) c.len.ensures.count)
     (c.are_listed_coherently.ensures.coherent c.if-are_listed_coherently.true)

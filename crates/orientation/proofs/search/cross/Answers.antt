@@ -12,7 +12,7 @@ overflow_add-place c =
       arith,
       ap (λ (p : Place). p.depth) c.place.ensures,
       c.requires.search.trees.shallow c.args.side.face.0 seen,
-      few_faces c.args.faces.now c.requires.search.trees.mesh_is c.requires.search.trees.small,
+      few_faces c.requires.search.trees.mesh_is c.requires.search.trees.small,
     )
 
 outcome : (c : goal.After-put)
@@ -23,8 +23,7 @@ outcome c =
     let p : Place = record { depth = c.place.result.depth + 1; from = c.args.side } in
     let is : b ≡ not (beq sign (runs_alike c.args.faces.now c.args.side c.args.other)) =
     ap (λ x. not (beq x c.run_alike.result)) c.flipped.ensures ∙ ap (λ x. not (beq sign x)) c.run_alike.ensures in
-    crossed c.args.faces.now c.args.trees.now c.args.waiting.now c.args.side c.args.other b p c.put.new.self
-    c.push.new.self
+    crossed c.args.waiting.now b p c.put.new.self c.push.new.self
     c.requires.search c.requires.partners (sym c.seen.ensures ∙ c.if-seen.false) is refl (ap (λ (q : Place). q.depth + 1) c.place.ensures)
     c.put.ensures c.in_ok-push.ensures.ok
 

@@ -6,8 +6,7 @@ use Rattle.orientation.proofs.search.explore.Goals.{in-Some+in_ok-cross+else-not
 
 pub sides-at-end-requires : goal.sides-at-end-requires
 sides-at-end-requires c =
-    seen_below c.args.faces.now c.args.trees.now c.args.face.0 c.requires.search.trees
-    (c.requires.search.frontier.queued 0 c.args.face (omega arith))
+    seen_below c.args.face.0 c.requires.search.trees (c.requires.search.frontier.queued 0 c.args.face (omega arith))
 
 pub loop-at-preserved : goal.loop-at-preserved
 loop-at-preserved c =
@@ -18,20 +17,16 @@ loop-at-preserved c =
     elim c.match-across.branch [
       | in-Some+in_ok-cross+else-not-branch w ↦
           (let here : P w.cross.new.trees w.cross.new.waiting =
-          exploring_across mesh c.args.trees.now c.args.waiting.now c.loop-at.trees c.loop-at.waiting side w.in-Some.other
-          w.cross.new.trees w.cross.new.waiting
+          exploring_across side w.in-Some.other
           c.loop-at.invariant w.in-Some.ensures.1 w.in_ok-cross.ensures.search w.in_ok-cross.ensures.goes_on
           (w.in_ok-cross.ensures.fits w.if-not-branch.false) in
           subst (λ g. P g c.match-across.waiting) (sym w.trees-is) (subst (λ v. P w.cross.new.trees v) (sym w.waiting-is) here))
       | in_default w ↦
           (let here : P c.loop-at.trees c.loop-at.waiting =
-          exploring_past mesh c.args.trees.now c.args.waiting.now c.loop-at.trees c.loop-at.waiting side c.loop-at.invariant
-          w.in_default.ensures in
+          exploring_past side c.loop-at.invariant w.in_default.ensures in
           subst (λ g. P g c.match-across.waiting) (sym w.trees-is) (subst (λ v. P c.loop-at.trees v) (sym w.waiting-is) here))
     ]
 
 pub returns-clause-search : goal.returns-clause-search
 returns-clause-search c =
-    exploring_last c.args.faces.now c.args.trees.now c.args.waiting.now c.loop-at.trees c.loop-at.waiting c.args.face
-    c.loop-at.at c.loop-at.invariant
-    (omega (arith, c.sides-at-end.ensures, c.loop-at-test.false))
+    exploring_last c.loop-at.invariant (omega (arith, c.sides-at-end.ensures, c.loop-at-test.false))

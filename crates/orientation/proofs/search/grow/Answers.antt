@@ -6,22 +6,18 @@ use Rattle.orientation.proofs.search.grow.Goals as goal
 
 pub loop-face-init : goal.loop-face-init
 loop-face-init c =
-    growing_first c.args.faces.now c.args.trees.now c.args.root _ c.put.new.self c.push.new.self c.requires.search
-    c.requires.face c.requires.not_seen c.requires.least refl
+    growing_first c.args.root _ c.put.new.self c.push.new.self c.requires.search c.requires.face c.requires.not_seen c.requires.least refl
     c.put.ensures (c.in_ok-push.ensures.ok ∙ ap (λ (xs : List FaceName). xs ++ c.args.root ∷ []) c.requires.none_waits)
 
 pub explore-requires-clause-search : goal.explore-requires-clause-search
 explore-requires-clause-search c =
-    taken c.args.faces.now c.loop-face.trees c.in-Some.face c.take.new.self c.loop-face.waiting
-    c.loop-face.invariant.search c.in-Some.ensures.some
+    taken c.in-Some.face c.take.new.self c.loop-face.invariant.search c.in-Some.ensures.some
 
 pub returns-in-Some-2-clause-extends : goal.returns-in-Some-2-clause-extends
-returns-in-Some-2-clause-extends c =
-    extends_more c.args.trees.now c.loop-face.trees c.explore.new.trees c.loop-face.invariant.extends c.in_ok-tear.ensures.goes_on.extends
+returns-in-Some-2-clause-extends c = extends_more c.loop-face.invariant.extends c.in_ok-tear.ensures.goes_on.extends
 
 pub returns-in-Some-2-clause-seen : goal.returns-in-Some-2-clause-seen
-returns-in-Some-2-clause-seen c =
-    seen_later c.loop-face.trees c.explore.new.trees c.args.root.0 c.in_ok-tear.ensures.goes_on.extends c.loop-face.invariant.seen
+returns-in-Some-2-clause-seen c = seen_later c.args.root.0 c.in_ok-tear.ensures.goes_on.extends c.loop-face.invariant.seen
 
 pub loop-face-smaller : goal.loop-face-smaller
 loop-face-smaller c =
@@ -34,9 +30,7 @@ loop-face-smaller c =
 
 pub loop-face-preserved : goal.loop-face-preserved
 loop-face-preserved c =
-    growing_more c.args.faces.now c.args.trees.now c.args.root.0 c.loop-face.trees c.loop-face.waiting c.explore.new.trees
-    c.explore.new.waiting
-    c.loop-face.invariant c.in_ok-tear.ensures.goes_on.extends (rw c.in_default-2.is at c.in_ok-tear.ensures.search)
+    growing_more c.loop-face.invariant c.in_ok-tear.ensures.goes_on.extends (rw c.in_default-2.is at c.in_ok-tear.ensures.search)
 
 pub returns-clause-search : goal.returns-clause-search
 returns-clause-search c = subst (IsSearch c.args.faces.now c.loop-face.trees) c.in_default.ensures.none c.loop-face.invariant.search

@@ -6,8 +6,7 @@ use Rattle.orientation.proofs.search.search.Goals.{then-not-seen+in_ok-tear+in_d
 
 pub loop-face-init : goal.loop-face-init
 loop-face-init c =
-    through_none c.args.faces.now c.len.result c.in_ok-trees.trees c.new-waiting.result c.len.ensures.valid c.len.ensures.small
-    c.len.ensures.count
+    through_none c.len.result c.in_ok-trees.trees c.new-waiting.result c.len.ensures.valid c.len.ensures.small c.len.ensures.count
     c.in_ok-trees.ensures c.new-waiting.ensures
 
 pub seen-requires : goal.seen-requires
@@ -20,24 +19,20 @@ loop-face-preserved c =
     elim c.if-not-seen.branch [
       | then-not-seen+in_ok-tear+in_default w ↦
           (let here : P w.grow.new.trees w.grow.new.waiting =
-          through_grown mesh c.loop-face.trees c.loop-face.waiting c.loop-face.face w.grow.new.trees w.grow.new.waiting
-          c.loop-face.invariant
+          through_grown w.grow.new.waiting c.loop-face.invariant
           w.in_ok-tear.ensures.extends w.in_ok-tear.ensures.seen (rw w.in_default.is at w.in_ok-tear.ensures.search)
           (rw w.in_default.is at w.in_ok-tear.ensures.none_waits) in
           subst (λ g. P g c.if-not-seen.waiting) (sym w.trees-is) (subst (λ v. P w.grow.new.trees v) (sym w.waiting-is) here))
       | else-not-seen w ↦
           (let here : P c.loop-face.trees c.loop-face.waiting =
-          through_seen mesh c.loop-face.trees c.loop-face.waiting c.loop-face.face c.loop-face.invariant
-          (sym c.seen.ensures ∙ w.if-not-seen.false) in
+          through_seen c.loop-face.invariant (sym c.seen.ensures ∙ w.if-not-seen.false) in
           subst (λ g. P g c.if-not-seen.waiting) (sym w.trees-is) (subst (λ v. P c.loop-face.trees v) (sym w.waiting-is) here))
     ]
 
 pub returns-clause-coherent : goal.returns-clause-coherent
 returns-clause-coherent c =
-    (through_all c.args.faces.now c.loop-face.trees c.loop-face.waiting c.loop-face.face c.loop-face.invariant
-    (omega (arith, c.loop-face-test.false, c.len-face-end.ensures.count))).0
+    (through_all c.loop-face.invariant (omega (arith, c.loop-face-test.false, c.len-face-end.ensures.count))).0
 
 pub returns-clause-least_kept : goal.returns-clause-least_kept
 returns-clause-least_kept c =
-    (through_all c.args.faces.now c.loop-face.trees c.loop-face.waiting c.loop-face.face c.loop-face.invariant
-    (omega (arith, c.loop-face-test.false, c.len-face-end.ensures.count))).1
+    (through_all c.loop-face.invariant (omega (arith, c.loop-face-test.false, c.len-face-end.ensures.count))).1
