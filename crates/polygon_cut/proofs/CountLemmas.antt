@@ -145,9 +145,9 @@ less_more e m ne = elim (cases_lt e m) [
 not_less : (e : ℕ) → ltb e e ≡ false
 not_less e = elim (cases_Bool (ltb e e)) [ inl less ↦ absurd (let lower : e < e = ltb-true e e less in omega arith) | inr other ↦ other ]
 
-two_more : (maps : Rotations) (set : ℕ → Bool) (m d : ℕ) → IsRotationSystem maps → d < maps.darts → maps.edge d ≡ m → set m ≡ true
+two_more : {maps : Rotations} (set : ℕ → Bool) (m d : ℕ) → IsRotationSystem maps → d < maps.darts → maps.edge d ≡ m → set m ≡ true
     → count_below (darts_below maps set (suc m)) maps.darts ≡ suc (suc (count_below (darts_below maps set m) maps.darts))
-two_more maps set m d r l on is =
+two_more {maps} set m d r l on is =
     count_less (darts_below maps set (suc m)) (with_one (darts_below maps set m) d) maps.darts t t_in (now t t_on)
     (with_other (darts_below maps set m) d t (r.twin_other d l) ∙ not_yet t t_on) elsewhere
     ∙ ap suc (count_with (darts_below maps set m) maps.darts d l (not_yet d on))
@@ -181,10 +181,10 @@ two_more maps set m d r l on is =
     ]
 
 -- each edge of a set has two darts
-pub count_darts : (maps : Rotations) (edges : ℕ) (set : ℕ → Bool) → IsRotationSystem maps → ((d : ℕ) → d < maps.darts → maps.edge d < edges)
+pub count_darts : {maps : Rotations} (edges : ℕ) (set : ℕ → Bool) → IsRotationSystem maps → ((d : ℕ) → d < maps.darts → maps.edge d < edges)
     → ((e : ℕ) → e < edges → (d : ℕ) × (d < maps.darts) × (maps.edge d ≡ e))
     → count_below (λ d. set (maps.edge d)) maps.darts ≡ 2 * count_below set edges
-count_darts maps edges set r edge_in dart_of =
+count_darts {maps} edges set r edge_in dart_of =
     count_same (λ d. set (maps.edge d)) (darts_below maps set edges) maps.darts
     (λ d l. sym (and_true (set (maps.edge d)) (ltb (maps.edge d) edges) (lt-ltb (maps.edge d) edges (edge_in d l))))
     ∙ go edges (omega arith)
@@ -204,7 +204,7 @@ count_darts maps edges set r edge_in dart_of =
     go (suc m) l = elim (cases_Bool (set m)) [
       | inl passes ↦
           let more : count_below (darts_below maps set (suc m)) maps.darts ≡ suc (suc (count_below (darts_below maps set m) maps.darts)) =
-          two_more maps set m (dart_of m (omega arith)).0 r (dart_of m (omega arith)).1 (dart_of m (omega arith)).2 passes in
+          two_more set m (dart_of m (omega arith)).0 r (dart_of m (omega arith)).1 (dart_of m (omega arith)).2 passes in
           let one : count_below set (suc m) ≡ count_below set m + 1 = rw passes refl in
           omega (arith, more, one, go m (omega arith))
       | inr fails ↦

@@ -8,10 +8,10 @@ unfoldable pub dir : OrientedMesh → ℕ → Bool
 dir s f = not (is_flipped s.signs f)
 
 -- a dart ends one corner on from where it starts
-end_is : (s : OrientedMesh) (f t d : ℕ) → IsNumberOf s.mesh f t d
+end_is : (s : OrientedMesh) {f t d : ℕ} → IsNumberOf s.mesh f t d
     → end_corner_of s d ≡ next_corner (dir s f) (length (face_at s.mesh f)) (start_corner_of s d)
 unfolding dir
-end_is s f t d n = by (is_flipped s.signs f) refl
+end_is s {f} {t} {d} n = by (is_flipped s.signs f) refl
   where
     m : ℕ
     m = length (face_at s.mesh f)
@@ -31,12 +31,12 @@ pub record OnRound (s : OrientedMesh) (d k : ℕ) : Type 0 where
   pub corner : start_corner_of s (after_steps (next_of s) k d) ≡ corner_after (dir s (face_of s d)) (length (face_at s.mesh (face_of s d)))
       (start_corner_of s d) k
 
-pub on_round : (s : OrientedMesh) → IsOrientedSurface s → (k d : ℕ) → d < darts_of s → OnRound s d k
-on_round s o zero d l = record { within = l; face = refl; corner = refl }
-on_round s o (suc k) d l =
+pub on_round : {s : OrientedMesh} → IsOrientedSurface s → (k d : ℕ) → d < darts_of s → OnRound s d k
+on_round o zero d l = record { within = l; face = refl; corner = refl }
+on_round {s} o (suc k) d l =
     let maps : Rotations = rotations_of s in
     let r : IsRotationSystem maps = rotation_system s o in
-    let before : OnRound s d k = on_round s o k d l in
+    let before : OnRound s d k = on_round o k d l in
     let x : ℕ = after_steps (next_of s) k d in
     let place : HasPlace s.mesh x = placed s.mesh x before.within in
     let f_is : face_of s x ≡ place.face = face_at_number s place.face place.place x place.numbered in
@@ -44,7 +44,7 @@ on_round s o (suc k) d l =
     sym ((r.faces x (next_of s x) before.within (r.next_within x before.within)).1 (record { steps = 1; leads = refl })) in
     let step : start_corner_of s (next_of s x) ≡ next_corner (dir s (face_of s x)) (length (face_at s.mesh (face_of s x)))
     (start_corner_of s x) =
-    corner-next s x before.within ∙ end_is s place.face place.place x place.numbered
+    corner-next s x before.within ∙ end_is s place.numbered
     ∙ ap (λ f. next_corner (dir s f) (length (face_at s.mesh f)) (start_corner_of s x)) (sym f_is) in
     record {
       within = r.next_within x before.within;
@@ -73,11 +73,11 @@ at_face s d l =
     }
 
 -- round the whole face one comes back to the dart, and not before
-pub comes_round : (s : OrientedMesh) → IsOrientedSurface s → (d : ℕ) → d < darts_of s
+pub comes_round : {s : OrientedMesh} → IsOrientedSurface s → (d : ℕ) → d < darts_of s
     → after_steps (next_of s) (length (face_at s.mesh (face_of s d))) d ≡ d
-comes_round s o d l =
+comes_round {s} o d l =
     let m : ℕ = length (face_at s.mesh (face_of s d)) in
-    let end : OnRound s d m = on_round s o m d l in
+    let end : OnRound s d m = on_round o m d l in
     let here : AtFace s d = at_face s d l in
     let x : ℕ = after_steps (next_of s) m d in
     let corner : start_corner_of s x ≡ start_corner_of s d =
@@ -85,11 +85,11 @@ comes_round s o d l =
     sym (at_start s x end.within) ∙ ap (λ f. dart_at_corner s f (start_corner_of s x)) end.face ∙ ap (dart_at_corner s (face_of s d)) corner
     ∙ at_start s d l
 
-pub not_before : (s : OrientedMesh) → IsOrientedSurface s → (d k : ℕ) → d < darts_of s → 0 < k → k < length (face_at s.mesh (face_of s d))
+pub not_before : {s : OrientedMesh} → IsOrientedSurface s → (d k : ℕ) → d < darts_of s → 0 < k → k < length (face_at s.mesh (face_of s d))
     → after_steps (next_of s) k d ≢ d
-not_before s o d k l some few same =
+not_before {s} o d k l some few same =
     let m : ℕ = length (face_at s.mesh (face_of s d)) in
-    let on : OnRound s d k = on_round s o k d l in
+    let on : OnRound s d k = on_round o k d l in
     corners_apart (dir s (face_of s d)) m (start_corner_of s d) 0 k (at_face s d l).in_face some (omega arith) (omega arith)
     (sym (sym on.corner ∙ ap (start_corner_of s) same))
 
@@ -98,13 +98,13 @@ abbrev pub vertices_on : OrientedMesh → ℕ → ℕ → List ℕ
 vertices_on s zero d = []
 vertices_on s (suc k) d = origin_of s (next_of s d) ∷ vertices_on s k (next_of s d)
 
-pub corners_read : (s : OrientedMesh) → IsOrientedSurface s → (k d : ℕ) → d < darts_of s
+pub corners_read : {s : OrientedMesh} → IsOrientedSurface s → (k d : ℕ) → d < darts_of s
     → corners_from (face_at s.mesh (face_of s d)) (dir s (face_of s d)) (start_corner_of s d) k ≡ origin_of s d ∷ vertices_on s k d
-corners_read s o zero d l = ap (λ x. x ∷ []) (sym (at_face s d l).vertex)
-corners_read s o (suc k) d l =
-    let on : OnRound s d 1 = on_round s o 1 d l in
+corners_read {s} o zero d l = ap (λ x. x ∷ []) (sym (at_face s d l).vertex)
+corners_read {s} o (suc k) d l =
+    let on : OnRound s d 1 = on_round o 1 d l in
     let rest : corners_from (face_at s.mesh (face_of s (next_of s d))) (dir s (face_of s (next_of s d))) (start_corner_of s (next_of s d)) k
-    ≡ origin_of s (next_of s d) ∷ vertices_on s k (next_of s d) = corners_read s o k (next_of s d) on.within in
+    ≡ origin_of s (next_of s d) ∷ vertices_on s k (next_of s d) = corners_read o k (next_of s d) on.within in
     let moved : corners_from (face_at s.mesh (face_of s d)) (dir s (face_of s d))
     (next_corner (dir s (face_of s d)) (length (face_at s.mesh (face_of s d))) (start_corner_of s d)) k
     ≡ corners_from (face_at s.mesh (face_of s (next_of s d))) (dir s (face_of s (next_of s d))) (start_corner_of s (next_of s d)) k =
@@ -115,9 +115,9 @@ corners_read s o (suc k) d l =
     ∙ ap (λ (w : List ℕ). origin_of s d ∷ w) (moved ∙ rest)
 
 -- one move leads from the origin round the whole face
-pub boundary : (s : OrientedMesh) → IsOrientedSurface s → (d : ℕ) → d < darts_of s
+pub boundary : {s : OrientedMesh} → IsOrientedSurface s → (d : ℕ) → d < darts_of s
     → Homotopic s.mesh (origin_of s d ∷ []) (origin_of s d ∷ vertices_on s (length (face_at s.mesh (face_of s d))) d)
-boundary s o d l =
+boundary {s} o d l =
     let here : AtFace s d = at_face s d l in
     let f : ℕ = face_of s d in
     let m : ℕ = length (face_at s.mesh f) in
@@ -125,8 +125,7 @@ boundary s o d l =
     let twice : not (not (dir s f)) ≡ dir s f = twice_not (dir s f) in
     let none_taken : m ≡ m - 0 = omega arith in
     let one : apply s.mesh (origin_of s d ∷ []) move ≡ Some (origin_of s d ∷ vertices_on s m d) =
-    (by_replacing s.mesh (origin_of s d ∷ []) (origin_of s d ∷ vertices_on s m d) move (omega arith)).1
-    (record {
+    (by_replacing s.mesh (origin_of s d ∷ []) (origin_of s d ∷ vertices_on s m d) move (omega arith)).1 (record {
       before = [];
       part = origin_of s d ∷ [];
       other = origin_of s d ∷ vertices_on s m d;
@@ -139,7 +138,7 @@ boundary s o d l =
         here.in_face,
         omega arith,
         ap (λ x. x ∷ []) here.vertex,
-        sym (corners_read s o m d l) ∙ ap (λ b. corners_from (face_at s.mesh f) b (start_corner_of s d) m) (sym twice)
+        sym (corners_read o m d l) ∙ ap (λ b. corners_from (face_at s.mesh f) b (start_corner_of s d) m) (sym twice)
             ∙ ap (corners_from (face_at s.mesh f) (not (not (dir s f))) (start_corner_of s d)) none_taken,
       );
     }) in

@@ -36,10 +36,10 @@ module _ (s : OrientedMesh) (split : SplitView) (o : IsOrientedSurface s) (t : I
         let made : Loops s split t = run act x (origin_of s d) (vertices_on s m d) in
         let product : Loops s split t = product_from loop_mul one step (origin_of s d) (vertices_on s m d) in
         let nothing : SameFreely product one =
-        subst (λ y. SameFreely y one) (sym (steps_round loop_mul one (free_value s split o t polygon) s o m d l))
-        (round_off_root s split o t polygon c some d l off_root) in
-        subst (λ (w : List ℕ). SameFreely (walked act x w) x) (sym (corners_read s o m d l))
-        (g.on made (loop_mul x product) x (run_product SameFreely loop_mul loop_inv one g step x (origin_of s d) (vertices_on s m d))
+        subst (λ y. SameFreely y one) (sym (steps_round loop_mul one (free_value s split o t polygon) o m d l))
+        (round_off_root o t c some d l off_root) in
+        subst (λ (w : List ℕ). SameFreely (walked act x w) x) (sym (corners_read o m d l))
+        (g.on made (loop_mul x product) x (run_product g step x (origin_of s d) (vertices_on s m d))
         (g.on (loop_mul x product) (loop_mul x one) x (g.mul_same x x product one (g.itself x) nothing) (g.one_right x)))
 
     faces_nothing : FacesActAsNothing s.mesh SameFreely act Anywhere (λ f. f ≢ split.root_face)
@@ -47,10 +47,8 @@ module _ (s : OrientedMesh) (split : SplitView) (o : IsOrientedSurface s) (t : I
       round = λ f l off_root.
           let h = dart_starts s f 0 l (omega (arith, (o.faces.faces f [] l).polygon)) in
           let d : ℕ = dart_at_corner s f 0 in
-          subst
-          (λ x. (rising : Bool) × (corner : ℕ) × (corner < length (face_at s.mesh x))
-          × RoundIsNothing {State = Loops s split t} SameFreely act Anywhere (face_at s.mesh x) rising corner)
-          h.face (
+          subst (λ x. (rising : Bool) × (corner : ℕ) × (corner < length (face_at s.mesh x))
+          × RoundIsNothing {State = Loops s split t} SameFreely act Anywhere (face_at s.mesh x) rising corner) h.face (
             dir s (face_of s d),
             start_corner_of s d,
             (at_face s d h.within).in_face,
@@ -74,11 +72,8 @@ module _ (s : OrientedMesh) (split : SplitView) (o : IsOrientedSurface s) (t : I
         let second : Loops s split t = walk_value s split o t polygon next in
         let one_made : Loops s split t = walked act one walk in
         let two_made : Loops s split t = walked act one next in
-        let read : (list : List ℕ) → SameFreely (walked act one list) (walk_value s split o t polygon list) =
-        walked_product SameFreely loop_mul loop_inv one g step in
-        g.on first one_made second (g.turn one_made first (read walk))
-        (g.on one_made two_made second
+        let read : (list : List ℕ) → SameFreely (walked act one list) (walk_value s split o t polygon list) = walked_product g step in
+        g.on first one_made second (g.turn one_made first (read walk)) (g.on one_made two_made second
         (moves_act s.mesh SameFreely act Anywhere
-        (steps_act SameFreely loop_mul loop_inv one g s.mesh step (steps_turn s split o t polygon c some)) (λ f. f ≢ split.root_face)
-        faces_nothing moves walk next one w (λ k d l. crosses_off_root (get_or moves k d) (h k d l)) e tt)
-        (read next))
+        (steps_act SameFreely loop_mul loop_inv one g s.mesh step (steps_turn o t c some)) (λ f. f ≢ split.root_face)
+        faces_nothing moves walk next one w (λ k d l. crosses_off_root (get_or moves k d) (h k d l)) e tt) (read next))

@@ -33,9 +33,9 @@ product_on {X = X} Same mul inv one g val u (w ∷ rest) more =
     (g.turn (mul (mul v a) b) (mul v (mul a b)) (g.associates v a b))
 
 -- the inverse of nothing
-pub inverse_of_one : {X : Type 0} (Same : X → X → Type 0) (mul : X → X → X) (inv : X → X) (one : X) → IsGroup Same mul inv one
+pub inverse_of_one : {X : Type 0} {Same : X → X → Type 0} {mul : X → X → X} {inv : X → X} {one : X} → IsGroup Same mul inv one
     → Same one (inv one)
-inverse_of_one Same mul inv one g = inverse_unique Same mul inv one g one one (g.one_left one)
+inverse_of_one {one} g = inverse_unique g one one (g.one_left one)
 
 -- steps back have inverse values
 abbrev pub StepsTurn : {X : Type 0} → (X → X → Type 0) → (X → X) → FaceList → (ℕ → ℕ → X) → Type 0
@@ -46,7 +46,7 @@ pub product_back : {X : Type 0} (Same : X → X → Type 0) (mul : X → X → X
     → (mesh : FaceList) (val : ℕ → ℕ → X) → StepsTurn Same inv mesh val
     → (u v : ℕ) (rest : List ℕ) → IsWay mesh u v rest
     → Same (product_from mul one val v (back u rest)) (inv (product_from mul one val u rest))
-product_back Same mul inv one g mesh val turns u v [] h = inverse_of_one Same mul inv one g
+product_back Same mul inv one g mesh val turns u v [] h = inverse_of_one g
 product_back {X = X} Same mul inv one g mesh val turns u v (w ∷ rest) h =
     let a : X = product_from mul one val v (back w rest) in
     let b : X = product_from mul one val w rest in
@@ -60,7 +60,7 @@ product_back {X = X} Same mul inv one g mesh val turns u v (w ∷ rest) h =
     g.on (product_from mul one val v (back w rest ++ u ∷ [])) (mul a last) (inv (mul x b)) split
     (g.on (mul a last) (mul (inv b) (inv x)) (inv (mul x b))
     (g.mul_same a (inv b) last (inv x) (product_back Same mul inv one g mesh val turns w v rest h.1) last_is)
-    (g.turn (inv (mul x b)) (mul (inv b) (inv x)) (inverse_of_product Same mul inv one g x b)))
+    (g.turn (inv (mul x b)) (mul (inv b) (inv x)) (inverse_of_product g x b)))
 
 -- A step acts on the elements of the group: its value is multiplied to them.
 abbrev pub times : {X : Type 0} → (X → X → X) → (ℕ → ℕ → X) → X → ℕ → ℕ → X
@@ -87,18 +87,18 @@ steps_act {X = X} Same mul inv one g mesh val turns = record {
 }
 
 -- so the product is what a walk makes of an element
-pub run_product : {X : Type 0} (Same : X → X → Type 0) (mul : X → X → X) (inv : X → X) (one : X) → IsGroup Same mul inv one
+pub run_product : {X : Type 0} {Same : X → X → Type 0} {mul : X → X → X} {inv : X → X} {one : X} → IsGroup Same mul inv one
     → (val : ℕ → ℕ → X) (x : X) (u : ℕ) (rest : List ℕ)
     → Same (run (times mul val) x u rest) (mul x (product_from mul one val u rest))
-run_product Same mul inv one g val x u [] = g.turn (mul x one) x (g.one_right x)
-run_product Same mul inv one g val x u (v ∷ rest) =
+run_product {mul} {one} g val x u [] = g.turn (mul x one) x (g.one_right x)
+run_product {mul} {one} g val x u (v ∷ rest) =
     g.on (run (times mul val) (mul x (val u v)) v rest) (mul (mul x (val u v)) (product_from mul one val v rest))
     (mul x (mul (val u v) (product_from mul one val v rest)))
-    (run_product Same mul inv one g val (mul x (val u v)) v rest) (g.associates x (val u v) (product_from mul one val v rest))
+    (run_product g val (mul x (val u v)) v rest) (g.associates x (val u v) (product_from mul one val v rest))
 
-pub walked_product : {X : Type 0} (Same : X → X → Type 0) (mul : X → X → X) (inv : X → X) (one : X) → IsGroup Same mul inv one
+pub walked_product : {X : Type 0} {Same : X → X → Type 0} {mul : X → X → X} {inv : X → X} {one : X} → IsGroup Same mul inv one
     → (val : ℕ → ℕ → X) (walk : List ℕ) → Same (walked (times mul val) one walk) (walk_product mul one val walk)
-walked_product Same mul inv one g val [] = g.itself one
-walked_product Same mul inv one g val (u ∷ rest) =
+walked_product {one} g val [] = g.itself one
+walked_product {mul} {one} g val (u ∷ rest) =
     let product = product_from mul one val u rest in
-    g.on (run (times mul val) one u rest) (mul one product) product (run_product Same mul inv one g val one u rest) (g.one_left product)
+    g.on (run (times mul val) one u rest) (mul one product) product (run_product g val one u rest) (g.one_left product)

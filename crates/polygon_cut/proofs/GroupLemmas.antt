@@ -16,53 +16,48 @@ pub record IsGroup {X : Type 0} (Same : X → X → Type 0) (mul : X → X → X
 abbrev pub quotient : {X : Type 0} → (X → X → X) → (X → X) → X → X → X
 quotient mul inv x y = mul x (inv y)
 
-pub inverse_unique : {X : Type 0} (Same : X → X → Type 0) (mul : X → X → X) (inv : X → X) (one : X) → IsGroup Same mul inv one → (x y : X)
+pub inverse_unique : {X : Type 0} {Same : X → X → Type 0} {mul : X → X → X} {inv : X → X} {one : X} → IsGroup Same mul inv one → (x y : X)
     → Same (mul x y) one → Same x (inv y)
-inverse_unique Same mul inv one g x y h =
-    g.on x (mul x (mul y (inv y))) (inv y)
-    (g.turn (mul x (mul y (inv y))) x
+inverse_unique {mul} {inv} {one} g x y h =
+    g.on x (mul x (mul y (inv y))) (inv y) (g.turn (mul x (mul y (inv y))) x
     (g.on (mul x (mul y (inv y))) (mul x one) x (g.mul_same x x (mul y (inv y)) one (g.itself x) (g.cancels y)) (g.one_right x)))
     (g.on (mul x (mul y (inv y))) (mul (mul x y) (inv y)) (inv y)
     (g.turn (mul (mul x y) (inv y)) (mul x (mul y (inv y))) (g.associates x y (inv y)))
     (g.on (mul (mul x y) (inv y)) (mul one (inv y)) (inv y) (g.mul_same (mul x y) one (inv y) (inv y) h (g.itself (inv y)))
     (g.one_left (inv y))))
 
-pub inverse_twice : {X : Type 0} (Same : X → X → Type 0) (mul : X → X → X) (inv : X → X) (one : X) → IsGroup Same mul inv one → (x : X)
+pub inverse_twice : {X : Type 0} {Same : X → X → Type 0} {mul : X → X → X} {inv : X → X} {one : X} → IsGroup Same mul inv one → (x : X)
     → Same (inv (inv x)) x
-inverse_twice Same mul inv one g x = g.turn x (inv (inv x)) (inverse_unique Same mul inv one g x (inv x) (g.cancels x))
+inverse_twice {inv} g x = g.turn x (inv (inv x)) (inverse_unique g x (inv x) (g.cancels x))
 
 -- what stands in the middle cancels
-pub middle : {X : Type 0} (Same : X → X → Type 0) (mul : X → X → X) (inv : X → X) (one : X) → IsGroup Same mul inv one → (x y z : X)
+pub middle : {X : Type 0} {Same : X → X → Type 0} {mul : X → X → X} {inv : X → X} {one : X} → IsGroup Same mul inv one → (x y z : X)
     → Same (mul (quotient mul inv x y) (quotient mul inv y z)) (quotient mul inv x z)
-middle Same mul inv one g x y z =
-    let step : Same (mul (inv y) (mul y (inv z))) (inv z) =
-    g.on (mul (inv y) (mul y (inv z))) (mul (mul (inv y) y) (inv z)) (inv z)
+middle {Same} {mul} {inv} {one} g x y z =
+    let step : Same (mul (inv y) (mul y (inv z))) (inv z) = g.on (mul (inv y) (mul y (inv z))) (mul (mul (inv y) y) (inv z)) (inv z)
     (g.turn (mul (mul (inv y) y) (inv z)) (mul (inv y) (mul y (inv z))) (g.associates (inv y) y (inv z)))
     (g.on (mul (mul (inv y) y) (inv z)) (mul one (inv z)) (inv z) (g.mul_same (mul (inv y) y) one (inv z) (inv z) (g.cancels_back y)
     (g.itself (inv z))) (g.one_left (inv z))) in
     g.on (mul (mul x (inv y)) (mul y (inv z))) (mul x (mul (inv y) (mul y (inv z)))) (mul x (inv z))
-    (g.associates x (inv y) (mul y (inv z)))
-    (g.mul_same x x (mul (inv y) (mul y (inv z))) (inv z) (g.itself x) step)
+    (g.associates x (inv y) (mul y (inv z))) (g.mul_same x x (mul (inv y) (mul y (inv z))) (inv z) (g.itself x) step)
 
-pub inverse_of_quotient : {X : Type 0} (Same : X → X → Type 0) (mul : X → X → X) (inv : X → X) (one : X) → IsGroup Same mul inv one
+pub inverse_of_quotient : {X : Type 0} {Same : X → X → Type 0} {mul : X → X → X} {inv : X → X} {one : X} → IsGroup Same mul inv one
     → (x y : X)
     → Same (inv (quotient mul inv x y)) (quotient mul inv y x)
-inverse_of_quotient Same mul inv one g x y =
-    g.turn (quotient mul inv y x) (inv (quotient mul inv x y))
-    (inverse_unique Same mul inv one g (quotient mul inv y x) (quotient mul inv x y)
-    (g.on (mul (quotient mul inv y x) (quotient mul inv x y)) (quotient mul inv y y) one (middle Same mul inv one g y x y) (g.cancels y)))
+inverse_of_quotient {mul} {inv} {one} g x y =
+    g.turn (quotient mul inv y x) (inv (quotient mul inv x y)) (inverse_unique g (quotient mul inv y x) (quotient mul inv x y)
+    (g.on (mul (quotient mul inv y x) (quotient mul inv x y)) (quotient mul inv y y) one (middle g y x y) (g.cancels y)))
 
 -- x is y⁻¹ where their product is one, and the like
-pub left_factor : {X : Type 0} (Same : X → X → Type 0) (mul : X → X → X) (inv : X → X) (one : X) → IsGroup Same mul inv one → (v x y : X)
+pub left_factor : {X : Type 0} {Same : X → X → Type 0} {mul : X → X → X} {inv : X → X} {one : X} → IsGroup Same mul inv one → (v x y : X)
     → Same (mul v (quotient mul inv x y)) one → Same v (quotient mul inv y x)
-left_factor Same mul inv one g v x y h =
-    g.on v (inv (quotient mul inv x y)) (quotient mul inv y x) (inverse_unique Same mul inv one g v (quotient mul inv x y) h)
-    (inverse_of_quotient Same mul inv one g x y)
+left_factor {mul} {inv} g v x y h =
+    g.on v (inv (quotient mul inv x y)) (quotient mul inv y x) (inverse_unique g v (quotient mul inv x y) h) (inverse_of_quotient g x y)
 
-pub inverse_of_product : {X : Type 0} (Same : X → X → Type 0) (mul : X → X → X) (inv : X → X) (one : X) → IsGroup Same mul inv one
+pub inverse_of_product : {X : Type 0} {Same : X → X → Type 0} {mul : X → X → X} {inv : X → X} {one : X} → IsGroup Same mul inv one
     → (x y : X) → Same (inv (mul x y)) (mul (inv y) (inv x))
-inverse_of_product Same mul inv one g x y =
-    g.turn (mul (inv y) (inv x)) (inv (mul x y)) (inverse_unique Same mul inv one g (mul (inv y) (inv x)) (mul x y) product)
+inverse_of_product {Same} {mul} {inv} {one} g x y =
+    g.turn (mul (inv y) (inv x)) (inv (mul x y)) (inverse_unique g (mul (inv y) (inv x)) (mul x y) product)
   where
     inner : Same (mul (inv x) (mul x y)) y
     inner = g.on (mul (inv x) (mul x y)) (mul (mul (inv x) x) y) y
@@ -75,12 +70,12 @@ inverse_of_product Same mul inv one g x y =
         (g.mul_same (inv y) (inv y) (mul (inv x) (mul x y)) y (g.itself (inv y)) inner) (g.cancels_back y))
 
 -- x (v⁻¹ x)⁻¹ is v
-pub one_step : {X : Type 0} (Same : X → X → Type 0) (mul : X → X → X) (inv : X → X) (one : X) → IsGroup Same mul inv one → (v x : X)
+pub one_step : {X : Type 0} {Same : X → X → Type 0} {mul : X → X → X} {inv : X → X} {one : X} → IsGroup Same mul inv one → (v x : X)
     → Same (quotient mul inv x (mul (inv v) x)) v
-one_step Same mul inv one g v x =
+one_step {Same} {mul} {inv} {one} g v x =
     let turned : Same (inv (mul (inv v) x)) (mul (inv x) v) =
-    g.on (inv (mul (inv v) x)) (mul (inv x) (inv (inv v))) (mul (inv x) v) (inverse_of_product Same mul inv one g (inv v) x)
-    (g.mul_same (inv x) (inv x) (inv (inv v)) v (g.itself (inv x)) (inverse_twice Same mul inv one g v)) in
+    g.on (inv (mul (inv v) x)) (mul (inv x) (inv (inv v))) (mul (inv x) v) (inverse_of_product g (inv v) x)
+    (g.mul_same (inv x) (inv x) (inv (inv v)) v (g.itself (inv x)) (inverse_twice g v)) in
     g.on (mul x (inv (mul (inv v) x))) (mul x (mul (inv x) v)) v (g.mul_same x x (inv (mul (inv v) x)) (mul (inv x) v) (g.itself x) turned)
     (g.on (mul x (mul (inv x) v)) (mul (mul x (inv x)) v) v
     (g.turn (mul (mul x (inv x)) v) (mul x (mul (inv x) v)) (g.associates x (inv x) v))

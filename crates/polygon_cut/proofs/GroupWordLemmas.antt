@@ -56,13 +56,13 @@ with_first meaning One = One
 with_first meaning (Mul a b) = Mul (with_first meaning a) (with_first meaning b)
 with_first meaning (Inv a) = Inv (with_first meaning a)
 
-strike : {X : Type 0} (Same : X → X → Type 0) (mul : X → X → X) (inv : X → X) (one : X) → IsGroup Same mul inv one → (p q : Bool) (x y : X)
+strike : {X : Type 0} {Same : X → X → Type 0} {mul : X → X → X} {inv : X → X} {one : X} → IsGroup Same mul inv one → (p q : Bool) (x y : X)
     → differ p q ≡ true → x ≡ y
     → Same (mul (signed inv p x) (signed inv q y)) one
-strike Same mul inv one g true true x y h e = cc
-strike Same mul inv one g true false x y h e = subst (λ z. Same (mul x (inv z)) one) e (g.cancels x)
-strike Same mul inv one g false true x y h e = subst (λ z. Same (mul (inv x) z) one) e (g.cancels_back x)
-strike Same mul inv one g false false x y h e = cc
+strike g true true x y h e = cc
+strike {Same} {mul} {inv} {one} g true false x y h e = subst (λ z. Same (mul x (inv z)) one) e (g.cancels x)
+strike {Same} {mul} {inv} {one} g false true x y h e = subst (λ z. Same (mul (inv x) z) one) e (g.cancels_back x)
+strike g false false x y h e = cc
 
 put_sound : {X : Type 0} (Same : X → X → Type 0) (mul : X → X → X) (inv : X → X) (one : X) → IsGroup Same mul inv one
     → (elements : List X) (plain : Bool) (n : ℕ) (word : List Letter)
@@ -81,7 +81,7 @@ put_sound {X = X} Same mul inv one g elements plain n (letter ∷ word) =
           let b : X = signed inv letter.plain (get_or elements letter.number one) in
           let rest : X = value_of_word mul inv one elements word in
           let nothing : Same (mul a b) one =
-          strike Same mul inv one g plain letter.plain (get_or elements n one) (get_or elements letter.number one) parts.0 same in
+          strike g plain letter.plain (get_or elements n one) (get_or elements letter.number one) parts.0 same in
           rw struck
           (g.on (mul a (mul b rest)) (mul (mul a b) rest) rest (g.turn (mul (mul a b) rest) (mul a (mul b rest)) (g.associates a b rest))
           (g.on (mul (mul a b) rest) (mul one rest) rest (g.mul_same (mul a b) one rest rest nothing (g.itself rest)) (g.one_left rest)))
@@ -95,7 +95,7 @@ sound Same mul inv one g elements plain (Var n) word = put_sound Same mul inv on
 sound Same mul inv one g elements true One word = g.one_left (value_of_word mul inv one elements word)
 sound {X = X} Same mul inv one g elements false One word =
     let w : X = value_of_word mul inv one elements word in
-    g.on (mul (inv one) w) (mul one w) w (g.mul_same (inv one) one w w (g.turn one (inv one) (inverse_of_one Same mul inv one g))
+    g.on (mul (inv one) w) (mul one w) w (g.mul_same (inv one) one w w (g.turn one (inv one) (inverse_of_one g))
     (g.itself w)) (g.one_left w)
 sound {X = X} Same mul inv one g elements true (Mul a b) word =
     let x : X = value_of mul inv one elements a in
@@ -114,17 +114,16 @@ sound {X = X} Same mul inv one g elements false (Mul a b) word =
     let v : X = value_of_word mul inv one elements (word_of false a word) in
     let whole : X = value_of_word mul inv one elements (word_of false b (word_of false a word)) in
     g.on (mul (inv (mul x y)) w) (mul (mul (inv y) (inv x)) w) whole
-    (g.mul_same (inv (mul x y)) (mul (inv y) (inv x)) w w (inverse_of_product Same mul inv one g x y) (g.itself w))
+    (g.mul_same (inv (mul x y)) (mul (inv y) (inv x)) w w (inverse_of_product g x y) (g.itself w))
     (g.on (mul (mul (inv y) (inv x)) w) (mul (inv y) (mul (inv x) w)) whole (g.associates (inv y) (inv x) w)
     (g.on (mul (inv y) (mul (inv x) w)) (mul (inv y) v) whole (g.mul_same (inv y) (inv y) (mul (inv x) w) v (g.itself (inv y))
-    (sound Same mul inv one g elements false a word))
-    (sound Same mul inv one g elements false b (word_of false a word))))
+    (sound Same mul inv one g elements false a word)) (sound Same mul inv one g elements false b (word_of false a word))))
 sound Same mul inv one g elements true (Inv a) word = sound Same mul inv one g elements false a word
 sound {X = X} Same mul inv one g elements false (Inv a) word =
     let x : X = value_of mul inv one elements a in
     let w : X = value_of_word mul inv one elements word in
     let whole : X = value_of_word mul inv one elements (word_of true a word) in
-    g.on (mul (inv (inv x)) w) (mul x w) whole (g.mul_same (inv (inv x)) x w w (inverse_twice Same mul inv one g x) (g.itself w))
+    g.on (mul (inv (inv x)) w) (mul x w) whole (g.mul_same (inv (inv x)) x w w (inverse_twice g x) (g.itself w))
     (sound Same mul inv one g elements true a word)
 
 -- Terms with one reduced word are the same in every group.
@@ -142,19 +141,17 @@ by_words {X = X} Same mul inv one g elements s t e =
     (g.on word (mul y one) y (g.turn (mul y one) word y_word) (g.one_right y))
 
 -- the first of the elements may be replaced by one that is the same
-pub first_changed : {X : Type 0} (Same : X → X → Type 0) (mul : X → X → X) (inv : X → X) (one : X) → IsGroup Same mul inv one
+pub first_changed : {X : Type 0} {Same : X → X → Type 0} {mul : X → X → X} {inv : X → X} {one : X} → IsGroup Same mul inv one
     → (x y : X) (elements : List X) → Same x y → (t : Term)
     → Same (value_of mul inv one (x ∷ elements) t) (value_of mul inv one (y ∷ elements) t)
-first_changed Same mul inv one g x y elements h (Var zero) = h
-first_changed Same mul inv one g x y elements h (Var (suc n)) = g.itself (get_or elements n one)
-first_changed Same mul inv one g x y elements h One = g.itself one
-first_changed Same mul inv one g x y elements h (Mul a b) =
+first_changed g x y elements h (Var zero) = h
+first_changed {one} g x y elements h (Var (suc n)) = g.itself (get_or elements n one)
+first_changed {one} g x y elements h One = g.itself one
+first_changed {mul} {inv} {one} g x y elements h (Mul a b) =
     g.mul_same (value_of mul inv one (x ∷ elements) a) (value_of mul inv one (y ∷ elements) a) (value_of mul inv one (x ∷ elements) b)
-    (value_of mul inv one (y ∷ elements) b)
-    (first_changed Same mul inv one g x y elements h a) (first_changed Same mul inv one g x y elements h b)
-first_changed Same mul inv one g x y elements h (Inv a) =
-    g.inv_same (value_of mul inv one (x ∷ elements) a) (value_of mul inv one (y ∷ elements) a)
-    (first_changed Same mul inv one g x y elements h a)
+    (value_of mul inv one (y ∷ elements) b) (first_changed g x y elements h a) (first_changed g x y elements h b)
+first_changed {mul} {inv} {one} g x y elements h (Inv a) =
+    g.inv_same (value_of mul inv one (x ∷ elements) a) (value_of mul inv one (y ∷ elements) a) (first_changed g x y elements h a)
 
 -- Terms over elements of which the first is the same as another term's value: they are the same where their words are, once that term
 -- stands for the first.
@@ -174,8 +171,7 @@ by_relation {X = X} Same mul inv one g x elements meaning s t h e =
     by_words Same mul inv one g (one ∷ elements) (with_first meaning s) (with_first meaning t) e in
     let across : Same b c = subst (λ z. Same z c) (replaced s)
     (subst (λ z. Same (value_of mul inv one (one ∷ elements) (with_first meaning s)) z) (replaced t) words) in
-    g.on a b d (first_changed Same mul inv one g x y elements h s)
-    (g.on b c d across (g.turn d c (first_changed Same mul inv one g x y elements h t)))
+    g.on a b d (first_changed g x y elements h s) (g.on b c d across (g.turn d c (first_changed g x y elements h t)))
   where
     replaced : (u : Term) → value_of mul inv one (one ∷ elements) (with_first meaning u) ≡ value_of mul inv one
         (value_of mul inv one (one ∷ elements) meaning ∷ elements) u

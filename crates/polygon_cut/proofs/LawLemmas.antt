@@ -9,14 +9,14 @@ pub labels_ride : (s : OrientedMesh) (split : SplitView) (polygon : PolygonView)
     → IsCutFrom s split polygon
     → 0 < polygon.degree → d < darts_of s → KindLabels (rotations_of s) (in_tree split) (in_cotree split) (is_left split) polygon d
 labels_ride s split polygon d o t c some l =
-    kind_labels (rotations_of s) (in_tree split) (in_cotree split) (is_left split) polygon (rotation_system s o)
+    kind_labels (in_tree split) (in_cotree split) (rotation_system s o)
     (λ e k. one_of_three split ((rotations_of s).edge e)) (c.labels some) d l
 
 pub every_side : (s : OrientedMesh) (split : SplitView) (polygon : PolygonView) (side : ℕ) → IsOrientedSurface s → IsSplit s split
     → IsCutFrom s split polygon
     → side < polygon.degree → IsReached (turned (rotations_of s) polygon) 0 side
 every_side s split polygon side o t c l =
-    turning_reaches_all (rotations_of s) (in_tree split) (in_cotree split) (is_left split) polygon (rotation_system s o)
+    turning_reaches_all (in_tree split) (in_cotree split) (rotation_system s o)
     (λ e k. one_of_three split ((rotations_of s).edge e)) (c.labels (omega arith)) (tree_has_ring s split o t.trees) side l
 
 pub leftover : (s : OrientedMesh) (split : SplitView) (polygon : PolygonView) (d : ℕ) → IsOrientedSurface s → IsSplit s split
@@ -25,9 +25,7 @@ pub leftover : (s : OrientedMesh) (split : SplitView) (polygon : PolygonView) (d
     → place_of polygon (one_up polygon.degree (label_of polygon (twin_of s d))) ≡ one_down polygon.degree
     (place_of polygon (label_of polygon d))
 leftover s split polygon d o t c some l is =
-    leftover_places (rotations_of s) (after_dart (rotations_of s) (λ e. not (in_cotree split e))) (is_left split) polygon
-    (rotation_system s o)
-    (c.labels some) (c.places some) d l is
+    leftover_places (rotation_system s o) (c.labels some) (c.places some) d l is
 
 pub four_places : (s : OrientedMesh) (split : SplitView) (polygon : PolygonView) (i : ℕ) → IsOrientedSurface s → IsSplit s split
     → IsCutFrom s split polygon
@@ -38,10 +36,8 @@ four_places s split polygon i o t c four l =
     let crosses : Crosses polygon.degree (across (rotations_of s) polygon) =
     sides_cross (rotations_of s) (after_dart (rotations_of s) (λ e. not (in_cotree split e))) (is_left split) polygon (rotation_system s o)
     (c.labels some) in
-    places_rise (across (rotations_of s) polygon) (place_of polygon) (subst (λ n. Crosses n (across (rotations_of s) polygon)) four crosses)
+    places_rise (place_of polygon) (subst (λ n. Crosses n (across (rotations_of s) polygon)) four crosses)
     (λ j k. subst (λ n. IsReached (λ x. one_up n (across (rotations_of s) polygon x)) 0 j) four
-    (every_side s split polygon j o t c (omega arith)))
-    (λ j k. subst (λ n. place_of polygon j < n) four (places.below j (omega arith)))
+    (every_side s split polygon j o t c (omega arith))) (λ j k. subst (λ n. place_of polygon j < n) four (places.below j (omega arith)))
     (λ j k. subst (λ n. place_of polygon (one_up n (across (rotations_of s) polygon j)) ≡ one_down n (place_of polygon j)) four
-    (places.falls j (omega arith)))
-    i l
+    (places.falls j (omega arith))) i l

@@ -16,8 +16,7 @@ pub sides_cross : (maps : Rotations) (ring : ℕ → ℕ) (left : ℕ → Bool) 
 sides_cross maps ring left polygon r h = record {
   below = λ i l. h.label_below (maps.twin (side_at polygon i)) (r.twin_within (side_at polygon i) (h.side_is_left i l).0);
   other = λ i l e. r.twin_other (side_at polygon i) (h.side_is_left i l).0 (sym (twin_side i l) ∙ ap (side_at polygon) e);
-  back = λ i l.
-      ap (λ (d : ℕ). label_of polygon (maps.twin d)) (twin_side i l)
+  back = λ i l. ap (λ (d : ℕ). label_of polygon (maps.twin d)) (twin_side i l)
       ∙ ap (label_of polygon) (r.twin_back (side_at polygon i) (h.side_is_left i l).0) ∙ h.own_number i l;
 }
   where
@@ -25,7 +24,7 @@ sides_cross maps ring left polygon r h = record {
     twin_side i l =
         let d : ℕ = side_at polygon i in
         let in_range : d < maps.darts = (h.side_is_left i l).0 in
-        is_own_side maps ring left polygon h (maps.twin d) (r.twin_within d in_range) (ap left (sym (twin_edge maps r d in_range))
+        is_own_side h (maps.twin d) (r.twin_within d in_range) (ap left (sym (twin_edge maps r d in_range))
         ∙ (h.side_is_left i l).1)
 
 up_apart : (degree i j : ℕ) → i < degree → j < degree → one_up degree i ≡ one_up degree j → i ≡ j
@@ -45,8 +44,8 @@ up_apart degree i j l k e = elim (cases_eq (i + 1) degree) [
       ]
 ]
 
-pub turning_permutes : (degree : ℕ) (t : ℕ → ℕ) → Crosses degree t → IsPermutationBelow degree (λ i. one_up degree (t i))
-turning_permutes degree t c = record {
+pub turning_permutes : {degree : ℕ} {t : ℕ → ℕ} → Crosses degree t → IsPermutationBelow degree (λ i. one_up degree (t i))
+turning_permutes {degree} {t} c = record {
   within = λ i l. one_up_below degree (t i) (c.below i l);
   injective = λ i j l k e. sym (c.back i l) ∙ ap t (up_apart degree (t i) (t j) (c.below i l) (c.below j k) e) ∙ c.back j k;
 }
@@ -62,10 +61,10 @@ pub record FallingPlaces (degree : ℕ) (f place : ℕ → ℕ) : Type 0 where
   pub apart : (i j : ℕ) → i < degree → j < degree → place i ≡ place j → i ≡ j
   pub falls : (i : ℕ) → i < degree → place (f i) ≡ one_down degree (place i)
 
-pub falling : (degree : ℕ) (f place : ℕ → ℕ) → IsPermutationBelow degree f → 0 < degree → ((j : ℕ) → j < degree → IsReached f 0 j)
+pub falling : {degree : ℕ} {f place : ℕ → ℕ} → IsPermutationBelow degree f → 0 < degree → ((j : ℕ) → j < degree → IsReached f 0 j)
     → PlacedByTurns degree f place
     → FallingPlaces degree f place
-falling degree f place p some all h = record {
+falling {degree} {f} {place} p some all h = record {
   below = λ i l. (let s = turns i l in at_below s.0 s.1 i s.2);
   apart = λ i j l k e. (let s = turns i l in let t = turns j k in sym s.2
       ∙ ap (λ (m : ℕ). after_steps f m 0) (same_turns s.0 t.0 s.1 t.1 (ap place s.2 ∙ e ∙ sym (ap place t.2))) ∙ t.2);
@@ -106,7 +105,7 @@ falling degree f place p some all h = record {
     round = returns_to degree f p 0 some
 
     period : suc round.less ≡ degree
-    period = whole_round degree f p 0 all round.less round.few round.back
+    period = whole_round p 0 all round.less round.few round.back
 
     home : (k : ℕ) → suc k ≡ degree → after_steps f (suc k) 0 ≡ 0
     home k e =

@@ -7,9 +7,9 @@ pub one_up_below : (degree i : ℕ) → i < degree → one_up degree i < degree
 one_up_below degree i l = grind (arith, nat_tests)
 
 -- two first leftover darts at or after one dart are one
-first_unique : (maps : Rotations) (ring : ℕ → ℕ) (left : ℕ → Bool) (d x y : ℕ) → IsFirstLeft maps ring left d x
+first_unique : {maps : Rotations} {ring : ℕ → ℕ} {left : ℕ → Bool} {d x y : ℕ} → IsFirstLeft maps ring left d x
     → IsFirstLeft maps ring left d y → x ≡ y
-first_unique maps ring left d x y h k = elim (cases_lt h.steps k.steps) [
+first_unique {maps} {ring} {left} {d} {x} {y} h k = elim (cases_lt h.steps k.steps) [
   | inl less ↦ absurd (both_ways (left (maps.edge x)) (subst (λ (z : ℕ). left (maps.edge z) ≡ false) h.leads (k.none_before h.steps less))
       h.is_left)
   | inr more ↦ elim (cases_lt k.steps h.steps) [
@@ -22,9 +22,9 @@ first_unique maps ring left d x y h k = elim (cases_lt h.steps k.steps) [
 ]
 
 -- one step on, from a dart that is not leftover
-first_moved : (maps : Rotations) (ring : ℕ → ℕ) (left : ℕ → Bool) (d x : ℕ) → left (maps.edge d) ≡ false → IsFirstLeft maps ring left d x
+first_moved : {maps : Rotations} {ring : ℕ → ℕ} {left : ℕ → Bool} {d x : ℕ} → left (maps.edge d) ≡ false → IsFirstLeft maps ring left d x
     → IsFirstLeft maps ring left (ring d) x
-first_moved maps ring left d x not_left h = elim (cases_eq h.steps 0) [
+first_moved {maps} {ring} {left} {d} {x} not_left h = elim (cases_eq h.steps 0) [
   | inl none ↦
       let here : d ≡ x = sym (ap (λ (k : ℕ). after_steps ring k d) none) ∙ h.leads in
       absurd (both_ways (left (maps.edge x)) (subst (λ (z : ℕ). left (maps.edge z) ≡ false) here not_left) h.is_left)
@@ -40,50 +40,49 @@ first_moved maps ring left d x not_left h = elim (cases_eq h.steps 0) [
 ]
 
 -- along the ring: a dart that is not leftover keeps the label
-pub label_stays : (maps : Rotations) (ring : ℕ → ℕ) (left : ℕ → Bool) (polygon : PolygonView) → IsLabelled maps ring left polygon
+pub label_stays : {maps : Rotations} {ring : ℕ → ℕ} {left : ℕ → Bool} {polygon : PolygonView} → IsLabelled maps ring left polygon
     → IsPermutationBelow maps.darts ring
     → (d : ℕ) → d < maps.darts → left (maps.edge d) ≡ false → label_of polygon (ring d) ≡ label_of polygon d
-label_stays maps ring left polygon h p d l not_left =
+label_stays {ring} {polygon} h p d l not_left =
     let one = h.first (ring d) (p.within d l) in
-    let two = first_moved maps ring left d (side_at polygon (label_of polygon d)) not_left (h.first d l) in
-    let same : side_at polygon (label_of polygon (ring d)) ≡ side_at polygon (label_of polygon d) =
-    first_unique maps ring left (ring d) (side_at polygon (label_of polygon (ring d))) (side_at polygon (label_of polygon d)) one two in
+    let two = first_moved not_left (h.first d l) in
+    let same : side_at polygon (label_of polygon (ring d)) ≡ side_at polygon (label_of polygon d) = first_unique one two in
     sym (h.own_number (label_of polygon (ring d)) (h.label_below (ring d) (p.within d l))) ∙ ap (label_of polygon) same
     ∙ h.own_number (label_of polygon d) (h.label_below d l)
 
 -- a leftover dart is the side with the number of its label
-pub is_own_side : (maps : Rotations) (ring : ℕ → ℕ) (left : ℕ → Bool) (polygon : PolygonView) → IsLabelled maps ring left polygon
+pub is_own_side : {maps : Rotations} {ring : ℕ → ℕ} {left : ℕ → Bool} {polygon : PolygonView} → IsLabelled maps ring left polygon
     → (d : ℕ) → d < maps.darts → left (maps.edge d) ≡ true → side_at polygon (label_of polygon d) ≡ d
-is_own_side maps ring left polygon h d l is =
+is_own_side {maps} {ring} {left} h d l is =
     let here : IsFirstLeft maps ring left d d =
     record { steps = 0; leads = refl; is_left = is; none_before = λ k m. absurd (omega arith) } in
-    first_unique maps ring left d (side_at polygon (label_of polygon d)) d (h.first d l) here
+    first_unique (h.first d l) here
 
-pub label_rises : (maps : Rotations) (ring : ℕ → ℕ) (left : ℕ → Bool) (polygon : PolygonView) → IsLabelled maps ring left polygon
+pub label_rises : {maps : Rotations} {ring : ℕ → ℕ} {left : ℕ → Bool} {polygon : PolygonView} → IsLabelled maps ring left polygon
     → (d : ℕ) → d < maps.darts → left (maps.edge d) ≡ true → label_of polygon (ring d) ≡ one_up polygon.degree (label_of polygon d)
-label_rises maps ring left polygon h d l is =
-    ap (λ (x : ℕ). label_of polygon (ring x)) (sym (is_own_side maps ring left polygon h d l is))
+label_rises {ring} {polygon} h d l is =
+    ap (λ (x : ℕ). label_of polygon (ring x)) (sym (is_own_side h d l is))
     ∙ h.along (label_of polygon d) (h.label_below d l)
 
-pub kind_labels : (maps : Rotations) (tree cotree left : ℕ → Bool) (polygon : PolygonView) → IsRotationSystem maps
+pub kind_labels : {maps : Rotations} (tree cotree : ℕ → Bool) {left : ℕ → Bool} {polygon : PolygonView} → IsRotationSystem maps
     → ((d : ℕ) → d < maps.darts → OneOfThree (tree (maps.edge d)) (cotree (maps.edge d)) (left (maps.edge d)))
     → IsLabelled maps (after_dart maps (λ e. not (cotree e))) left polygon → (d : ℕ) → d < maps.darts
     → KindLabels maps tree cotree left polygon d
-kind_labels maps tree cotree left polygon r kinds h d l = record {
+kind_labels {maps} tree cotree {left} {polygon} r kinds h d l = record {
   of_tree = λ is.
       let none : cotree (maps.edge d) ≡ false = (not_others (tree (maps.edge d)) (cotree (maps.edge d)) (left (maps.edge d)) (kinds d l)).0
       is in
       let no_left : left (maps.edge d) ≡ false = (not_others (tree (maps.edge d)) (cotree (maps.edge d)) (left (maps.edge d)) (kinds d l)).1
       is in
-      ap (label_of polygon) (sym (go_on maps P d (ap not none))) ∙ label_stays maps (after_dart maps P) left polygon h p d l no_left;
+      ap (label_of polygon) (sym (go_on maps P d (ap not none))) ∙ label_stays h p d l no_left;
   of_cotree = λ is.
       let no_left : left (maps.edge d) ≡ false = (not_others (tree (maps.edge d)) (cotree (maps.edge d)) (left (maps.edge d)) (kinds d l)).2
       is in
-      ap (label_of polygon) (sym (turn maps P d (ap not is))) ∙ label_stays maps (after_dart maps P) left polygon h p d l no_left;
+      ap (label_of polygon) (sym (turn maps P d (ap not is))) ∙ label_stays h p d l no_left;
   of_left = λ is.
       let none : cotree (maps.edge d) ≡ false = (not_others (tree (maps.edge d)) (cotree (maps.edge d)) (left (maps.edge d)) (kinds d l)).3
       is in
-      ap (label_of polygon) (sym (go_on maps P d (ap not none))) ∙ label_rises maps (after_dart maps P) left polygon h d l is;
+      ap (label_of polygon) (sym (go_on maps P d (ap not none))) ∙ label_rises h d l is;
 }
   where
     P : ℕ → Bool
@@ -99,12 +98,12 @@ kind_labels maps tree cotree left polygon r kinds h d l = record {
     not_others a b c left_one = (λ e. refl, λ e. absurd (both_ways false refl e), λ e. absurd (both_ways false refl e), λ e. refl)
 
 -- along the tree's ring a dart keeps its label, and a side turns
-pub label_on_tree_ring : (maps : Rotations) (tree cotree left : ℕ → Bool) (polygon : PolygonView) → IsRotationSystem maps
+pub label_on_tree_ring : {maps : Rotations} (tree cotree : ℕ → Bool) {left : ℕ → Bool} {polygon : PolygonView} → IsRotationSystem maps
     → ((d : ℕ) → d < maps.darts → OneOfThree (tree (maps.edge d)) (cotree (maps.edge d)) (left (maps.edge d)))
     → IsLabelled maps (after_dart maps (λ e. not (cotree e))) left polygon → (d : ℕ) → d < maps.darts
     → (label_of polygon (after_dart maps tree d) ≡ label_of polygon d)
     ⊎ (label_of polygon (after_dart maps tree d) ≡ turned maps polygon (label_of polygon d))
-label_on_tree_ring maps tree cotree left polygon r kinds h d l =
+label_on_tree_ring {maps} tree cotree {left} {polygon} r kinds h d l =
     go (tree (maps.edge d)) (cotree (maps.edge d)) (left (maps.edge d)) (kinds d l) refl refl refl
   where
     twin : ℕ
@@ -114,10 +113,10 @@ label_on_tree_ring maps tree cotree left polygon r kinds h d l =
     twin_in = r.twin_within d l
 
     here : KindLabels maps tree cotree left polygon d
-    here = kind_labels maps tree cotree left polygon r kinds h d l
+    here = kind_labels tree cotree r kinds h d l
 
     there : KindLabels maps tree cotree left polygon twin
-    there = kind_labels maps tree cotree left polygon r kinds h twin twin_in
+    there = kind_labels tree cotree r kinds h twin twin_in
 
     go : (a b c : Bool) → OneOfThree a b c → tree (maps.edge d) ≡ a → cotree (maps.edge d) ≡ b → left (maps.edge d) ≡ c
         → (label_of polygon (after_dart maps tree d) ≡ label_of polygon d)
@@ -125,8 +124,7 @@ label_on_tree_ring maps tree cotree left polygon r kinds h d l =
     go a b c tree_one t q s = inl (ap (label_of polygon) (go_on maps tree d t) ∙ here.of_tree t)
     go a b c cotree_one t q s = inl (ap (label_of polygon) (turn maps tree d t) ∙ here.of_cotree q)
     go a b c left_one t q s =
-        let own : side_at polygon (label_of polygon d) ≡ d =
-        is_own_side maps (after_dart maps (λ e. not (cotree e))) left polygon h d l s in
+        let own : side_at polygon (label_of polygon d) ≡ d = is_own_side h d l s in
         let twin_left : left (maps.edge twin) ≡ true = ap left (sym (twin_edge maps r d l)) ∙ s in
         inr (
         ap (label_of polygon) (turn maps tree d t) ∙ there.of_left twin_left
@@ -134,11 +132,11 @@ label_on_tree_ring maps tree cotree left polygon r kinds h d l =
         )
 
 -- each number below the degree is reached by turning from 0
-pub turning_reaches_all : (maps : Rotations) (tree cotree left : ℕ → Bool) (polygon : PolygonView) → IsRotationSystem maps
+pub turning_reaches_all : {maps : Rotations} (tree cotree : ℕ → Bool) {left : ℕ → Bool} {polygon : PolygonView} → IsRotationSystem maps
     → ((d : ℕ) → d < maps.darts → OneOfThree (tree (maps.edge d)) (cotree (maps.edge d)) (left (maps.edge d)))
     → IsLabelled maps (after_dart maps (λ e. not (cotree e))) left polygon → HasOneRing maps tree
     → (j : ℕ) → j < polygon.degree → IsReached (turned maps polygon) 0 j
-turning_reaches_all maps tree cotree left polygon r kinds h ring j l =
+turning_reaches_all {maps} tree cotree {polygon} r kinds h ring j l =
     let some : 0 < polygon.degree = omega arith in
     let from : ℕ = side_at polygon 0 in
     let from_in : from < maps.darts = (h.side_is_left 0 some).0 in
@@ -163,7 +161,7 @@ turning_reaches_all maps tree cotree left polygon r kinds h ring j l =
     go zero x m = reached_refl (turned maps polygon) (label_of polygon x)
     go (suc k) x m =
         let before : IsReached (turned maps polygon) (label_of polygon x) (label_of polygon (after_steps f k x)) = go k x m in
-        elim (label_on_tree_ring maps tree cotree left polygon r kinds h (after_steps f k x) (within k x m)) [
+        elim (label_on_tree_ring tree cotree r kinds h (after_steps f k x) (within k x m)) [
           | inl stays ↦ subst (IsReached (turned maps polygon) (label_of polygon x)) (sym stays) before
           | inr turns ↦
               subst (IsReached (turned maps polygon) (label_of polygon x)) (sym turns)

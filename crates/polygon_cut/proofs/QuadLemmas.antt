@@ -5,14 +5,13 @@ use Rattle.polygon_cut.proofs.PolygonLemmas.{is_own_side}
 use Rattle.polygon_cut.proofs.PlaceLemmas.{Crosses, turning_permutes}
 
 -- for a leftover dart with the label a whose twin has the label c, the spoke c + 1 stands one place before a
-pub leftover_places : (maps : Rotations) (ring : ℕ → ℕ) (left : ℕ → Bool) (polygon : PolygonView) → IsRotationSystem maps
+pub leftover_places : {maps : Rotations} {ring : ℕ → ℕ} {left : ℕ → Bool} {polygon : PolygonView} → IsRotationSystem maps
     → IsLabelled maps ring left polygon
     → HasPlaces maps polygon → (d : ℕ) → d < maps.darts → left (maps.edge d) ≡ true
     → place_of polygon (one_up polygon.degree (label_of polygon (maps.twin d))) ≡ one_down polygon.degree
     (place_of polygon (label_of polygon d))
-leftover_places maps ring left polygon r h p d l is =
-    ap (λ (x : ℕ). place_of polygon (one_up polygon.degree (label_of polygon (maps.twin x))))
-    (sym (is_own_side maps ring left polygon h d l is))
+leftover_places {maps} {polygon} r h p d l is =
+    ap (λ (x : ℕ). place_of polygon (one_up polygon.degree (label_of polygon (maps.twin x)))) (sym (is_own_side h d l is))
     ∙ p.falls (label_of polygon d) (h.label_below d l)
 
 -- a number that turning leaves as it is is reached from no other
@@ -30,16 +29,16 @@ four x l = elim (cases_lt x 1) [
 ]
 
 -- of four sides the opposite ones lie across each other
-pub opposite_sides : (t : ℕ → ℕ) → Crosses 4 t → ((j : ℕ) → j < 4 → IsReached (λ i. one_up 4 (t i)) 0 j) → (i : ℕ) → i < 4
+pub opposite_sides : {t : ℕ → ℕ} → Crosses 4 t → ((j : ℕ) → j < 4 → IsReached (λ i. one_up 4 (t i)) 0 j) → (i : ℕ) → i < 4
     → one_up 4 (t i) ≡ one_down 4 i
-opposite_sides t c all i l = elim (four (t 0) (c.below 0 (omega arith))) [
+opposite_sides {t} c all i l = elim (four (t 0) (c.below 0 (omega arith))) [
   | inl zero_is ↦ absurd (c.other 0 (omega arith) zero_is)
   | inr rest ↦ elim rest [
     | inl one ↦
         let back : t 1 ≡ 0 = ap t (sym one) ∙ c.back 0 (omega arith) in
         let stays : f 1 ≡ 1 = ap (one_up 4) back in
         let r = all 1 (omega arith) in
-        let to_zero : IsReached f 1 0 = reached_back 4 f (turning_permutes 4 t c) 0 1 (omega arith) r in
+        let to_zero : IsReached f 1 0 = reached_back 4 f (turning_permutes c) 0 1 (omega arith) r in
         absurd (let e : 1 ≡ 0 = sym (never_left f 1 stays to_zero.steps) ∙ to_zero.leads in omega arith)
     | inr more ↦ elim more [
       | inr three ↦
@@ -101,10 +100,10 @@ down_up i l = elim (four i l) [
 ]
 
 -- for degree 4 the places rise by one with the spokes
-pub places_rise : (t place : ℕ → ℕ) → Crosses 4 t → ((j : ℕ) → j < 4 → IsReached (λ i. one_up 4 (t i)) 0 j)
+pub places_rise : {t : ℕ → ℕ} (place : ℕ → ℕ) → Crosses 4 t → ((j : ℕ) → j < 4 → IsReached (λ i. one_up 4 (t i)) 0 j)
     → ((i : ℕ) → i < 4 → place i < 4)
     → ((i : ℕ) → i < 4 → place (one_up 4 (t i)) ≡ one_down 4 (place i)) → (i : ℕ) → i < 4 → place (one_up 4 i) ≡ one_up 4 (place i)
-places_rise t place c all below falls i l =
+places_rise {t} place c all below falls i l =
     let next : ℕ = one_up 4 i in
     let next_in : next < 4 = elim (four i l) [
       | inl e ↦ subst (λ (x : ℕ). one_up 4 x < 4) (sym e) (omega arith)
@@ -116,6 +115,6 @@ places_rise t place c all below falls i l =
         ]
       ]
     ] in
-    let back : one_up 4 (t next) ≡ i = opposite_sides t c all next next_in ∙ up_down i l in
+    let back : one_up 4 (t next) ≡ i = opposite_sides c all next next_in ∙ up_down i l in
     let fall : place i ≡ one_down 4 (place next) = ap place (sym back) ∙ falls next next_in in
     sym (ap (one_up 4) fall ∙ down_up (place next) (below next next_in))

@@ -44,10 +44,10 @@ abbrev pub loop_in : {X : Type 0} → (X → X → X) → (X → X) → X → X 
 loop_in mul inv front loop x = mul front (mul loop (mul (inv front) x))
 
 -- the same loop, put in behind the same way
-pub in_same : {X : Type 0} (Same : X → X → Type 0) (mul : X → X → X) (inv : X → X) (one : X) → IsGroup Same mul inv one → (f h loop a b : X)
+pub in_same : {X : Type 0} {Same : X → X → Type 0} {mul : X → X → X} {inv : X → X} {one : X} → IsGroup Same mul inv one → (f h loop a b : X)
     → Same f h → Same a b
     → Same (loop_in mul inv f loop a) (loop_in mul inv h loop b)
-in_same Same mul inv one g f h loop a b fronts ends =
+in_same {Same} {mul} {inv} g f h loop a b fronts ends =
     let tails : Same (mul (inv f) a) (mul (inv h) b) = g.mul_same (inv f) (inv h) a b (g.inv_same f h fronts) ends in
     g.mul_same f h (mul loop (mul (inv f) a)) (mul loop (mul (inv h) b)) fronts
     (g.mul_same loop loop (mul (inv f) a) (mul (inv h) b) (g.itself loop) tails)
@@ -91,18 +91,15 @@ part_with_loop {X = X} Same mul inv one g spoke loop before front part other at_
     let cut : (path : List ℕ) → Same (spoke_product mul inv one spoke true (before ++ path))
     (mul p (spoke_product mul inv one spoke at_vertex path)) =
     λ path. subst (λ flag. Same (spoke_product mul inv one spoke true (before ++ path)) (mul p (spoke_product mul inv one spoke flag path)))
-    parity
-    (spokes_on Same mul inv one g spoke true before path) in
+    parity (spokes_on Same mul inv one g spoke true before path) in
     let inside : Same whole_b (mul p (loop_in mul inv f loop a)) =
     g.on whole_b (mul p b) (mul p (loop_in mul inv f loop a)) (cut other) (g.mul_same p p b (loop_in mul inv f loop a) (g.itself p) h) in
     let elements : List X = p ∷ f ∷ loop ∷ a ∷ [] in
-    let outside : Same (mul p (loop_in mul inv f loop a)) (loop_in mul inv (mul p f) loop (mul p a)) =
-    by_words Same mul inv one g elements
+    let outside : Same (mul p (loop_in mul inv f loop a)) (loop_in mul inv (mul p f) loop (mul p a)) = by_words Same mul inv one g elements
     (Mul (Var 0) (Mul (Var 1) (Mul (Var 2) (Mul (Inv (Var 1)) (Var 3)))))
     (Mul (Mul (Var 0) (Var 1)) (Mul (Var 2) (Mul (Inv (Mul (Var 0) (Var 1))) (Mul (Var 0) (Var 3))))) refl in
     let joined : Same (loop_in mul inv (mul p f) loop (mul p a)) (loop_in mul inv whole_f loop whole_a) =
-    in_same Same mul inv one g (mul p f) whole_f loop (mul p a) whole_a (g.turn whole_f (mul p f) (cut front))
-    (g.turn whole_a (mul p a) (cut part)) in
+    in_same g (mul p f) whole_f loop (mul p a) whole_a (g.turn whole_f (mul p f) (cut front)) (g.turn whole_a (mul p a) (cut part)) in
     g.on whole_b (mul p (loop_in mul inv f loop a)) (loop_in mul inv whole_f loop whole_a) inside
     (g.on (mul p (loop_in mul inv f loop a)) (loop_in mul inv (mul p f) loop (mul p a)) (loop_in mul inv whole_f loop whole_a) outside
     joined)

@@ -5,9 +5,9 @@ use Rattle.polygon_cut.specs.StoredPolygons.{IsWalked}
 use Rattle.polygon_cut.proofs.RoundLemmas.{GoesRound}
 use Rattle.polygon_cut.proofs.WalkedLemmas.{walked_left, walked_other}
 
-pub ring_goes_round : (s : OrientedMesh) (split : SplitView) (last : ℕ) → IsOrientedSurface s → HasTrees s split → last < darts_of s
+pub ring_goes_round : {s : OrientedMesh} {split : SplitView} (last : ℕ) → IsOrientedSurface s → HasTrees s split → last < darts_of s
     → GoesRound (darts_of s) (outer_ring s split) (outer_ring s split last)
-ring_goes_round s split last o t l =
+ring_goes_round {s} {split} last o t l =
     let p : IsPermutationBelow (darts_of s) (outer_ring s split) =
     after_permutes (rotations_of s) (rotation_system s o) (λ e. not (in_cotree split e)) in
     record {
@@ -22,16 +22,17 @@ pub record IsWalking (s : OrientedMesh) (split : SplitView) (last steps : ℕ) (
     pub at : dart ≡ after_steps (outer_ring s split) steps (outer_ring s split last)
     pub walked : IsWalked (rotations_of s) (outer_ring s split) (is_left split) (outer_ring s split last) steps (dart_numbers sides) labels
 
-pub walking_within : (s : OrientedMesh) (split : SplitView) (last steps : ℕ) (sides : List DartName) (labels : List ℕ) (dart : ℕ)
+pub walking_within : {s : OrientedMesh} {split : SplitView} {last steps : ℕ} {sides : List DartName} {labels : List ℕ} {dart : ℕ}
     → IsOrientedSurface s → HasTrees s split → last < darts_of s → IsWalking s split last steps sides labels dart → dart < darts_of s
-walking_within s split last steps sides labels dart o t l h =
-    let g = ring_goes_round s split last o t l in
+walking_within {s} {split} {last} {steps} o t l h =
+    let g = ring_goes_round last o t l in
     subst (λ (d : ℕ). d < darts_of s) (sym h.at)
     (steps_within (darts_of s) (outer_ring s split) g.permutes steps (outer_ring s split last) g.start)
 
-moved : (maps : Rotations) (ring : ℕ → ℕ) (left : ℕ → Bool) (start j k : ℕ) (sides new labels new_labels : List ℕ) → j ≡ k → sides ≡ new
+moved : {maps : Rotations} {ring : ℕ → ℕ} {left : ℕ → Bool} {start j : ℕ} (k : ℕ) {sides : List ℕ} (new : List ℕ) {labels : List ℕ}
+    (new_labels : List ℕ) → j ≡ k → sides ≡ new
     → labels ≡ new_labels → IsWalked maps ring left start j sides labels → IsWalked maps ring left start k new new_labels
-moved maps ring left start j k sides new labels new_labels one listed written h =
+moved {maps} {ring} {left} {start} k {sides} new {labels} new_labels one listed written h =
     subst (λ (xs : List ℕ). IsWalked maps ring left start k new xs) written
     (subst (λ (xs : List ℕ). IsWalked maps ring left start k xs labels) listed
     (subst (λ (m : ℕ). IsWalked maps ring left start m sides labels) one h))
@@ -42,49 +43,46 @@ written sides labels new_labels dart here at is =
     ap (set labels here) (length-map sides (λ (d : DartName). d.0)) ∙ ap (λ (d : ℕ). set labels d (length sides)) (sym at) ∙ sym is
 
 -- one dart more, which is leftover, or is not
-pub walking_left : (s : OrientedMesh) (split : SplitView) (last steps : ℕ) (sides new : List DartName) (labels new_labels : List ℕ)
+pub walking_left : {s : OrientedMesh} {split : SplitView} {last steps : ℕ} {sides : List DartName} (new : List DartName) {labels : List ℕ}
+    (new_labels : List ℕ)
     (dart : DartName) (next : ℕ) → IsOrientedSurface s → HasTrees s split → last < darts_of s → steps < darts_of s
     → IsWalking s split last steps sides labels dart.0 → is_left split (edge_of s dart.0) ≡ true → new ≡ sides ++ dart ∷ []
     → new_labels ≡ set labels dart.0 (length sides) → next ≡ outer_ring s split dart.0
     → IsWalking s split last (steps + 1) new new_labels next
-walking_left s split last steps sides new labels new_labels dart next o t l b h is new_is labels_is next_is =
+walking_left {s} {split} {last} {steps} {sides} new {labels} new_labels dart next o t l b h is new_is labels_is next_is =
     let maps : Rotations = rotations_of s in
     let ring : ℕ → ℕ = outer_ring s split in
     let start : ℕ = ring last in
     let here : is_left split (maps.edge (after_steps ring steps start)) ≡ true = ap (λ (d : ℕ). is_left split (edge_of s d)) (sym h.at)
     ∙ is in
-    let more = walked_left maps ring (is_left split) start steps (dart_numbers sides) labels (ring_goes_round s split last o t l) b here
-    h.walked in
+    let more = walked_left (ring_goes_round last o t l) b here h.walked in
     let one : suc steps ≡ steps + 1 = omega arith in
     let listed : dart_numbers sides ++ after_steps ring steps start ∷ [] ≡ dart_numbers new =
     ap (λ (d : ℕ). dart_numbers sides ++ d ∷ []) (sym h.at) ∙ sym (map-append (λ (d : DartName). d.0) sides (dart ∷ []))
     ∙ ap dart_numbers (sym new_is) in
     record {
       at = next_is ∙ ap ring h.at ∙ ap (λ (m : ℕ). after_steps ring m start) one;
-      walked = moved maps ring (is_left split) start (suc steps) (steps + 1) (dart_numbers sides ++ after_steps ring steps start ∷ [])
-          (dart_numbers new)
-          (set labels (after_steps ring steps start) (length (dart_numbers sides))) new_labels one listed
+      walked = moved (steps + 1) (dart_numbers new) new_labels one listed
           (written sides labels new_labels dart.0 (after_steps ring steps start) h.at labels_is) more;
     }
 
-pub walking_other : (s : OrientedMesh) (split : SplitView) (last steps : ℕ) (sides new : List DartName) (labels new_labels : List ℕ)
+pub walking_other : {s : OrientedMesh} {split : SplitView} {last steps : ℕ} {sides : List DartName} (new : List DartName) {labels : List ℕ}
+    (new_labels : List ℕ)
     (dart : DartName) (next : ℕ) → IsOrientedSurface s → HasTrees s split → last < darts_of s → steps < darts_of s
     → IsWalking s split last steps sides labels dart.0 → is_left split (edge_of s dart.0) ≡ false → new ≡ sides
     → new_labels ≡ set labels dart.0 (length sides) → next ≡ outer_ring s split dart.0
     → IsWalking s split last (steps + 1) new new_labels next
-walking_other s split last steps sides new labels new_labels dart next o t l b h none new_is labels_is next_is =
+walking_other {s} {split} {last} {steps} {sides} new {labels} new_labels dart next o t l b h none new_is labels_is next_is =
     let maps : Rotations = rotations_of s in
     let ring : ℕ → ℕ = outer_ring s split in
     let start : ℕ = ring last in
     let here : is_left split (maps.edge (after_steps ring steps start)) ≡ false = ap (λ (d : ℕ). is_left split (edge_of s d)) (sym h.at)
     ∙ none in
-    let more = walked_other maps ring (is_left split) start steps (dart_numbers sides) labels (ring_goes_round s split last o t l) b here
-    h.walked in
+    let more = walked_other (ring_goes_round last o t l) b here h.walked in
     let one : suc steps ≡ steps + 1 = omega arith in
     record {
       at = next_is ∙ ap ring h.at ∙ ap (λ (m : ℕ). after_steps ring m start) one;
-      walked = moved maps ring (is_left split) start (suc steps) (steps + 1) (dart_numbers sides) (dart_numbers new)
-          (set labels (after_steps ring steps start) (length (dart_numbers sides))) new_labels one (ap dart_numbers (sym new_is))
+      walked = moved (steps + 1) (dart_numbers new) new_labels one (ap dart_numbers (sym new_is))
           (written sides labels new_labels dart.0 (after_steps ring steps start) h.at labels_is) more;
     }
 

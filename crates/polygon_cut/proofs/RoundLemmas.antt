@@ -2,9 +2,9 @@
 use Rattle.polygon_cut.proofs.Common.{IsPermutationBelow, AreAlike, two_alike, Returns, returns_to, step_first, steps_add, steps_within, after_steps, IsReached, ◌≡◌, ◌≢◌, ◌⊎◌, inl, inr, ℕ, zero, suc, ◌+◌, ◌-◌, ◌<◌, ◌≤◌, ap, sym, ◌∙◌, arith, cases_eq, cases_lt, reached_soon}
 
 -- where all numbers are reached from x, it takes as many steps to come back as there are numbers
-pub whole_round : (degree : ℕ) (f : ℕ → ℕ) → IsPermutationBelow degree f → (x : ℕ) → ((j : ℕ) → j < degree → IsReached f x j)
+pub whole_round : {degree : ℕ} {f : ℕ → ℕ} → IsPermutationBelow degree f → (x : ℕ) → ((j : ℕ) → j < degree → IsReached f x j)
     → (n : ℕ) → n < degree → after_steps f n (f x) ≡ x → suc n ≡ degree
-whole_round degree f p x all n few back = elim (cases_eq (suc n) degree) [
+whole_round {degree} {f} p x all n few back = elim (cases_eq (suc n) degree) [
   | inl same ↦ same
   | inr less ↦ absurd (clash (two_alike (degree - 1) place (λ i l. placed_below less i (omega arith))))
 ]
@@ -56,33 +56,31 @@ pub record GoesRound (n : ℕ) (f : ℕ → ℕ) (x : ℕ) : Type 0 where
   pub start : x < n
   pub all : (j : ℕ) → j < n → IsReached f x j
 
-pub round_home : (n : ℕ) (f : ℕ → ℕ) (x : ℕ) → GoesRound n f x → after_steps f n x ≡ x
-round_home n f x h =
+pub round_home : {n : ℕ} {f : ℕ → ℕ} {x : ℕ} → GoesRound n f x → after_steps f n x ≡ x
+round_home {n} {f} {x} h =
     let r : Returns n f x = returns_to n f h.permutes x h.start in
-    let period : suc r.less ≡ n = whole_round n f h.permutes x h.all r.less r.few r.back in
+    let period : suc r.less ≡ n = whole_round h.permutes x h.all r.less r.few r.back in
     ap (λ (m : ℕ). after_steps f m x) (sym period) ∙ sym (step_first f r.less x) ∙ r.back
 
 -- equal places, traced back to the start
-traced_back : (n : ℕ) (f : ℕ → ℕ) (x : ℕ) → GoesRound n f x → (k d : ℕ) → after_steps f k x ≡ after_steps f (k + d) x
+traced_back : {n : ℕ} {f : ℕ → ℕ} {x : ℕ} → GoesRound n f x → (k d : ℕ) → after_steps f k x ≡ after_steps f (k + d) x
     → x ≡ after_steps f d x
-traced_back n f x h zero d e = e ∙ ap (λ (m : ℕ). after_steps f m x) (let s : 0 + d ≡ d = omega arith in s)
-traced_back n f x h (suc k) d e =
+traced_back {f} {x} h zero d e = e ∙ ap (λ (m : ℕ). after_steps f m x) (let s : 0 + d ≡ d = omega arith in s)
+traced_back {n} {f} {x} h (suc k) d e =
     let within : (m : ℕ) → after_steps f m x < n = λ m. steps_within n f h.permutes m x h.start in
-    traced_back n f x h k d
-    (h.permutes.injective (after_steps f k x) (after_steps f (k + d) x) (within k) (within (k + d))
+    traced_back h k d (h.permutes.injective (after_steps f k x) (after_steps f (k + d) x) (within k) (within (k + d))
     (e ∙ ap (λ (m : ℕ). after_steps f m x) (let s : suc k + d ≡ suc (k + d) = omega arith in s)))
 
-pub round_apart : (n : ℕ) (f : ℕ → ℕ) (x : ℕ) → GoesRound n f x → (k m : ℕ) → k < m → m < n → after_steps f k x ≡ after_steps f m x → ⊥
-round_apart n f x h k m l b e =
+pub round_apart : {n : ℕ} {f : ℕ → ℕ} {x : ℕ} → GoesRound n f x → (k m : ℕ) → k < m → m < n → after_steps f k x ≡ after_steps f m x → ⊥
+round_apart {n} {f} {x} h k m l b e =
     let sum : m ≡ k + (m - k) = omega (arith, l) in
-    let home : x ≡ after_steps f (m - k) x = traced_back n f x h k (m - k) (e ∙ ap (λ (i : ℕ). after_steps f i x) sum) in
+    let home : x ≡ after_steps f (m - k) x = traced_back h k (m - k) (e ∙ ap (λ (i : ℕ). after_steps f i x) sum) in
     let one : suc (m - k - 1) ≡ m - k = omega (arith, l) in
-    let back : after_steps f (m - k - 1) (f x) ≡ x =
-    step_first f (m - k - 1) x ∙ ap (λ (i : ℕ). after_steps f i x) one ∙ sym home in
-    let period : suc (m - k - 1) ≡ n = whole_round n f h.permutes x h.all (m - k - 1) (omega (arith, l, b)) back in
+    let back : after_steps f (m - k - 1) (f x) ≡ x = step_first f (m - k - 1) x ∙ ap (λ (i : ℕ). after_steps f i x) one ∙ sym home in
+    let period : suc (m - k - 1) ≡ n = whole_round h.permutes x h.all (m - k - 1) (omega (arith, l, b)) back in
     omega (arith, period, one, l, b)
 
-pub round_reaches : (n : ℕ) (f : ℕ → ℕ) (x : ℕ) → GoesRound n f x → (y : ℕ) → y < n → (k : ℕ) × (k < n) × (after_steps f k x ≡ y)
-round_reaches n f x h y l =
+pub round_reaches : {n : ℕ} {f : ℕ → ℕ} {x : ℕ} → GoesRound n f x → (y : ℕ) → y < n → (k : ℕ) × (k < n) × (after_steps f k x ≡ y)
+round_reaches {n} {f} {x} h y l =
     let r = h.all y l in
     reached_soon n f h.permutes x h.start (suc r.steps) r.steps y (omega arith) r.leads

@@ -16,56 +16,55 @@ abbrev pub group_of : (s : OrientedMesh) (split : SplitView) (t : IsSplit s spli
 group_of s split t = loops_make_a_group s.mesh t.parents.root t.parents.root_used
 
 -- the value of a dart is its loop
-pub value_is : (s : OrientedMesh) (split : SplitView) (o : IsOrientedSurface s) (t : IsSplit s split) (d : ℕ) → d < darts_of s
+pub value_is : {s : OrientedMesh} {split : SplitView} (o : IsOrientedSurface s) (t : IsSplit s split) (d : ℕ) → d < darts_of s
     → (way : IsWay s.mesh (origin_of s d) (origin_of s (twin_of s d)) (origin_of s (twin_of s d) ∷ []))
     → SameLoop (value s split o t d)
-    (loop_of s.mesh t.parents.root (up s split t) (tree_ways s split o t) (origin_of s d) (origin_of s (twin_of s d))
+    (loop_of s.mesh t.parents.root (up s split t) (tree_ways o t) (origin_of s d) (origin_of s (twin_of s d))
     (origin_of s (twin_of s d) ∷ []) way)
-value_is s split o t d l way =
+value_is {s} {split} o t d l way =
     value_along (homotopy s.mesh) split o t (origin_of s d) (origin_of s (twin_of s d)) d
     (record { within = l; starts = refl; ends = refl }) way
 
 -- twins have inverse values
-pub value_twin : (s : OrientedMesh) (split : SplitView) (o : IsOrientedSurface s) (t : IsSplit s split) (d : ℕ) → d < darts_of s
+pub value_twin : {s : OrientedMesh} {split : SplitView} (o : IsOrientedSurface s) (t : IsSplit s split) (d : ℕ) → d < darts_of s
     → SameLoop (value s split o t (twin_of s d)) (loop_inv (value s split o t d))
-value_twin s split o t d l = value_of_twin (homotopy s.mesh) split o t d l
+value_twin {s} {split} o t d l = value_of_twin (homotopy s.mesh) split o t d l
 
 -- round a whole face the values make nothing
-pub face_rounds : (s : OrientedMesh) (split : SplitView) (o : IsOrientedSurface s) (t : IsSplit s split) (d : ℕ) → d < darts_of s
+pub face_rounds : {s : OrientedMesh} {split : SplitView} (o : IsOrientedSurface s) (t : IsSplit s split) (d : ℕ) → d < darts_of s
     → WholeRound SameLoop loop_mul (one_of s split t) (value s split o t) (next_of s) d
-face_rounds s split o t d l =
+face_rounds {s} {split} o t d l =
     let g = group_of s split t in
-    let ways : HasWays s.mesh t.parents.root (up s split t) = tree_ways s split o t in
+    let ways : HasWays s.mesh t.parents.root (up s split t) = tree_ways o t in
     let u : ℕ = origin_of s d in
     let m : ℕ = length (face_at s.mesh (face_of s d)) in
     let polygon : 3 ≤ m = (o.faces.faces (face_of s d) [] ((names_all s o).face_below d l)).polygon in
     let count : suc (m - 1) ≡ m = omega arith in
-    let whole : after_steps (next_of s) m d ≡ d = comes_round s o d l in
+    let whole : after_steps (next_of s) m d ≡ d = comes_round o d l in
     let way : IsWay s.mesh u u (vertices_on s m d) =
-    subst (λ x. IsWay s.mesh u (origin_of s x) (vertices_on s m d)) whole (ends_on s o m d l) in
+    subst (λ x. IsWay s.mesh u (origin_of s x) (vertices_on s m d)) whole (ends_on o m d l) in
     let stay : IsWay s.mesh u u [] = (refl, (names_all s o).vertex_used d l) in
     let still : Loops s split t = loop_of s.mesh t.parents.root (up s split t) ways u u [] stay in
     let around : Loops s split t = loop_of s.mesh t.parents.root (up s split t) ways u u (vertices_on s m d) way in
     let all : Loops s split t = round loop_mul (one_of s split t) (value s split o t) (next_of s) m d in
-    let contracts : SameLoop still around = to_loops (homotopy s.mesh) ways u u [] (vertices_on s m d) stay way (boundary s o d l) in
+    let contracts : SameLoop still around = to_loops (homotopy s.mesh) ways u u [] (vertices_on s m d) stay way (boundary o d l) in
     record {
       less = m - 1;
       closes = step_first (next_of s) (m - 1) d ∙ ap (λ k. after_steps (next_of s) k d) count ∙ whole;
-      first = λ k few same. not_before s o d (suc k) l (omega arith) (omega arith) (sym (step_first (next_of s) k d) ∙ same);
+      first = λ k few same. not_before o d (suc k) l (omega arith) (omega arith) (sym (step_first (next_of s) k d) ∙ same);
       is_one =
           subst (λ k. SameLoop (round loop_mul (one_of s split t) (value s split o t) (next_of s) k d) (one_of s split t)) (sym count)
           (g.on all around (one_of s split t) (g.turn around all (round_is (homotopy s.mesh) split o t m d l u way))
-          (g.on around still (one_of s split t) (g.turn still around contracts)
-          (no_dart s.mesh t.parents.root (up s split t) ways u u stay)));
+          (g.on around still (one_of s split t) (g.turn still around contracts) (no_dart ways u u stay)));
     }
 
-surface_valued : (s : OrientedMesh) (split : SplitView) (o : IsOrientedSurface s) (t : IsSplit s split) (polygon : PolygonView)
+surface_valued : {s : OrientedMesh} {split : SplitView} (o : IsOrientedSurface s) (t : IsSplit s split) {polygon : PolygonView}
     → IsCutFrom s split polygon → 0 < polygon.degree
     → Valued SameLoop loop_mul loop_inv (one_of s split t) s split (value s split o t) (spoke s split o t polygon) (label_of polygon)
     (side_at polygon (polygon.degree - 1))
-surface_valued s split o t polygon c some = record {
-  twins = value_twin s split o t;
-  faces = face_rounds s split o t;
+surface_valued {s} {split} o t {polygon} c some = record {
+  twins = value_twin o t;
+  faces = face_rounds o t;
   of_tree = λ d l. (labels_ride s split polygon d o t c some l).of_tree;
   of_cotree = λ d l. (labels_ride s split polygon d o t c some l).of_cotree;
   tree_one = value_of_tree (homotopy s.mesh) split o t;
@@ -74,10 +73,8 @@ surface_valued s split o t polygon c some = record {
 }
 
 -- Each dart of a surface is homotopic to two spokes, those of the labels at its tail and at its head.
-pub dart_is_two_spokes : (s : OrientedMesh) (split : SplitView) (o : IsOrientedSurface s) (t : IsSplit s split) (polygon : PolygonView)
+pub dart_is_two_spokes : {s : OrientedMesh} {split : SplitView} (o : IsOrientedSurface s) (t : IsSplit s split) {polygon : PolygonView}
     → IsCutFrom s split polygon → 0 < polygon.degree → (d : ℕ) → d < darts_of s
     → SameLoop (value s split o t d) (by_labels loop_mul loop_inv (spoke s split o t polygon) (label_of polygon) (next_of s) d)
-dart_is_two_spokes s split o t polygon c some d l =
-    all_values SameLoop loop_mul loop_inv (one_of s split t) (group_of s split t) s split (value s split o t) (spoke s split o t polygon)
-    (label_of polygon) (side_at polygon (polygon.degree - 1)) o t (surface_valued s split o t polygon c some) (names_all s o).edge_below
-    (names_all s o).face_below d l
+dart_is_two_spokes {s} {split} o t c some d l =
+    all_values (group_of s split t) o t (surface_valued o t c some) (names_all s o).edge_below (names_all s o).face_below d l

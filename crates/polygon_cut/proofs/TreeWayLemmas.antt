@@ -3,57 +3,57 @@ use Rattle.polygon_cut.proofs.Common.{edge_of_dart, rotation_system, names_all, 
 use Rattle.std.proofs.Math.Bool.{or-false}
 use Rattle.polygon_cut.proofs.WayLemmas.{IsWay, HasWays}
 
-pub one_path : (s : OrientedMesh) (split : SplitView) → IsOrientedSurface s → (t : IsSplit s split) → (v : ℕ) (path other : List ℕ)
+pub one_path : {s : OrientedMesh} {split : SplitView} → IsOrientedSurface s → (t : IsSplit s split) → (v : ℕ) (path other : List ℕ)
     → IsPath (StepsToParent (rotations_of s) split) v path t.parents.root
     → IsPath (StepsToParent (rotations_of s) split) v other t.parents.root → path ≡ other
-one_path s split o t = single_path (StepsToParent (rotations_of s) split) t.parents.root (parents_upward s split o t)
+one_path {s} {split} o t = single_path (StepsToParent (rotations_of s) split) t.parents.root (parents_upward s split o t)
 
 -- the way up, for used vertices
-pub pick : (s : OrientedMesh) (split : SplitView) (t : IsSplit s split) (v : ℕ) → (is_used s.mesh v ≡ true) ⊎ (is_used s.mesh v ≡ false)
+pub pick : {s : OrientedMesh} {split : SplitView} (t : IsSplit s split) (v : ℕ) → (is_used s.mesh v ≡ true) ⊎ (is_used s.mesh v ≡ false)
     → List ℕ
-pick s split t v (inl used) = (t.parents.to_root v used).0
-pick s split t v (inr _) = []
+pick t v (inl used) = (t.parents.to_root v used).0
+pick t v (inr _) = []
 
 abbrev pub up : (s : OrientedMesh) (split : SplitView) → IsSplit s split → ℕ → List ℕ
-up s split t v = pick s split t v (cases_Bool (is_used s.mesh v))
+up s split t v = pick t v (cases_Bool (is_used s.mesh v))
 
-pub up_path : (s : OrientedMesh) (split : SplitView) (t : IsSplit s split) (v : ℕ) → is_used s.mesh v ≡ true
+pub up_path : {s : OrientedMesh} {split : SplitView} (t : IsSplit s split) (v : ℕ) → is_used s.mesh v ≡ true
     → IsPath (StepsToParent (rotations_of s) split) v (up s split t v) t.parents.root
 unfolding pick
-up_path s split t v used = go (cases_Bool (is_used s.mesh v))
+up_path {s} {split} t v used = go (cases_Bool (is_used s.mesh v))
   where
     go : (c : (is_used s.mesh v ≡ true) ⊎ (is_used s.mesh v ≡ false))
-        → IsPath (StepsToParent (rotations_of s) split) v (pick s split t v c) t.parents.root
+        → IsPath (StepsToParent (rotations_of s) split) v (pick t v c) t.parents.root
     go (inl u) = (t.parents.to_root v u).1
     go (inr off) = absurd (both_ways (is_used s.mesh v) off used)
 
-parent_edge : (s : OrientedMesh) (split : SplitView) → IsOrientedSurface s → (t : IsSplit s split) → (v w : ℕ)
+parent_edge : {s : OrientedMesh} {split : SplitView} → IsOrientedSurface s → (t : IsSplit s split) → (v w : ℕ)
     → StepsToParent (rotations_of s) split v w → IsTrue (is_edge s.mesh v w)
-parent_edge s split o t v w p =
+parent_edge {s} o t v w p =
     edge_of_dart s o v w p.0 (record {
       within = t.parents.within v p.0 p.1.is_parent;
       starts = t.parents.starts v p.0 p.1.is_parent;
       ends = p.1.ends;
     })
 
-path_way : (s : OrientedMesh) (split : SplitView) → IsOrientedSurface s → (t : IsSplit s split) → (v : ℕ) (path : List ℕ)
+path_way : {s : OrientedMesh} {split : SplitView} → IsOrientedSurface s → (t : IsSplit s split) → (v : ℕ) (path : List ℕ)
     → IsPath (StepsToParent (rotations_of s) split) v path t.parents.root → IsWay s.mesh v t.parents.root path
-path_way s split o t v [] p = (p, subst (λ x. IsTrue (is_used s.mesh x)) (sym p) t.parents.root_used)
-path_way s split o t v (w ∷ path) p = (parent_edge s split o t v w p.0, path_way s split o t w path p.1)
+path_way {s} o t v [] p = (p, subst (λ x. IsTrue (is_used s.mesh x)) (sym p) t.parents.root_used)
+path_way o t v (w ∷ path) p = (parent_edge o t v w p.0, path_way o t w path p.1)
 
-pub tree_ways : (s : OrientedMesh) (split : SplitView) → IsOrientedSurface s → (t : IsSplit s split)
+pub tree_ways : {s : OrientedMesh} {split : SplitView} → IsOrientedSurface s → (t : IsSplit s split)
     → HasWays s.mesh t.parents.root (up s split t)
-tree_ways s split o t = record {
+tree_ways {s} {split} o t = record {
   root_used = t.parents.root_used;
-  way = λ v used. path_way s split o t v (up s split t v) (up_path s split t v used);
+  way = λ v used. path_way o t v (up s split t v) (up_path t v used);
 }
 
 -- from a vertex with a parent the way up begins with that parent
-pub up_step : (s : OrientedMesh) (split : SplitView) → IsOrientedSurface s → (t : IsSplit s split) → (v w : ℕ) → is_used s.mesh v ≡ true
+pub up_step : {s : OrientedMesh} {split : SplitView} → IsOrientedSurface s → (t : IsSplit s split) → (v w : ℕ) → is_used s.mesh v ≡ true
     → is_used s.mesh w ≡ true
     → StepsToParent (rotations_of s) split v w → up s split t v ≡ w ∷ up s split t w
-up_step s split o t v w v_used w_used p =
-    one_path s split o t v (up s split t v) (w ∷ up s split t w) (up_path s split t v v_used) (p, up_path s split t w w_used)
+up_step {s} {split} o t v w v_used w_used p =
+    one_path o t v (up s split t v) (w ∷ up s split t w) (up_path t v v_used) (p, up_path t w w_used)
 
 -- The edges of the parent darts are as many as the used vertices but one.
 
@@ -142,15 +142,15 @@ parent_step : (s : OrientedMesh) (split : SplitView) (v d : ℕ) → parent_dart
     → StepsToParent (rotations_of s) split v ((rotations_of s).origin ((rotations_of s).twin d))
 parent_step s split v d is = (d, record { is_parent = is; ends = refl })
 
-used_at : (s : OrientedMesh) (split : SplitView) → IsOrientedSurface s → (t : IsSplit s split) → (v d : ℕ) → parent_dart split v ≡ Some d
+used_at : {s : OrientedMesh} {split : SplitView} → IsOrientedSurface s → (t : IsSplit s split) → (v d : ℕ) → parent_dart split v ≡ Some d
     → is_used s.mesh v ≡ true
-used_at s split o t v d is =
+used_at {s} o t v d is =
     subst (λ x. is_used s.mesh x ≡ true) (t.parents.starts v d is) ((names_all s o).vertex_used d (t.parents.within v d is))
 
 -- no two vertices have darts to parents along one edge
-up_once : (s : OrientedMesh) (split : SplitView) → IsOrientedSurface s → (t : IsSplit s split) → (v w e : ℕ) → edge_up s split v ≡ Some e
+up_once : {s : OrientedMesh} {split : SplitView} → IsOrientedSurface s → (t : IsSplit s split) → (v w e : ℕ) → edge_up s split v ≡ Some e
     → edge_up s split w ≡ Some e → v ≡ w
-up_once s split o t v w e p q =
+up_once {s} {split} o t v w e p q =
     let maps : Rotations = rotations_of s in
     let r : IsRotationSystem maps = rotation_system s o in
     let a = edge_up_is s split v e p in
@@ -163,22 +163,22 @@ up_once s split o t v w e p q =
           let w_is : maps.origin (maps.twin a.0) ≡ w = ap maps.origin (sym turned) ∙ t.parents.starts w b.0 b.1 in
           let v_is : maps.origin (maps.twin b.0) ≡ v = ap (λ x. maps.origin (maps.twin x)) turned ∙ ap maps.origin (r.twin_back a.0 a_in)
           ∙ t.parents.starts v a.0 a.1 in
-          let v_used : is_used s.mesh v ≡ true = used_at s split o t v a.0 a.1 in
-          let w_used : is_used s.mesh w ≡ true = used_at s split o t w b.0 b.1 in
+          let v_used : is_used s.mesh v ≡ true = used_at o t v a.0 a.1 in
+          let w_used : is_used s.mesh w ≡ true = used_at o t w b.0 b.1 in
           let to_w : StepsToParent maps split v w = (a.0, record { is_parent = a.1; ends = w_is }) in
           let to_v : StepsToParent maps split w v = (b.0, record { is_parent = b.1; ends = v_is }) in
-          let first : up s split t v ≡ w ∷ up s split t w = up_step s split o t v w v_used w_used to_w in
-          let second : up s split t w ≡ v ∷ up s split t v = up_step s split o t w v w_used v_used to_v in
+          let first : up s split t v ≡ w ∷ up s split t w = up_step o t v w v_used w_used to_w in
+          let second : up s split t w ≡ v ∷ up s split t v = up_step o t w v w_used v_used to_v in
           let long : length (up s split t v) ≡ length (w ∷ v ∷ up s split t v) =
           ap (λ (l : List ℕ). length l) (first ∙ ap (λ (l : List ℕ). w ∷ l) second) in
           absurd (omega (arith, long))
     ]
 
 -- the vertices with a parent are the used ones but the root
-has_parent : (s : OrientedMesh) (split : SplitView) → IsOrientedSurface s → (t : IsSplit s split)
+has_parent : {s : OrientedMesh} {split : SplitView} → IsOrientedSurface s → (t : IsSplit s split)
     → count_below (λ v. is_some (edge_up s split v)) s.mesh.count + 1 ≡ count_below (is_used s.mesh) s.mesh.count
 unfolding is_some edge_up
-has_parent s split o t =
+has_parent {s} {split} o t =
     let less : count_below (is_used s.mesh) s.mesh.count ≡ suc (count_below (λ v. is_some (edge_up s split v)) s.mesh.count) =
     count_less (is_used s.mesh) (λ v. is_some (edge_up s split v)) s.mesh.count t.parents.root (root_below s split o t) t.parents.root_used
     at_root others in
@@ -195,41 +195,37 @@ has_parent s split o t =
         by None is =
             let off : is_used s.mesh v ≡ false = elim ((t.parents.none v l).0 is) [ inl root ↦ absurd (ne root) | inr unused ↦ unused ] in
             off ∙ sym (rw is refl)
-        by (Some d) is = used_at s split o t v d is ∙ sym (rw is refl)
+        by (Some d) is = used_at o t v d is ∙ sym (rw is refl)
 
 -- each tree edge is that of a dart to a parent
-pub tree_edge : (s : OrientedMesh) (split : SplitView) → IsOrientedSurface s → (t : IsSplit s split) → (e : ℕ) → e < length s.table
+pub tree_edge : {s : OrientedMesh} {split : SplitView} → IsOrientedSurface s → (t : IsSplit s split) → (e : ℕ) → e < length s.table
     → in_tree split e ≡ true
     → (v : ℕ) × (d : ℕ) × (parent_dart split v ≡ Some d) × ((rotations_of s).edge d ≡ e)
-tree_edge s split o t e l is =
+tree_edge {s} {split} o t e l is =
     let image : ℕ → Bool = λ x. any_below (λ v. hits (edge_up s split v) x) s.mesh.count in
     let size : count_below image (length s.table) ≡ count_below (λ v. is_some (edge_up s split v)) s.mesh.count =
-    image_count (edge_up s split) (length s.table)
-    (λ v x p. (let a = edge_up_is s split v x p in subst (λ y. y < length s.table) a.2
-    ((names_all s o).edge_below a.0 (t.parents.within v a.0 a.1))))
-    s.mesh.count (λ v w x _ _ p q. up_once s split o t v w x p q) in
-    let same : image e ≡ in_tree split e =
-    same_from_count image (in_tree split) (length s.table)
-    (λ x _ hit.
+    image_count (edge_up s split) (length s.table) (λ v x p. (let a = edge_up_is s split v x p in subst (λ y. y < length s.table) a.2
+    ((names_all s o).edge_below a.0 (t.parents.within v a.0 a.1)))) s.mesh.count (λ v w x _ _ p q. up_once o t v w x p q) in
+    let same : image e ≡ in_tree split e = same_from_count image (in_tree split) (length s.table) (λ x _ hit.
     let found = found_below (λ v. hits (edge_up s split v) x) s.mesh.count hit in
     let a = edge_up_is s split found.0 x (hit_is (edge_up s split found.0) x found.2) in
     subst (λ y. in_tree split y ≡ true) a.2 (t.parents.tree_dart found.0 a.0 a.1))
-    (omega (arith, size, has_parent s split o t, t.trees.tree.count)) e l in
+    (omega (arith, size, has_parent o t, t.trees.tree.count)) e l in
     let found = found_below (λ v. hits (edge_up s split v) e) s.mesh.count (same ∙ is) in
     let a = edge_up_is s split found.0 e (hit_is (edge_up s split found.0) e found.2) in
     (found.0, a.0, a.1, a.2)
 
 -- a dart of the tree, or its twin, leads to a parent
-pub tree_dart : (s : OrientedMesh) (split : SplitView) → IsOrientedSurface s → (t : IsSplit s split) → (d : ℕ) → d < darts_of s
+pub tree_dart : {s : OrientedMesh} {split : SplitView} → IsOrientedSurface s → (t : IsSplit s split) → (d : ℕ) → d < darts_of s
     → in_tree split ((rotations_of s).edge d) ≡ true
     → (up s split t ((rotations_of s).origin d) ≡ (rotations_of s).origin ((rotations_of s).twin d) ∷ up s split t
     ((rotations_of s).origin ((rotations_of s).twin d)))
     ⊎ (up s split t ((rotations_of s).origin ((rotations_of s).twin d)) ≡ (rotations_of s).origin d ∷ up s split t
     ((rotations_of s).origin d))
-tree_dart s split o t d l is =
+tree_dart {s} {split} o t d l is =
     let maps : Rotations = rotations_of s in
     let r : IsRotationSystem maps = rotation_system s o in
-    let found = tree_edge s split o t (maps.edge d) ((names_all s o).edge_below d l) is in
+    let found = tree_edge o t (maps.edge d) ((names_all s o).edge_below d l) is in
     let v : ℕ = found.0 in
     let p : ℕ = found.1 in
     let p_in : p < darts_of s = t.parents.within v p found.2 in
@@ -237,7 +233,7 @@ tree_dart s split o t d l is =
     let v_is : maps.origin p ≡ v = t.parents.starts v p found.2 in
     let way : up s split t (maps.origin p) ≡ maps.origin (maps.twin p) ∷ up s split t (maps.origin (maps.twin p)) =
     subst (λ x. up s split t x ≡ maps.origin (maps.twin p) ∷ up s split t (maps.origin (maps.twin p))) (sym v_is)
-    (up_step s split o t v (maps.origin (maps.twin p)) (used_at s split o t v p found.2)
+    (up_step o t v (maps.origin (maps.twin p)) (used_at o t v p found.2)
     ((names_all s o).vertex_used (maps.twin p) (r.twin_within p p_in)) step) in
     elim ((r.edges p d p_in l).0 found.3) [
       | inl same ↦ inl (subst (λ x. up s split t (maps.origin x) ≡ maps.origin (maps.twin x) ∷ up s split t (maps.origin (maps.twin x)))

@@ -6,9 +6,9 @@ use Rattle.polygon_cut.proofs.PlaceLemmas.{FallingPlaces, falling}
 use Rattle.polygon_cut.proofs.PolygonLemmas.{one_up_below}
 use Rattle.polygon_cut.proofs.RoundLemmas.{GoesRound, round_apart}
 
-pub turns_go_round : (maps : Rotations) (polygon : PolygonView) → TurnsRound maps polygon → 0 < polygon.degree
+pub turns_go_round : {maps : Rotations} {polygon : PolygonView} → TurnsRound maps polygon → 0 < polygon.degree
     → GoesRound polygon.degree (turned maps polygon) 0
-turns_go_round maps polygon t some = record {
+turns_go_round {maps} {polygon} t some = record {
   permutes = record {
     within = λ i l. one_up_below polygon.degree (across maps polygon i) (t.across_within i l);
     injective = t.injective;
@@ -24,16 +24,16 @@ pub record IsTurning (degree : ℕ) (f : ℕ → ℕ) (turns : ℕ) (places : Li
   pub first : turns ≡ 0 → place ≡ 0
   pub later : 0 < turns → place ≡ degree - turns
 
-pub spoke_below : (degree : ℕ) (f : ℕ → ℕ) (turns : ℕ) (places : List ℕ) (spoke place : ℕ) → GoesRound degree f 0
+pub spoke_below : {degree : ℕ} {f : ℕ → ℕ} {turns : ℕ} {places : List ℕ} {spoke place : ℕ} → GoesRound degree f 0
     → IsTurning degree f turns places spoke place → spoke < degree
-spoke_below degree f turns places spoke place g h =
-    subst (λ (i : ℕ). i < degree) (sym h.at) (steps_within degree f g.permutes turns 0 g.start)
+spoke_below {degree} {f} {turns} g h = subst (λ (i : ℕ). i < degree) (sym h.at) (steps_within degree f g.permutes turns 0 g.start)
 
-pub turning_more : (degree : ℕ) (f : ℕ → ℕ) (turns : ℕ) (places new : List ℕ) (spoke place next_spoke next_place : ℕ) → GoesRound degree f 0
+pub turning_more : {degree : ℕ} {f : ℕ → ℕ} {turns : ℕ} {places : List ℕ} (new : List ℕ) {spoke place : ℕ} (next_spoke next_place : ℕ) →
+    GoesRound degree f 0
     → turns < degree → IsTurning degree f turns places spoke place → new ≡ set places spoke place → next_spoke ≡ f spoke
     → next_place ≡ one_down degree place
     → IsTurning degree f (turns + 1) new next_spoke next_place
-turning_more degree f turns places new spoke place next_spoke next_place g l h is spoke_is place_is = record {
+turning_more {degree} {f} {turns} {places} new {spoke} {place} next_spoke next_place g l h is spoke_is place_is = record {
   placed = record {
     each_spoke = ap (λ (xs : List ℕ). length xs) is ∙ length-set places spoke place ∙ h.placed.each_spoke;
     first = λ _. ap (λ (xs : List ℕ). slice_index xs 0) is ∙ (elim (cases_eq turns 0) [
@@ -42,7 +42,7 @@ turning_more degree f turns places new spoke place next_spoke next_place g l h i
           ap (λ (i : ℕ). get_or (set places spoke place) i 0) (sym zero_spoke) ∙ get_or-set_same places spoke place 0 spoke_in
           ∙ h.first none
       | inr some ↦
-          let apart : 0 ≢ spoke = λ e. round_apart degree f 0 g 0 turns (omega arith) l (e ∙ h.at) in
+          let apart : 0 ≢ spoke = λ e. round_apart g 0 turns (omega arith) l (e ∙ h.at) in
           get_or-set_other places spoke 0 place 0 apart ∙ h.placed.first (omega arith)
     ]);
     others = λ k some b. ap (λ (xs : List ℕ). slice_index xs (after_steps f k 0)) is ∙ (elim (cases_eq k turns) [
@@ -53,7 +53,7 @@ turning_more degree f turns places new spoke place next_spoke next_place g l h i
           ∙ h.later (omega (arith, same, some)) ∙ count
       | inr other ↦
           let less : k < turns = omega (arith, b, other) in
-          let apart : after_steps f k 0 ≢ spoke = λ e. round_apart degree f 0 g k turns less l (e ∙ h.at) in
+          let apart : after_steps f k 0 ≢ spoke = λ e. round_apart g k turns less l (e ∙ h.at) in
           get_or-set_other places spoke (after_steps f k 0) place 0 apart ∙ h.placed.others k some less
     ]);
   };
@@ -75,14 +75,13 @@ turning_more degree f turns places new spoke place next_spoke next_place g l h i
 }
   where
     spoke_in : spoke < length places
-    spoke_in = omega (arith, spoke_below degree f turns places spoke place g h, h.placed.each_spoke)
+    spoke_in = omega (arith, spoke_below g h, h.placed.each_spoke)
 
 -- places that turning gives
-pub places_are : (maps : Rotations) (polygon : PolygonView) → TurnsRound maps polygon → 0 < polygon.degree
+pub places_are : {maps : Rotations} {polygon : PolygonView} → TurnsRound maps polygon → 0 < polygon.degree
     → IsPlaced polygon.degree (turned maps polygon) polygon.degree polygon.places → HasPlaces maps polygon
-places_are maps polygon t some h =
-    let g : GoesRound polygon.degree (turned maps polygon) 0 = turns_go_round maps polygon t some in
-    let fall : FallingPlaces polygon.degree (turned maps polygon) (slice_index polygon.places) =
-    falling polygon.degree (turned maps polygon) (slice_index polygon.places) g.permutes some t.reaches
+places_are {maps} {polygon} t some h =
+    let g : GoesRound polygon.degree (turned maps polygon) 0 = turns_go_round t some in
+    let fall : FallingPlaces polygon.degree (turned maps polygon) (slice_index polygon.places) = falling g.permutes some t.reaches
     (record { first = h.first some; others = h.others }) in
     record { each_spoke = h.each_spoke; below = fall.below; apart = fall.apart; falls = fall.falls }

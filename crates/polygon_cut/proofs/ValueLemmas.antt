@@ -20,16 +20,16 @@ abbrev pub by_labels : {X : Type 0} → (X → X → X) → (X → X) → (ℕ �
 by_labels mul inv spoke label next d = quotient mul inv (spoke (label d)) (spoke (label (next d)))
 
 -- labels telescope
-pub telescopes : {X : Type 0} (Same : X → X → Type 0) (mul : X → X → X) (inv : X → X) (one : X) → IsGroup Same mul inv one
+pub telescopes : {X : Type 0} {Same : X → X → Type 0} {mul : X → X → X} {inv : X → X} {one : X} → IsGroup Same mul inv one
     → (val spoke : ℕ → X) (label next : ℕ → ℕ)
     → (k d : ℕ) → ((j : ℕ) → j < k → Same (val (after_steps next j d)) (by_labels mul inv spoke label next (after_steps next j d)))
     → Same (round mul one val next k d) (quotient mul inv (spoke (label d)) (spoke (label (after_steps next k d))))
-telescopes Same mul inv one g val spoke label next zero d h =
+telescopes {mul} {inv} {one} g val spoke label next zero d h =
     g.turn (quotient mul inv (spoke (label d)) (spoke (label d))) one (g.cancels (spoke (label d)))
-telescopes Same mul inv one g val spoke label next (suc k) d h =
+telescopes {Same} {mul} {inv} {one} g val spoke label next (suc k) d h =
     let rest : Same (round mul one val next k (next d))
     (quotient mul inv (spoke (label (next d))) (spoke (label (after_steps next k (next d))))) =
-    telescopes Same mul inv one g val spoke label next k (next d)
+    telescopes g val spoke label next k (next d)
     (λ j l. subst (λ x. Same (val x) (by_labels mul inv spoke label next x)) (sym (step_first next j d)) (h (suc j) (omega arith))) in
     let joined : Same (mul (val d) (round mul one val next k (next d)))
     (mul (by_labels mul inv spoke label next d) (quotient mul inv (spoke (label (next d))) (spoke (label (after_steps next k (next d)))))) =
@@ -38,7 +38,7 @@ telescopes Same mul inv one g val spoke label next (suc k) d h =
     let whole = g.on (mul (val d) (round mul one val next k (next d)))
     (mul (by_labels mul inv spoke label next d) (quotient mul inv (spoke (label (next d))) (spoke (label (after_steps next k (next d))))))
     (quotient mul inv (spoke (label d)) (spoke (label (after_steps next k (next d))))) joined
-    (middle Same mul inv one g (spoke (label d)) (spoke (label (next d))) (spoke (label (after_steps next k (next d))))) in
+    (middle g (spoke (label d)) (spoke (label (next d))) (spoke (label (after_steps next k (next d))))) in
     subst (λ x. Same (mul (val d) (round mul one val next k (next d))) (quotient mul inv (spoke (label d)) (spoke (label x))))
     (step_first next k d) whole
 
@@ -52,7 +52,7 @@ pub last_of_face : {X : Type 0} (Same : X → X → Type 0) (mul : X → X → X
 last_of_face Same mul inv one g val spoke label next d w others =
     let rest : Same (round mul one val next w.less (next d))
     (quotient mul inv (spoke (label (next d))) (spoke (label (after_steps next w.less (next d))))) =
-    telescopes Same mul inv one g val spoke label next w.less (next d) (λ j l. others j (w.first j l)) in
+    telescopes g val spoke label next w.less (next d) (λ j l. others j (w.first j l)) in
     let closed : Same (round mul one val next w.less (next d)) (quotient mul inv (spoke (label (next d))) (spoke (label d))) =
     subst (λ x. Same (round mul one val next w.less (next d)) (quotient mul inv (spoke (label (next d))) (spoke (label x)))) w.closes
     rest in
@@ -60,9 +60,8 @@ last_of_face Same mul inv one g val spoke label next d w others =
     g.on (mul (val d) (quotient mul inv (spoke (label (next d))) (spoke (label d)))) (round mul one val next (suc w.less) d) one
     (g.mul_same (val d) (val d) (quotient mul inv (spoke (label (next d))) (spoke (label d))) (round mul one val next w.less (next d))
     (g.itself (val d))
-    (g.turn (round mul one val next w.less (next d)) (quotient mul inv (spoke (label (next d))) (spoke (label d))) closed))
-    w.is_one in
-    left_factor Same mul inv one g (val d) (spoke (label (next d))) (spoke (label d)) product
+    (g.turn (round mul one val next w.less (next d)) (quotient mul inv (spoke (label (next d))) (spoke (label d))) closed)) w.is_one in
+    left_factor g (val d) (spoke (label (next d))) (spoke (label d)) product
 
 -- What is known of the values of a surface's darts: twins have inverse values, each face has the value one, tree darts have it, and
 -- leftover darts have the value of their labels, but for the last side, which lies in the root face.
@@ -83,13 +82,13 @@ some_child None h = absurd (h refl)
 some_child (Some f) h = (f, refl)
 
 -- a dart of a cotree edge and its twin
-across_cotree : {X : Type 0} (Same : X → X → Type 0) (mul : X → X → X) (inv : X → X) (one : X) → IsGroup Same mul inv one
-    → (s : OrientedMesh) (split : SplitView) (val spoke : ℕ → X)
-    (label : ℕ → ℕ) (last : ℕ) → IsOrientedSurface s → Valued Same mul inv one s split val spoke label last → (d : ℕ) → d < darts_of s
+across_cotree : {X : Type 0} {Same : X → X → Type 0} {mul : X → X → X} {inv : X → X} {one : X} → IsGroup Same mul inv one
+    → {s : OrientedMesh} {split : SplitView} {val spoke : ℕ → X}
+    {label : ℕ → ℕ} {last : ℕ} → IsOrientedSurface s → Valued Same mul inv one s split val spoke label last → (d : ℕ) → d < darts_of s
     → in_cotree split ((rotations_of s).edge d) ≡ true
     → Same (val d) (by_labels mul inv spoke label (rotations_of s).next d)
     → Same (val ((rotations_of s).twin d)) (by_labels mul inv spoke label (rotations_of s).next ((rotations_of s).twin d))
-across_cotree Same mul inv one g s split val spoke label last o v d l is h =
+across_cotree {Same} {mul} {inv} g {s} {split} {val} {spoke} {label} o v d l is h =
     let maps : Rotations = rotations_of s in
     let r : IsRotationSystem maps = rotation_system s o in
     let twin : ℕ = maps.twin d in
@@ -103,7 +102,7 @@ across_cotree Same mul inv one g s split val spoke label last o v d l is h =
     (g.on (inv (val d)) (inv (quotient mul inv (spoke (label d)) (spoke (label (maps.next d)))))
     (quotient mul inv (spoke (label (maps.next d))) (spoke (label d)))
     (g.inv_same (val d) (quotient mul inv (spoke (label d)) (spoke (label (maps.next d)))) h)
-    (inverse_of_quotient Same mul inv one g (spoke (label d)) (spoke (label (maps.next d))))) in
+    (inverse_of_quotient g (spoke (label d)) (spoke (label (maps.next d))))) in
     subst (λ x. Same (val twin) (quotient mul inv (spoke (label twin)) (spoke x))) (sym one_end)
     (subst (λ x. Same (val twin) (quotient mul inv (spoke x) (spoke (label d)))) other_end turned)
 
@@ -115,10 +114,10 @@ record Below (s : OrientedMesh) (split : SplitView) (d : ℕ) : Type 0 where
   one_edge : (rotations_of s).edge dart ≡ (rotations_of s).edge d
   is_one : (d ≡ dart) ⊎ (d ≡ (rotations_of s).twin dart)
 
-below : (s : OrientedMesh) (split : SplitView) → IsOrientedSurface s → IsSplit s split → (d : ℕ) → d < darts_of s
+below : {s : OrientedMesh} {split : SplitView} → IsOrientedSurface s → IsSplit s split → (d : ℕ) → d < darts_of s
     → (rotations_of s).edge d < length s.table
     → in_cotree split ((rotations_of s).edge d) ≡ true → Below s split d
-below s split o t d l e_in is =
+below {s} {split} o t d l e_in is =
     let maps : Rotations = rotations_of s in
     let r : IsRotationSystem maps = rotation_system s o in
     let child = some_child (below_edge split (maps.edge d))
@@ -162,47 +161,46 @@ plain_value {X = X} Same mul inv one g s split val spoke label last o t v edge_i
         (g.on (val d) one (quotient mul inv (spoke (label d)) (spoke (label d))) (v.tree_one d l p) nothing)
     by_kind a b c left_one p q w = v.left d l w other
     by_kind a b c cotree_one p q w =
-        let down : Below s split d = below s split o t d l (edge_in d l) q in
+        let down : Below s split d = below o t d l (edge_in d l) q in
         elim down.is_one [
           | inl same ↦ subst (λ x. Same (val x) (by_labels mul inv spoke label maps.next x)) (sym same) (known down)
           | inr turned ↦
               subst (λ x. Same (val x) (by_labels mul inv spoke label maps.next x)) (sym turned)
-              (across_cotree Same mul inv one g s split val spoke label last o v down.dart down.step.within
-              (ap (in_cotree split) down.one_edge ∙ q) (known down))
+              (across_cotree g o v down.dart down.step.within (ap (in_cotree split) down.one_edge ∙ q) (known down))
         ]
 
 -- darts of one face, step by step
-stays_in_face : (s : OrientedMesh) → IsOrientedSurface s → (k d : ℕ) → d < darts_of s
+stays_in_face : {s : OrientedMesh} → IsOrientedSurface s → (k d : ℕ) → d < darts_of s
     → (after_steps (rotations_of s).next k d < darts_of s)
     × ((rotations_of s).face (after_steps (rotations_of s).next k d) ≡ (rotations_of s).face d)
-stays_in_face s o zero d l = (l, refl)
-stays_in_face s o (suc k) d l =
+stays_in_face o zero d l = (l, refl)
+stays_in_face {s} o (suc k) d l =
     let r : IsRotationSystem (rotations_of s) = rotation_system s o in
-    let before = stays_in_face s o k d l in
+    let before = stays_in_face o k d l in
     let x : ℕ = after_steps (rotations_of s).next k d in
     let on : ℕ = (rotations_of s).next x in
     (r.next_within x before.0, sym ((r.faces x on before.0 (r.next_within x before.0)).1 (record { steps = 1; leads = refl })) ∙ before.1)
 
 -- from the faces farthest from the root up: the parent dart of each face has the value of its labels
-parents_known : {X : Type 0} (Same : X → X → Type 0) (mul : X → X → X) (inv : X → X) (one : X) → IsGroup Same mul inv one
-    → (s : OrientedMesh) (split : SplitView) (val spoke : ℕ → X)
-    (label : ℕ → ℕ) (last : ℕ) → IsOrientedSurface s → IsSplit s split → Valued Same mul inv one s split val spoke label last
+parents_known : {X : Type 0} {Same : X → X → Type 0} {mul : X → X → X} {inv : X → X} {one : X} → IsGroup Same mul inv one
+    → {s : OrientedMesh} {split : SplitView} {val spoke : ℕ → X}
+    {label : ℕ → ℕ} {last : ℕ} → IsOrientedSurface s → IsSplit s split → Valued Same mul inv one s split val spoke label last
     → (edge_in : (d : ℕ) → d < darts_of s → (rotations_of s).edge d < length s.table)
-    → (n f : ℕ) (path : List ℕ) → IsPath (StepsUp (rotations_of s) split) f path split.root_face → length s.mesh.faces ≤ length path + n
-    → (g d : ℕ) → IsStepUp (rotations_of s) split f g d → Same (val d) (by_labels mul inv spoke label (rotations_of s).next d)
-parents_known Same mul inv one gr s split val spoke label last o t v edge_in zero f path p far g d step =
+    → (n : ℕ) {f : ℕ} (path : List ℕ) → IsPath (StepsUp (rotations_of s) split) f path split.root_face → length s.mesh.faces ≤ length path +
+    n
+    → {g d : ℕ} → IsStepUp (rotations_of s) split f g d → Same (val d) (by_labels mul inv spoke label (rotations_of s).next d)
+parents_known gr {s} {split} o t v edge_in zero {f} path p far step =
     absurd (let few : length path < length s.mesh.faces = few_up s split o t f path p in omega arith)
-parents_known Same mul inv one gr s split val spoke label last o t v edge_in (suc n) f path p far g d step =
+parents_known {Same} {mul} {inv} {one} gr {s} {split} {val} {spoke} {label} {last} o t v edge_in (suc n) {f} path p far {g} {d} step =
     last_of_face Same mul inv one gr val spoke label (rotations_of s).next d (v.faces d step.within) (λ k ne.
     let r : IsRotationSystem (rotations_of s) = rotation_system s o in
     let x : ℕ = after_steps (rotations_of s).next k ((rotations_of s).next d) in
     let start_in : (rotations_of s).next d < darts_of s = r.next_within d step.within in
-    let here = stays_in_face s o k ((rotations_of s).next d) start_in in
-    let first = stays_in_face s o 1 d step.within in
+    let here = stays_in_face o k ((rotations_of s).next d) start_in in
+    let first = stays_in_face o 1 d step.within in
     let x_face : (rotations_of s).face x ≡ f = here.1 ∙ first.1 ∙ step.inside in
     plain_value Same mul inv one gr s split val spoke label last o t v edge_in x here.0
-    (λ same. no_root (sym x_face ∙ v.last_in_root x here.0 same))
-    (λ down. elim down.is_one [
+    (λ same. no_root (sym x_face ∙ v.last_in_root x here.0 same)) (λ down. elim down.is_one [
       | inl own ↦ absurd (no_own x (subst (λ y. IsStepUp (rotations_of s) split down.face ((rotations_of s).face ((rotations_of s).twin y))
           y) (sym own) down.step) here.0 x_face ne)
       | inr turned ↦
@@ -212,8 +210,7 @@ parents_known Same mul inv one gr s split val spoke label last o t v edge_in (su
             inside = down.step.inside;
             leads = ap (rotations_of s).face (sym turned) ∙ x_face;
           } in
-          parents_known Same mul inv one gr s split val spoke label last o t v edge_in n down.face (f ∷ path) ((down.dart, up), p)
-          (omega arith) f down.dart up
+          parents_known gr o t v edge_in n (f ∷ path) ((down.dart, up), p) (omega arith) up
     ]))
   where
     no_root : f ≡ split.root_face → ⊥
@@ -239,26 +236,24 @@ parents_known Same mul inv one gr s split val spoke label last o t v edge_in (su
         ]
 
 -- Each dart has the value of the spokes at its tail and at its head.
-pub all_values : {X : Type 0} (Same : X → X → Type 0) (mul : X → X → X) (inv : X → X) (one : X) → IsGroup Same mul inv one
-    → (s : OrientedMesh) (split : SplitView) (val spoke : ℕ → X)
-    (label : ℕ → ℕ) (last : ℕ) → IsOrientedSurface s → IsSplit s split → Valued Same mul inv one s split val spoke label last
+pub all_values : {X : Type 0} {Same : X → X → Type 0} {mul : X → X → X} {inv : X → X} {one : X} → IsGroup Same mul inv one
+    → {s : OrientedMesh} {split : SplitView} {val spoke : ℕ → X}
+    {label : ℕ → ℕ} {last : ℕ} → IsOrientedSurface s → IsSplit s split → Valued Same mul inv one s split val spoke label last
     → (edge_in : (d : ℕ) → d < darts_of s → (rotations_of s).edge d < length s.table)
     → (face_in : (d : ℕ) → d < darts_of s → (rotations_of s).face d < length s.mesh.faces)
     → (d : ℕ) → d < darts_of s → Same (val d) (by_labels mul inv spoke label (rotations_of s).next d)
-all_values Same mul inv one g s split val spoke label last o t v edge_in face_in d l = elim (cases_eq d last) [
+all_values {Same} {mul} {inv} {one} g {s} {split} {val} {spoke} {label} {last} o t v edge_in face_in d l = elim (cases_eq d last) [
   | inr other ↦ plain_value Same mul inv one g s split val spoke label last o t v edge_in d l other known
   | inl is ↦
       last_of_face Same mul inv one g val spoke label (rotations_of s).next d (v.faces d l) (λ k ne.
       let r : IsRotationSystem (rotations_of s) = rotation_system s o in
-      let here = stays_in_face s o k ((rotations_of s).next d) (r.next_within d l) in
+      let here = stays_in_face o k ((rotations_of s).next d) (r.next_within d l) in
       plain_value Same mul inv one g s split val spoke label last o t v edge_in
-      (after_steps (rotations_of s).next k ((rotations_of s).next d)) here.0
-      (λ same. ne (same ∙ sym is)) known)
+      (after_steps (rotations_of s).next k ((rotations_of s).next d)) here.0 (λ same. ne (same ∙ sym is)) known)
 ]
   where
     known : {x : ℕ} (b : Below s split x) → Same (val b.dart) (by_labels mul inv spoke label (rotations_of s).next b.dart)
     known b =
         let f_in : b.face < length s.mesh.faces = subst (λ y. y < length s.mesh.faces) b.step.inside (face_in b.dart b.step.within) in
         let path = t.child_faces.to_root b.face f_in in
-        parents_known Same mul inv one g s split val spoke label last o t v edge_in (length s.mesh.faces) b.face path.0 path.1 (omega arith)
-        ((rotations_of s).face ((rotations_of s).twin b.dart)) b.dart b.step
+        parents_known g o t v edge_in (length s.mesh.faces) path.0 path.1 (omega arith) b.step

@@ -6,10 +6,10 @@ use Rattle.polygon_cut.proofs.CountLemmas.{IsCounted, count_rises, count_passes,
 use Rattle.polygon_cut.proofs.RoundLemmas.{GoesRound, round_home, round_apart, round_reaches}
 
 -- one label more
-labels_more : (maps : Rotations) (ring : ℕ → ℕ) (left : ℕ → Bool) (start j : ℕ) (sides labels : List ℕ) → GoesRound maps.darts ring start
+labels_more : {maps : Rotations} {ring : ℕ → ℕ} {left : ℕ → Bool} {start j : ℕ} {sides labels : List ℕ} → GoesRound maps.darts ring start
     → j < maps.darts → IsWalked maps ring left start j sides labels → (k : ℕ) → k < suc j
     → get_or (set labels (after_steps ring j start) (length sides)) (after_steps ring k start) 0 ≡ left_before maps ring left start k
-labels_more maps ring left start j sides labels h l w k b = elim (cases_eq k j) [
+labels_more {maps} {ring} {left} {start} {j} {sides} {labels} h l w k b = elim (cases_eq k j) [
   | inl same ↦
       let within : after_steps ring j start < length labels =
       omega (arith, steps_within maps.darts ring h.permutes j start h.start, w.each_dart) in
@@ -19,14 +19,14 @@ labels_more maps ring left start j sides labels h l w k b = elim (cases_eq k j) 
   | inr other ↦
       let less : k < j = omega (arith, b, other) in
       get_or-set_other labels (after_steps ring j start) (after_steps ring k start) (length sides) 0
-      (λ e. round_apart maps.darts ring start h k j less l e) ∙ w.labels_are k less
+      (λ e. round_apart h k j less l e) ∙ w.labels_are k less
 ]
 
-pub walked_left : (maps : Rotations) (ring : ℕ → ℕ) (left : ℕ → Bool) (start j : ℕ) (sides labels : List ℕ)
+pub walked_left : {maps : Rotations} {ring : ℕ → ℕ} {left : ℕ → Bool} {start j : ℕ} {sides labels : List ℕ}
     → GoesRound maps.darts ring start
     → j < maps.darts → left_at maps ring left start j ≡ true → IsWalked maps ring left start j sides labels
     → IsWalked maps ring left start (suc j) (sides ++ after_steps ring j start ∷ []) (set labels (after_steps ring j start) (length sides))
-walked_left maps ring left start j sides labels h l is w = record {
+walked_left {maps} {ring} {left} {start} {j} {sides} {labels} h l is w = record {
   each_dart = length-set labels (after_steps ring j start) (length sides) ∙ w.each_dart;
   each_left = (let one : left_before maps ring left start (suc j) ≡ left_before maps ring left start j + 1 = rw is refl in omega
       (arith, one, length_push sides (after_steps ring j start), w.each_left));
@@ -41,14 +41,14 @@ walked_left maps ring left start j sides labels h l is w = record {
         omega (arith, count_passes (left_at maps ring left start) k j less k_left, w.each_left) in
         get_or_append_left sides (after_steps ring j start ∷ []) 0 (left_before maps ring left start k) few ∙ w.sides_are k less k_left
   ];
-  labels_are = labels_more maps ring left start j sides labels h l w;
+  labels_are = labels_more h l w;
 }
 
-pub walked_other : (maps : Rotations) (ring : ℕ → ℕ) (left : ℕ → Bool) (start j : ℕ) (sides labels : List ℕ)
+pub walked_other : {maps : Rotations} {ring : ℕ → ℕ} {left : ℕ → Bool} {start j : ℕ} {sides labels : List ℕ}
     → GoesRound maps.darts ring start
     → j < maps.darts → left_at maps ring left start j ≡ false → IsWalked maps ring left start j sides labels
     → IsWalked maps ring left start (suc j) sides (set labels (after_steps ring j start) (length sides))
-walked_other maps ring left start j sides labels h l none w = record {
+walked_other {maps} {ring} {left} {start} {j} {sides} {labels} h l none w = record {
   each_dart = length-set labels (after_steps ring j start) (length sides) ∙ w.each_dart;
   each_left = (let one : left_before maps ring left start (suc j) ≡ left_before maps ring left start j + 0 = rw none refl in omega
       (arith, one, w.each_left));
@@ -56,7 +56,7 @@ walked_other maps ring left start j sides labels h l none w = record {
     | inl same ↦ absurd (both_ways (left_at maps ring left start j) none (ap (left_at maps ring left start) (sym same) ∙ k_left))
     | inr other ↦ w.sides_are k (omega (arith, b, other)) k_left
   ];
-  labels_are = labels_more maps ring left start j sides labels h l w;
+  labels_are = labels_more h l w;
 }
 
 -- what a whole walk, up to the leftover dart `last`, has of the ring
@@ -66,54 +66,52 @@ pub record IsWholeWalk (maps : Rotations) (ring : ℕ → ℕ) (left : ℕ → B
   pub last_left : left (maps.edge last) ≡ true
   pub walked : IsWalked maps ring left (ring last) maps.darts sides labels
 
-last_at : (maps : Rotations) (ring : ℕ → ℕ) (left : ℕ → Bool) (last : ℕ) (sides labels : List ℕ)
+last_at : {maps : Rotations} {ring : ℕ → ℕ} {left : ℕ → Bool} {last : ℕ} {sides labels : List ℕ}
     → IsWholeWalk maps ring left last sides labels
     → after_steps ring (maps.darts - 1) (ring last) ≡ last
-last_at maps ring left last sides labels h =
+last_at {maps} {ring} {last} h =
     let n : ℕ = maps.darts in
     let one : suc (n - 1) ≡ n = omega (arith, h.last_in) in
     let home : ring (after_steps ring (n - 1) (ring last)) ≡ ring last =
-    ap (λ (m : ℕ). after_steps ring m (ring last)) one ∙ round_home n ring (ring last) h.round in
+    ap (λ (m : ℕ). after_steps ring m (ring last)) one ∙ round_home h.round in
     h.round.permutes.injective (after_steps ring (n - 1) (ring last)) last
     (steps_within n ring h.round.permutes (n - 1) (ring last) h.round.start) h.last_in home
 
-last_passes : (maps : Rotations) (ring : ℕ → ℕ) (left : ℕ → Bool) (last : ℕ) (sides labels : List ℕ)
+last_passes : {maps : Rotations} {ring : ℕ → ℕ} {left : ℕ → Bool} {last : ℕ} {sides labels : List ℕ}
     → IsWholeWalk maps ring left last sides labels
     → left_at maps ring left (ring last) (maps.darts - 1) ≡ true
-last_passes maps ring left last sides labels h =
-    ap (λ (d : ℕ). left (maps.edge d)) (last_at maps ring left last sides labels h) ∙ h.last_left
+last_passes {maps} {left} h = ap (λ (d : ℕ). left (maps.edge d)) (last_at h) ∙ h.last_left
 
 -- fewer leftover darts lie before a dart than there are
-few_before : (maps : Rotations) (ring : ℕ → ℕ) (left : ℕ → Bool) (last : ℕ) (sides labels : List ℕ)
+few_before : {maps : Rotations} {ring : ℕ → ℕ} {left : ℕ → Bool} {last : ℕ} {sides labels : List ℕ}
     → IsWholeWalk maps ring left last sides labels
     → (k : ℕ) → k < maps.darts → left_before maps ring left (ring last) k < length sides
-few_before maps ring left last sides labels h k l =
+few_before {maps} {ring} {left} {last} h k l =
     omega (
       arith,
       count_rises (left_at maps ring left (ring last)) k (maps.darts - 1) (omega (arith, l)),
-      count_passes (left_at maps ring left (ring last)) (maps.darts - 1) maps.darts (omega (arith, l))
-          (last_passes maps ring left last sides labels h),
+      count_passes (left_at maps ring left (ring last)) (maps.darts - 1) maps.darts (omega (arith, l)) (last_passes h),
       h.walked.each_left,
     )
 
 -- the last side is the dart where the walk ends
-pub last_is : (maps : Rotations) (ring : ℕ → ℕ) (left : ℕ → Bool) (last : ℕ) (sides labels : List ℕ)
+pub last_is : {maps : Rotations} {ring : ℕ → ℕ} {left : ℕ → Bool} {last : ℕ} {sides labels : List ℕ}
     → IsWholeWalk maps ring left last sides labels
     → slice_index sides (length sides - 1) ≡ last
-last_is maps ring left last sides labels h =
+last_is {maps} {ring} {left} {last} {sides} h =
     let p : ℕ → Bool = left_at maps ring left (ring last) in
     let n : ℕ = maps.darts in
     let one : suc (n - 1) ≡ n = omega (arith, h.last_in) in
-    let more : count_below p (suc (n - 1)) ≡ count_below p (n - 1) + 1 = rw (last_passes maps ring left last sides labels h) refl in
+    let more : count_below p (suc (n - 1)) ≡ count_below p (n - 1) + 1 = rw (last_passes h) refl in
     let all : count_below p (suc (n - 1)) ≡ count_below p n = ap (count_below p) one in
     let before : length sides - 1 ≡ count_below p (n - 1) = omega (arith, more, all, h.walked.each_left) in
-    ap (slice_index sides) before ∙ h.walked.sides_are (n - 1) (omega (arith, h.last_in)) (last_passes maps ring left last sides labels h)
-    ∙ last_at maps ring left last sides labels h
+    ap (slice_index sides) before ∙ h.walked.sides_are (n - 1) (omega (arith, h.last_in)) (last_passes h)
+    ∙ last_at h
 
-pub walk_labels : (maps : Rotations) (ring : ℕ → ℕ) (left : ℕ → Bool) (last : ℕ) (sides labels places : List ℕ)
+pub walk_labels : {maps : Rotations} {ring : ℕ → ℕ} {left : ℕ → Bool} {last : ℕ} {sides labels : List ℕ} (places : List ℕ)
     → IsWholeWalk maps ring left last sides labels
     → IsLabelled maps ring left (record { degree = length sides; sides = sides; labels = labels; places = places })
-walk_labels maps ring left last sides labels places h = record {
+walk_labels {maps} {ring} {left} {last} {sides} {labels} places h = record {
   each_side = refl;
   each_dart = w.each_dart;
   side_is_left = λ i l. (
@@ -121,9 +119,8 @@ walk_labels maps ring left last sides labels places h = record {
     ap (λ (d : ℕ). left (maps.edge d)) (side_at i l) ∙ (chosen i l).passes,
   );
   own_number = λ i l. ap (slice_index labels) (side_at i l) ∙ w.labels_are (chosen i l).at (chosen i l).within ∙ (chosen i l).before;
-  label_below = λ d l. (let k = round_reaches n ring start h.round d l in omega
-      (arith, label_at d k.0 k.1 k.2, few_before maps ring left last sides labels h k.0 k.1));
-  first = λ d l. (let k = round_reaches n ring start h.round d l in first_from d k.0 k.1 k.2);
+  label_below = λ d l. (let k = round_reaches h.round d l in omega (arith, label_at d k.0 k.1 k.2, few_before h k.0 k.1));
+  first = λ d l. (let k = round_reaches h.round d l in first_from d k.0 k.1 k.2);
   along = λ i l. next_label i l;
 }
   where
@@ -154,7 +151,7 @@ walk_labels maps ring left last sides labels places h = record {
     first_from d k l e =
         let i : ℕ = slice_index labels d in
         let is : i ≡ count_below p k = label_at d k l e in
-        let i_in : i < length sides = omega (arith, is, few_before maps ring left last sides labels h k l) in
+        let i_in : i < length sides = omega (arith, is, few_before h k l) in
         let c : IsCounted p n i = chosen i i_in in
         let later : k ≤ c.at = elim (cases_lt c.at k) [
           | inl less ↦ absurd (let more : count_below p c.at < count_below p k = count_passes p c.at k less c.passes in omega
@@ -184,8 +181,7 @@ walk_labels maps ring left last sides labels places h = record {
         let more : count_below p (suc c.at) ≡ count_below p c.at + 1 = rw c.passes refl in
         elim (cases_eq (suc c.at) n) [
           | inl end ↦
-              let home : ring (slice_index sides i) ≡ start =
-              on ∙ ap (λ (m : ℕ). after_steps ring m start) end ∙ round_home n ring start h.round in
+              let home : ring (slice_index sides i) ≡ start = on ∙ ap (λ (m : ℕ). after_steps ring m start) end ∙ round_home h.round in
               let none : slice_index labels start ≡ 0 = w.labels_are 0 (omega (arith, h.last_in)) in
               let all : count_below p (suc c.at) ≡ count_below p n = ap (count_below p) end in
               let whole : i + 1 ≡ length sides = omega (arith, more, all, c.before, w.each_left) in
@@ -193,7 +189,7 @@ walk_labels maps ring left last sides labels places h = record {
               ap (slice_index labels) home ∙ none ∙ sym up
           | inr less ↦
               let within : suc c.at < n = omega (arith, less, c.within) in
-              let few : count_below p (suc c.at) < length sides = few_before maps ring left last sides labels h (suc c.at) within in
+              let few : count_below p (suc c.at) < length sides = few_before h (suc c.at) within in
               let not_end : i + 1 ≢ length sides = omega (arith, few, more, c.before) in
               let up : one_up (length sides) i ≡ i + 1 = grind (arith, nat_tests) in
               let sum : count_below p (suc c.at) ≡ i + 1 = omega (arith, more, c.before) in

@@ -7,7 +7,7 @@ pub returns-in_default : goal.returns-in_default
 returns-in_default c =
     let s = c.args.surface.now in
     let colouring = c.args.colouring.now in
-    nothing_to_cut s colouring (dart_numbers c.new.result.items) c.new-in_default.result.items c.new-in_default-2.result.items
+    nothing_to_cut (dart_numbers c.new.result.items) c.new-in_default.result.items c.new-in_default-2.result.items
     c.leftover_in_root.ensures.valid (colourings_have_trees s colouring c.requires) c.in_default.ensures.dart
 
 -- the sides go round the root face, up to the last one
@@ -17,8 +17,7 @@ walk : (c : In_ok-sides)
 walk c =
     let s = c.args.surface.now in
     let last = c.in-Some.ensures.dart in
-    ring_walk s (without_ways c.args.colouring.now) c.in-Some.last.0 (dart_numbers c.in_ok-sides.field-0.sides.items)
-    c.in_ok-sides.field-0.labels.items c.leftover_in_root.ensures.valid (colourings_have_trees s c.args.colouring.now c.requires).trees
+    ring_walk c.in-Some.last.0 c.leftover_in_root.ensures.valid (colourings_have_trees s c.args.colouring.now c.requires).trees
     last.0 last.2 c.in_ok-sides.ensures
 
 -- there are few of them
@@ -36,8 +35,7 @@ pub places_by_turns-requires-clause-round : goal.places_by_turns-requires-clause
 places_by_turns-requires-clause-round c =
     let s = c.args.surface.now in
     let sides = c.in_ok-sides.field-0.sides.items in
-    rw (c.deref.ensures.value, c.deref-2.ensures.value)
-    (turns_round s (without_ways c.args.colouring.now) c.in-Some.last.0 (length sides) (dart_numbers sides)
+    rw (c.deref.ensures.value, c.deref-2.ensures.value) (turns_round c.in-Some.last.0 (length sides) (dart_numbers sides)
     c.in_ok-sides.field-0.labels.items [] c.leftover_in_root.ensures.valid
     (colourings_have_trees s c.args.colouring.now c.requires).trees (walk (goal.at.places_by_turns-requires-clause-round c).In_ok-sides)
     (sym (length-map sides (λ (d : DartName). d.0))))
@@ -61,9 +59,8 @@ returns c =
     let sides = c.in_ok-sides.field-0.sides.items in
     let labels = c.in_ok-sides.field-0.labels.items in
     let long : c.len.result ≡ length sides = omega (arith, c.len.ensures, c.in_ok-sides.field-0.sides.ok.0) in
-    let placed = placed_too s c.deref.result.now sides c.deref-2.result.now labels c.len.result c.in_ok-places.places.items
-    c.deref.ensures.value
+    let placed = placed_too s c.deref.result.now sides c.deref-2.result.now labels c.len.result c.deref.ensures.value
     c.deref-2.ensures.value long c.in_ok-places.ensures in
-    cut_by_colours_is s colouring c.in-Some.last.0 c.len.result (dart_numbers sides) labels c.in_ok-places.places.items
+    cut_by_colours_is c.in-Some.last.0 (dart_numbers sides) labels
     c.leftover_in_root.ensures.valid (colourings_have_trees s colouring c.requires) (walk (goal.at.returns c).In_ok-sides)
     (long ∙ sym (length-map sides (λ (d : DartName). d.0))) c.in-Some.ensures.dart.1 placed

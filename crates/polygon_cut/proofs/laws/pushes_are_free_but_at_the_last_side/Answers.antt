@@ -3,6 +3,6 @@ use Rattle.polygon_cut.proofs.laws.pushes_are_free_but_at_the_last_side.Goals as
 
 pub returns : goal.returns
 returns c = record {
-  others = λ s split polygon root up side o t cut h l. free_pushes s split polygon root up o t cut h side l;
+  others = λ s split polygon root up side o t cut h l. free_pushes root up o t cut h side l;
   last = pushes_with_loop;
 }

@@ -8,10 +8,8 @@ use Rattle.polygon_cut.proofs.ring.label_ring.Goals.{then-is_leftover+in_ok-push
 
 pub edge_of-requires-in-loop-step : goal.edge_of-requires-in-loop-step
 edge_of-requires-in-loop-step c =
-    let split = without_ways c.args.colouring.now in
     let trees = trees_of c.args.surface.now c.args.colouring.now c.requires.colouring in
-    walking_within c.args.surface.now split c.args.last.0 c.loop-step._step c.loop-step.sides.items c.loop-step.labels.items
-    c.loop-step.dart.0 c.darts.ensures.valid trees c.requires.last c.loop-step.invariant
+    walking_within c.darts.ensures.valid trees c.requires.last c.loop-step.invariant
 
 pub overflow_cast-len : goal.overflow_cast-len
 overflow_cast-len c =
@@ -34,19 +32,15 @@ overflow_cast-len c =
 
 pub index_mut-requires : goal.index_mut-requires
 index_mut-requires c =
-    let split = without_ways c.args.colouring.now in
     let trees = trees_of c.args.surface.now c.args.colouring.now c.requires.colouring in
-    let within : c.loop-step.dart.0 < darts_of c.args.surface.now =
-    walking_within c.args.surface.now split c.args.last.0 c.loop-step._step c.loop-step.sides.items c.loop-step.labels.items
-    c.loop-step.dart.0 c.darts.ensures.valid trees c.requires.last c.loop-step.invariant in
+    let within : c.loop-step.dart.0 < darts_of c.args.surface.now = walking_within
+    c.darts.ensures.valid trees c.requires.last c.loop-step.invariant in
     omega (arith, within, c.loop-step.invariant.walked.each_dart, c.loop-step.labels.ok.0)
 
 pub dart_after-dart-requires-in-loop-step : goal.dart_after-dart-requires-in-loop-step
 dart_after-dart-requires-in-loop-step c =
-    let split = without_ways c.args.colouring.now in
     let trees = trees_of c.args.surface.now c.args.colouring.now c.requires.colouring in
-    walking_within c.args.surface.now split c.args.last.0 c.loop-step._step c.loop-step.sides.items c.loop-step.labels.items
-    c.loop-step.dart.0 c.darts.ensures.valid trees c.requires.last c.loop-step.invariant
+    walking_within c.darts.ensures.valid trees c.requires.last c.loop-step.invariant
 
 pub loop-step-preserved : goal.loop-step-preserved
 loop-step-preserved c =
@@ -62,16 +56,12 @@ loop-step-preserved c =
     let kind_is = ap is_left_kind (c.kind-kind.ensures ∙ ap (kind_of split) c.edge_of-in-loop-step.ensures.edge) in
     elim c.if-is_leftover.branch [
       | then-is_leftover+in_ok-push w ↦
-          walking_left c.args.surface.now split c.args.last.0 c.loop-step._step c.loop-step.sides.items
-          c.if-is_leftover.sides.items
-          c.loop-step.labels.items (set c.loop-step.labels.items c.loop-step.dart.0 c.len.result) c.loop-step.dart
+          walking_left c.if-is_leftover.sides.items (set c.loop-step.labels.items c.loop-step.dart.0 c.len.result) c.loop-step.dart
           c.dart_after-dart-in-loop-step.result.0 c.darts.ensures.valid trees c.requires.last few c.loop-step.invariant
           (sym kind_is ∙ sym c.is_leftover.ensures ∙ w.if-is_leftover.true) (ap (λ sides. sides.items) w.sides-is
           ∙ w.in_ok-push.ensures.items) written next
       | else-is_leftover w ↦
-          walking_other c.args.surface.now split c.args.last.0 c.loop-step._step c.loop-step.sides.items
-          c.if-is_leftover.sides.items
-          c.loop-step.labels.items (set c.loop-step.labels.items c.loop-step.dart.0 c.len.result) c.loop-step.dart
+          walking_other c.if-is_leftover.sides.items (set c.loop-step.labels.items c.loop-step.dart.0 c.len.result) c.loop-step.dart
           c.dart_after-dart-in-loop-step.result.0 c.darts.ensures.valid trees c.requires.last few c.loop-step.invariant
           (sym kind_is ∙ sym c.is_leftover.ensures ∙ w.if-is_leftover.false) (ap (λ sides. sides.items) w.sides-is) written next
     ]

@@ -1,7 +1,6 @@
-use Rattle.polygon_cut.proofs.Common.{twin_of, darts_of, rotations_of, ◌≡◌, ◌<◌, ◌∙◌, ℕ, length, refl, sym, ap, subst, arith, get_or, List, set, DartName, dart_numbers}
+use Rattle.polygon_cut.proofs.Common.{twin_of, darts_of, ◌≡◌, ◌<◌, ◌∙◌, ℕ, length, refl, sym, ap, subst, arith, get_or, List, set, DartName, dart_numbers}
 use Rattle.tree_cotree.proofs.RingLemmas.{number_at}
-use Rattle.polygon_cut.specs.Polygons.{turned, one_up}
-use Rattle.polygon_cut.specs.StoredPolygons.{without_places}
+use Rattle.polygon_cut.specs.Polygons.{one_up}
 use Rattle.polygon_cut.proofs.TurningLemmas.{turns_go_round, spoke_below, turning_more}
 use Rattle.polygon_cut.proofs.turning.places_by_turns.Goals as goal
 
@@ -13,55 +12,37 @@ side_read sides spoke l = sym (number_at sides spoke (record { 0 = 0 }) l)
 pub index_mut-requires : goal.index_mut-requires
 index_mut-requires c =
     let sides = c.args.sides.now in
-    let maps = rotations_of c.args.surface.now in
-    let polygon = without_places sides c.args.labels.now in
-    let round = turns_go_round maps polygon c.requires.round (omega arith) in
-    let below : c.loop-turn.spoke < length sides =
-    spoke_below (length sides) (turned maps polygon) c.loop-turn._turn c.loop-turn.places.items c.loop-turn.spoke c.loop-turn.place round
-    c.loop-turn.invariant in
+    let round = turns_go_round c.requires.round (omega arith) in
+    let below : c.loop-turn.spoke < length sides = spoke_below round c.loop-turn.invariant in
     omega (arith, below, c.loop-turn.invariant.placed.each_spoke, c.loop-turn.places.ok.0)
 
 pub bounds-sides-spoke : goal.bounds-sides-spoke
 bounds-sides-spoke c =
-    let sides = c.args.sides.now in
-    let maps = rotations_of c.args.surface.now in
-    let polygon = without_places sides c.args.labels.now in
-    let round = turns_go_round maps polygon c.requires.round (omega arith) in
-    spoke_below (length sides) (turned maps polygon) c.loop-turn._turn c.loop-turn.places.items c.loop-turn.spoke c.loop-turn.place round
-    c.loop-turn.invariant
+    let round = turns_go_round c.requires.round (omega arith) in
+    spoke_below round c.loop-turn.invariant
 
 pub twin-twin-requires : goal.twin-twin-requires
 twin-twin-requires c =
     let sides = c.args.sides.now in
-    let maps = rotations_of c.args.surface.now in
-    let polygon = without_places sides c.args.labels.now in
-    let round = turns_go_round maps polygon c.requires.round (omega arith) in
-    let below = spoke_below (length sides) (turned maps polygon) c.loop-turn._turn c.loop-turn.places.items c.loop-turn.spoke
-    c.loop-turn.place round c.loop-turn.invariant in
+    let round = turns_go_round c.requires.round (omega arith) in
+    let below = spoke_below round c.loop-turn.invariant in
     subst (λ d. d < darts_of c.args.surface.now) (sym (side_read sides c.loop-turn.spoke below))
     (c.requires.round.side_within c.loop-turn.spoke below)
 
 pub number_after-spoke-requires : goal.number_after-spoke-requires
 number_after-spoke-requires c =
     let sides = c.args.sides.now in
-    let maps = rotations_of c.args.surface.now in
-    let polygon = without_places sides c.args.labels.now in
-    let round = turns_go_round maps polygon c.requires.round (omega arith) in
-    let below = spoke_below (length sides) (turned maps polygon) c.loop-turn._turn c.loop-turn.places.items c.loop-turn.spoke
-    c.loop-turn.place round c.loop-turn.invariant in
+    let round = turns_go_round c.requires.round (omega arith) in
+    let below = spoke_below round c.loop-turn.invariant in
     let twin = c.twin-twin.ensures.twin ∙ ap (twin_of c.args.surface.now) (side_read sides c.loop-turn.spoke below) in
     subst (λ d. get_or c.args.labels.now d 0 < length sides) (sym twin) (c.requires.round.across_within c.loop-turn.spoke below)
 
 pub loop-turn-preserved : goal.loop-turn-preserved
 loop-turn-preserved c =
     let sides = c.args.sides.now in
-    let maps = rotations_of c.args.surface.now in
-    let polygon = without_places sides c.args.labels.now in
-    let round = turns_go_round maps polygon c.requires.round (omega arith) in
-    let below = spoke_below (length sides) (turned maps polygon) c.loop-turn._turn c.loop-turn.places.items c.loop-turn.spoke
-    c.loop-turn.place round c.loop-turn.invariant in
+    let round = turns_go_round c.requires.round (omega arith) in
+    let below = spoke_below round c.loop-turn.invariant in
     let twin = c.twin-twin.ensures.twin ∙ ap (twin_of c.args.surface.now) (side_read sides c.loop-turn.spoke below) in
-    turning_more (length sides) (turned maps polygon) c.loop-turn._turn c.loop-turn.places.items
-    (set c.loop-turn.places.items c.loop-turn.spoke c.loop-turn.place) c.loop-turn.spoke c.loop-turn.place c.number_after-spoke.result
+    turning_more (set c.loop-turn.places.items c.loop-turn.spoke c.loop-turn.place) c.number_after-spoke.result
     c.number_before-place.result round (omega arith) c.loop-turn.invariant refl
     (c.number_after-spoke.ensures ∙ ap (λ d. one_up (length sides) (get_or c.args.labels.now d 0)) twin) c.number_before-place.ensures
