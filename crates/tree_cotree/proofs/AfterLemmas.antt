@@ -11,22 +11,22 @@ pub turn : (maps : Rotations) (inside : ℕ → Bool) (d : ℕ) → inside (maps
     → after_dart maps inside d ≡ maps.next (maps.twin d)
 turn maps inside d h = cond-false (inside (maps.edge d)) (maps.next d) (maps.next (maps.twin d)) h
 
-pub twin_edge : (maps : Rotations) → IsRotationSystem maps → (d : ℕ) → d < maps.darts → maps.edge d ≡ maps.edge (maps.twin d)
-twin_edge maps r d l = (r.edges d (maps.twin d) l (r.twin_within d l)).1 (inr refl)
+pub twin_edge : {maps : Rotations} → IsRotationSystem maps → (d : ℕ) → d < maps.darts → maps.edge d ≡ maps.edge (maps.twin d)
+twin_edge {maps} r d l = (r.edges d (maps.twin d) l (r.twin_within d l)).1 (inr refl)
 
-twins_apart : (maps : Rotations) → IsRotationSystem maps → (x y : ℕ) → x < maps.darts → y < maps.darts → maps.twin x ≡ maps.twin y → x ≡ y
-twins_apart maps r x y l k e = sym (r.twin_back x l) ∙ ap maps.twin e ∙ r.twin_back y k
+twins_apart : {maps : Rotations} → IsRotationSystem maps → (x y : ℕ) → x < maps.darts → y < maps.darts → maps.twin x ≡ maps.twin y → x ≡ y
+twins_apart {maps} r x y l k e = sym (r.twin_back x l) ∙ ap maps.twin e ∙ r.twin_back y k
 
 -- a dart that stays and one that turns do not meet
-never_meet : (maps : Rotations) → IsRotationSystem maps → (inside : ℕ → Bool) (x y : ℕ) → x < maps.darts → y < maps.darts
+never_meet : {maps : Rotations} → IsRotationSystem maps → (inside : ℕ → Bool) (x y : ℕ) → x < maps.darts → y < maps.darts
     → inside (maps.edge x) ≡ true → inside (maps.edge y) ≡ false → x ≡ maps.twin y → ⊥
-never_meet maps r inside x y l k stays turns e =
-    let same : maps.edge x ≡ maps.edge y = ap maps.edge e ∙ sym (twin_edge maps r y k) in
+never_meet {maps} r inside x y l k stays turns e =
+    let same : maps.edge x ≡ maps.edge y = ap maps.edge e ∙ sym (twin_edge r y k) in
     both_ways (inside (maps.edge y)) turns (subst (λ (z : ℕ). inside z ≡ true) same stays)
 
-pub after_permutes : (maps : Rotations) → IsRotationSystem maps → (inside : ℕ → Bool)
+pub after_permutes : {maps : Rotations} → IsRotationSystem maps → (inside : ℕ → Bool)
     → IsPermutationBelow maps.darts (after_dart maps inside)
-after_permutes maps r inside = record {
+after_permutes {maps} r inside = record {
   within = λ x l. elim (cases_Bool (inside (maps.edge x))) [
     | inl stays ↦ subst (λ (z : ℕ). z < maps.darts) (sym (go_on maps inside x stays)) (r.next_within x l)
     | inr turns ↦ subst (λ (z : ℕ). z < maps.darts) (sym (turn maps inside x turns)) (r.next_within (maps.twin x) (r.twin_within x l))
@@ -35,16 +35,15 @@ after_permutes maps r inside = record {
     | inl stays ↦ elim (cases_Bool (inside (maps.edge y))) [
       | inl stays_too ↦ r.next_injective x y l k (sym (go_on maps inside x stays) ∙ e ∙ go_on maps inside y stays_too)
       | inr turns ↦
-          absurd (never_meet maps r inside x y l k stays turns
+          absurd (never_meet r inside x y l k stays turns
           (r.next_injective x (maps.twin y) l (r.twin_within y k) (sym (go_on maps inside x stays) ∙ e ∙ turn maps inside y turns)))
     ]
     | inr turns ↦ elim (cases_Bool (inside (maps.edge y))) [
       | inl stays ↦
-          absurd (never_meet maps r inside y x k l stays turns
+          absurd (never_meet r inside y x k l stays turns
           (r.next_injective y (maps.twin x) k (r.twin_within x l) (sym (go_on maps inside y stays) ∙ sym e ∙ turn maps inside x turns)))
       | inr turns_too ↦
-          twins_apart maps r x y l k
-          (r.next_injective (maps.twin x) (maps.twin y) (r.twin_within x l) (r.twin_within y k)
+          twins_apart r x y l k (r.next_injective (maps.twin x) (maps.twin y) (r.twin_within x l) (r.twin_within y k)
           (sym (turn maps inside x turns) ∙ e ∙ turn maps inside y turns_too))
     ]
   ];
@@ -60,10 +59,10 @@ pub record DifferAt (inside others : ℕ → Bool) (e : ℕ) : Type 0 where
   pub elsewhere : (x : ℕ) → x ≢ e → others x ≡ inside x
 
 -- one edge more or less exchanges the values at its two darts
-pub after_exchanges : (maps : Rotations) → IsRotationSystem maps → (inside others : ℕ → Bool) (d : ℕ) → d < maps.darts
+pub after_exchanges : {maps : Rotations} → IsRotationSystem maps → {inside others : ℕ → Bool} (d : ℕ) → d < maps.darts
     → DifferAt inside others (maps.edge d)
     → (h : ℕ) → h < maps.darts → exchanged (after_dart maps inside) d (maps.twin d) h ≡ after_dart maps others h
-after_exchanges maps r inside others d l differ h k = elim (cases_eq h d) [
+after_exchanges {maps} r {inside} {others} d l differ h k = elim (cases_eq h d) [
   | inl at_dart ↦ subst (λ (z : ℕ). exchanged f d twin z ≡ g z) (sym at_dart) (at_first f d twin ∙ dart_side (inside (maps.edge d)) refl)
   | inr not_dart ↦ elim (cases_eq h twin) [
     | inl at_twin ↦ subst (λ (z : ℕ). exchanged f d twin z ≡ g z) (sym at_twin)
@@ -86,15 +85,14 @@ after_exchanges maps r inside others d l differ h k = elim (cases_eq h d) [
     apart e = r.twin_other d l (sym e)
 
     one_edge : maps.edge d ≡ maps.edge twin
-    one_edge = twin_edge maps r d l
+    one_edge = twin_edge r d l
 
     other : h ≢ d → h ≢ twin → maps.edge h ≢ maps.edge d
     other nd nt e = elim ((r.edges d h l k).0 (sym e)) [ inl same ↦ nd same | inr same ↦ nt same ]
 
     -- f at the twin is the new value at the dart, and f at the dart the new value at the twin
     dart_side : (b : Bool) → inside (maps.edge d) ≡ b → f twin ≡ g d
-    dart_side true e =
-        go_on maps inside twin (ap inside (sym one_edge) ∙ e) ∙ sym (turn maps others d (differ.there ∙ ap not e))
+    dart_side true e = go_on maps inside twin (ap inside (sym one_edge) ∙ e) ∙ sym (turn maps others d (differ.there ∙ ap not e))
     dart_side false e =
         turn maps inside twin (ap inside (sym one_edge) ∙ e) ∙ ap maps.next (r.twin_back d l)
         ∙ sym (go_on maps others d (differ.there ∙ ap not e))
@@ -106,9 +104,10 @@ after_exchanges maps r inside others d l differ h k = elim (cases_eq h d) [
     twin_side false e = turn maps inside d e ∙ sym (go_on maps others twin (ap others (sym one_edge) ∙ differ.there ∙ ap not e))
 
 -- maps that agree below n have the same orbits there
-pub reached_same : (n : ℕ) (f g : ℕ → ℕ) → IsPermutationBelow n f → ((x : ℕ) → x < n → f x ≡ g x) → (x y : ℕ) → x < n → IsReached f x y
+pub reached_same : {n : ℕ} {f : ℕ → ℕ} (g : ℕ → ℕ) → IsPermutationBelow n f → ((x : ℕ) → x < n → f x ≡ g x) → {x y : ℕ} → x < n → IsReached
+    f x y
     → IsReached g x y
-reached_same n f g p same x y l r = record { steps = r.steps; leads = sym (go r.steps) ∙ r.leads }
+reached_same {n} {f} g p same {x} l r = record { steps = r.steps; leads = sym (go r.steps) ∙ r.leads }
   where
     go : (k : ℕ) → after_steps f k x ≡ after_steps g k x
     go zero = refl

@@ -11,12 +11,12 @@ below_none : (maps : Rotations) (from : List (Option ℕ)) (edges : ℕ) → Are
 below_none maps from edges =
     record { sets = marked_none maps from edges (λ e. false); faces = λ e f k. cc; keeps = λ f x l e. absurd (omega arith) }
 
-below_skip : (maps : Rotations) (from : List (Option ℕ)) (edges n : ℕ) (below : ℕ → Option ℕ)
+below_skip : {maps : Rotations} {from : List (Option ℕ)} {edges n : ℕ} {below : ℕ → Option ℕ}
     → AreBelowEdges maps from edges below n → kept_at from n ≡ None
     → AreBelowEdges maps from edges below (n + 1)
-below_skip maps from edges n below h none =
+below_skip {from} {n} h none =
     record {
-      sets = marked_skip maps from edges n (λ e. false) (λ e. is_some (below e)) h.sets none;
+      sets = marked_skip h.sets none;
       faces = λ e f k. let there = h.faces e f k in (there.0, omega (arith, there.1), there.2, there.3);
       keeps = λ f x l e. elim (cases_lt f n) [
         | inl less ↦ h.keeps f x less e
@@ -24,15 +24,14 @@ below_skip maps from edges n below h none =
       ];
     }
 
-below_more : (maps : Rotations) (from : List (Option ℕ)) (edges n x : ℕ) (below more : ℕ → Option ℕ)
+below_more : {maps : Rotations} {from : List (Option ℕ)} {edges n : ℕ} (x : ℕ) {below : ℕ → Option ℕ} (more : ℕ → Option ℕ)
     → AreApart maps from → AreBelowEdges maps from edges below n
     → kept_at from n ≡ Some x → maps.edge x < edges → more (maps.edge x) ≡ Some n → ((e : ℕ) → e ≢ maps.edge x → more e ≡ below e)
     → AreBelowEdges maps from edges more (n + 1)
-below_more maps from edges n x below more apart h some l here other =
+below_more {maps} {from} {n} x {below} more apart h some l here other =
     let i : ℕ = maps.edge x in
     record {
-      sets = marked_more maps from edges n x (λ e. false) (λ e. is_some (below e)) (λ e. is_some (more e)) h.sets some l refl
-          (λ v y ne e. apart.apart v n y x e some ne)
+      sets = marked_more x (λ e. is_some (more e)) h.sets some l refl (λ v y ne e. apart.apart v n y x e some ne)
           (λ e. elim (cases_eq e i) [
             | inl same ↦ ap (λ k. is_some (more k)) same ∙ ap is_some here
                 ∙ sym (ap (with_one (λ k. is_some (below k)) i) same ∙ with_itself (λ k. is_some (below k)) i)
@@ -69,41 +68,41 @@ faces_none maps from edges =
           get_or_past (replicate edges no_face) e None (omega (arith, past, length-replicate edges no_face)))
     ]
 
-pub faces_skip : (maps : Rotations) (from : List (Option ℕ)) (edges n : ℕ) (faces : List (Option ℕ))
+pub faces_skip : {maps : Rotations} {from : List (Option ℕ)} {edges n : ℕ} (faces : List (Option ℕ))
     → AreBelowEdges maps from edges (kept_at faces) n → kept_at from n ≡ None
     → AreBelowEdges maps from edges (kept_at faces) (n + 1)
-faces_skip maps from edges n faces h none = below_skip maps from edges n (kept_at faces) h none
+faces_skip faces h none = below_skip h none
 
-pub faces_more : (maps : Rotations) (from : List (Option ℕ)) (edges n x : ℕ) (faces : List (Option ℕ))
+pub faces_more : {maps : Rotations} {from : List (Option ℕ)} {edges n : ℕ} (x : ℕ) (faces : List (Option ℕ))
     → AreApart maps from → length faces ≡ edges → AreBelowEdges maps from edges (kept_at faces) n
     → kept_at from n ≡ Some x → maps.edge x < edges
     → AreBelowEdges maps from edges (kept_at (set faces (maps.edge x) (Some n))) (n + 1)
-faces_more maps from edges n x faces apart long h some l =
-    below_more maps from edges n x (kept_at faces) (kept_at (set faces (maps.edge x) (Some n))) apart h some l
+faces_more {maps} {n} x faces apart long h some l =
+    below_more x (kept_at (set faces (maps.edge x) (Some n))) apart h some l
     (get_or-set_same faces (maps.edge x) (Some n) None (omega (arith, l, long)))
     (λ e ne. get_or-set_other faces (maps.edge x) e (Some n) None ne)
 
 -- such a list is there
-faces_next : (maps : Rotations) (from : List (Option ℕ)) (edges n : ℕ) → AreApart maps from
+faces_next : {maps : Rotations} {from : List (Option ℕ)} {edges n : ℕ} → AreApart maps from
     → ((v x : ℕ) → kept_at from v ≡ Some x → maps.edge x < edges)
     → (faces : List (Option ℕ)) → length faces ≡ edges → AreBelowEdges maps from edges (kept_at faces) n
     → (o : Option ℕ) → kept_at from n ≡ o
     → (more : List (Option ℕ)) × (length more ≡ edges) × AreBelowEdges maps from edges (kept_at more) (n + 1)
-faces_next maps from edges n apart within faces long h None is = (faces, long, faces_skip maps from edges n faces h is)
-faces_next maps from edges n apart within faces long h (Some x) is = (
+faces_next apart within faces long h None is = (faces, long, faces_skip faces h is)
+faces_next {maps} {n} apart within faces long h (Some x) is = (
   set faces (maps.edge x) (Some n),
   length-set faces (maps.edge x) (Some n) ∙ long,
-  faces_more maps from edges n x faces apart long h is (within n x is),
+  faces_more x faces apart long h is (within n x is),
 )
 
-pub faces_there : (maps : Rotations) (from : List (Option ℕ)) (edges : ℕ) → AreApart maps from
+pub faces_there : {maps : Rotations} {from : List (Option ℕ)} (edges : ℕ) → AreApart maps from
     → ((v x : ℕ) → kept_at from v ≡ Some x → maps.edge x < edges) → (n : ℕ)
     → (faces : List (Option ℕ)) × (length faces ≡ edges) × AreBelowEdges maps from edges (kept_at faces) n
-faces_there maps from edges apart within zero =
+faces_there {maps} {from} edges apart within zero =
     let no_face : Option ℕ = None in
     (replicate edges no_face, length-replicate edges no_face, faces_none maps from edges)
-faces_there maps from edges apart within (suc n) =
-    let before = faces_there maps from edges apart within n in
-    let more = faces_next maps from edges n apart within before.0 before.1 before.2 (kept_at from n) refl in
+faces_there {maps} {from} edges apart within (suc n) =
+    let before = faces_there edges apart within n in
+    let more = faces_next apart within before.0 before.1 before.2 (kept_at from n) refl in
     let next : n + 1 ≡ suc n = omega arith in
     (more.0, more.1, subst (AreBelowEdges maps from edges (kept_at more.0)) next more.2)

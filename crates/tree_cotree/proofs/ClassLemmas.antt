@@ -74,12 +74,12 @@ record LeastOf (n : ℕ) (e : ℕ → ℕ → Bool) (a : ℕ) : Type 0 where
   related : e least a ≡ true
   first : is_least e least ≡ true
 
-least_within : (n : ℕ) (e : ℕ → ℕ → Bool) → IsEquivalenceBelow n e → (fuel a : ℕ) → a < n → a < fuel → LeastOf n e a
-least_within n e h zero a l k = absurd (omega arith)
-least_within n e h (suc fuel) a l k = elim (cases_Bool (any_below (λ y. e y a) a)) [
+least_within : {n : ℕ} {e : ℕ → ℕ → Bool} → IsEquivalenceBelow n e → (fuel a : ℕ) → a < n → a < fuel → LeastOf n e a
+least_within h zero a l k = absurd (omega arith)
+least_within {n} {e} h (suc fuel) a l k = elim (cases_Bool (any_below (λ y. e y a) a)) [
   | inl some ↦
       let found = found_below (λ y. e y a) a some in
-      let lower : LeastOf n e found.0 = least_within n e h fuel found.0 (omega (arith, found.1)) (omega (arith, found.1)) in
+      let lower : LeastOf n e found.0 = least_within h fuel found.0 (omega (arith, found.1)) (omega (arith, found.1)) in
       record {
         least = lower.least;
         within = omega (arith, lower.within, found.1);
@@ -95,9 +95,9 @@ none_lower e x y first less related =
     both_ways (is_least e x) (not_from_true (any_below (λ z. e z x) x) (passes_below (λ z. e z x) x y less related)) first
 
 -- two least numbers of one class are equal
-one_least : (n : ℕ) (e : ℕ → ℕ → Bool) → IsEquivalenceBelow n e → (x y : ℕ) → x < n → y < n → is_least e x ≡ true → is_least e y ≡ true
+one_least : {n : ℕ} {e : ℕ → ℕ → Bool} → IsEquivalenceBelow n e → (x y : ℕ) → x < n → y < n → is_least e x ≡ true → is_least e y ≡ true
     → e x y ≡ true → x ≡ y
-one_least n e h x y l k first second related = elim (cases_lt x y) [
+one_least {e} h x y l k first second related = elim (cases_lt x y) [
   | inl less ↦ absurd (none_lower e y x second less related)
   | inr more ↦ elim (cases_lt y x) [
     | inl less ↦ absurd (none_lower e x y first less (h.back x y l k related))
@@ -106,10 +106,10 @@ one_least n e h x y l k first second related = elim (cases_lt x y) [
 ]
 
 -- the lower one of two classes takes the other in: that one's least number is least no longer
-one_less_ordered : (n : ℕ) (e merged : ℕ → ℕ → Bool) (a b la lb : ℕ) → IsEquivalenceBelow n e → MergesClasses n e merged a b
+one_less_ordered : {n : ℕ} {e merged : ℕ → ℕ → Bool} {a b : ℕ} (la lb : ℕ) → IsEquivalenceBelow n e → MergesClasses n e merged a b
     → a < n → b < n → la < n → lb < n → e la a ≡ true → e lb b ≡ true → is_least e la ≡ true → is_least e lb ≡ true → la < lb
     → class_count e n ≡ suc (class_count merged n)
-one_less_ordered n e merged a b la lb h m a_in b_in la_in lb_in to_a to_b first_a first_b less =
+one_less_ordered {n} {e} {merged} {a} {b} la lb h m a_in b_in la_in lb_in to_a to_b first_a first_b less =
     count_less (is_least e) (is_least merged) n lb lb_in first_b gone same
   where
     gone : is_least merged lb ≡ false
@@ -120,9 +120,9 @@ one_less_ordered n e merged a b la lb h m a_in b_in la_in lb_in to_a to_b first_
     taken_in x y l k ne first is = elim (m.only y x (omega arith) l is) [
       | inl related ↦ none_lower e x y first k related
       | inr crossed ↦ elim crossed [
-        | inl p ↦ ne (one_least n e h x lb l lb_in first first_b (h.on x b lb l b_in lb_in p.1 (h.back lb b lb_in b_in to_b)))
+        | inl p ↦ ne (one_least h x lb l lb_in first first_b (h.on x b lb l b_in lb_in p.1 (h.back lb b lb_in b_in to_b)))
         | inr p ↦
-            let x_is : x ≡ la = one_least n e h x la l la_in first first_a (h.on x a la l a_in la_in p.1 (h.back la a la_in a_in to_a)) in
+            let x_is : x ≡ la = one_least h x la l la_in first first_a (h.on x a la l a_in la_in p.1 (h.back la a la_in a_in to_a)) in
             none_lower e lb y first_b (omega arith) (h.on y b lb (omega arith) b_in lb_in p.0 (h.back lb b lb_in b_in to_b))
       ]
     ]
@@ -140,31 +140,29 @@ one_less_ordered n e merged a b la lb h m a_in b_in la_in lb_in to_a to_b first_
           ap not (none ∙ sym still)
     ]
 
-turned : (n : ℕ) (e merged : ℕ → ℕ → Bool) (a b : ℕ) → MergesClasses n e merged a b → MergesClasses n e merged b a
-turned n e merged a b m = record {
+turned : {n : ℕ} {e merged : ℕ → ℕ → Bool} {a b : ℕ} → MergesClasses n e merged a b → MergesClasses n e merged b a
+turned m = record {
   only = λ x y l k is. elim (m.only x y l k is) [ inl p ↦ inl p | inr p ↦ inr (elim p [ inl q ↦ inr q | inr q ↦ inl q ]) ];
   all = λ x y l k is. m.all x y l k (elim is [ inl p ↦ inl p | inr p ↦ inr (elim p [ inl q ↦ inr q | inr q ↦ inl q ]) ]);
 }
 
 -- two classes made one are one class less
-pub one_class_less : (n : ℕ) (e merged : ℕ → ℕ → Bool) (a b : ℕ) → IsEquivalenceBelow n e → MergesClasses n e merged a b → a < n → b < n
+pub one_class_less : {n : ℕ} {e merged : ℕ → ℕ → Bool} {a b : ℕ} → IsEquivalenceBelow n e → MergesClasses n e merged a b → a < n → b < n
     → e a b ≡ false
     → class_count e n ≡ suc (class_count merged n)
-one_class_less n e merged a b h m a_in b_in apart =
-    let one : LeastOf n e a = least_within n e h (suc a) a a_in (omega arith) in
-    let two : LeastOf n e b = least_within n e h (suc b) b b_in (omega arith) in
+one_class_less {n} {e} {a} {b} h m a_in b_in apart =
+    let one : LeastOf n e a = least_within h (suc a) a a_in (omega arith) in
+    let two : LeastOf n e b = least_within h (suc b) b b_in (omega arith) in
     let la_in : one.least < n = omega (arith, one.within) in
     let lb_in : two.least < n = omega (arith, two.within) in
     elim (cases_lt one.least two.least) [
-      | inl less ↦ one_less_ordered n e merged a b one.least two.least h m a_in b_in la_in lb_in one.related two.related one.first
-          two.first less
+      | inl less ↦ one_less_ordered one.least two.least h m a_in b_in la_in lb_in one.related two.related one.first two.first less
       | inr more ↦ elim (cases_eq one.least two.least) [
         | inl same ↦
-            absurd (both_ways (e a b) apart
-            (h.on a one.least b a_in la_in b_in (h.back one.least a la_in a_in one.related)
+            absurd (both_ways (e a b) apart (h.on a one.least b a_in la_in b_in (h.back one.least a la_in a_in one.related)
             (subst (λ (x : ℕ). e x b ≡ true) (sym same) two.related)))
         | inr other ↦
-            one_less_ordered n e merged b a two.least one.least h (turned n e merged a b m) b_in a_in lb_in la_in two.related
+            one_less_ordered two.least one.least h (turned m) b_in a_in lb_in la_in two.related
             one.related two.first one.first (omega arith)
       ]
     ]

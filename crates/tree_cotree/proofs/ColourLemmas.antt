@@ -16,9 +16,9 @@ use Rattle.tree_cotree.proofs.KindLemmas.{tree_kind, cotree_kind}
 use Rattle.tree_cotree.proofs.SplittingLemmas.{split_of_ways}
 use Rattle.tree_cotree.proofs.ColourTrees.{rooted_within}
 
-pub coloured_trees_are_of_a_split : (s : OrientedMesh) (colouring : ColouringView) → IsOrientedSurface s
+pub coloured_trees_are_of_a_split : {s : OrientedMesh} {colouring : ColouringView} → IsOrientedSurface s
     → HasColouredTrees s colouring → IsColouring s colouring
-coloured_trees_are_of_a_split s colouring o c =
+coloured_trees_are_of_a_split {s} {colouring} o c =
     let maps : Rotations = rotations_of s in
     let r : IsRotationSystem maps = rotation_system s o in
     let names : NamesAll s = names_all s o in
@@ -30,27 +30,23 @@ coloured_trees_are_of_a_split s colouring o c =
     subst (IsSpanningTree maps maps.origin (is_used s.mesh) s.mesh.count (length s.table)) tree_set c.trees.tree in
     let cotree : IsSpanningTree maps maps.face (λ f. true) (length s.mesh.faces) (length s.table) (has_kind kinds Cotree) =
     subst (IsSpanningTree maps maps.face (λ f. true) (length s.mesh.faces) (length s.table)) cotree_set c.trees.cotree in
-    let up = rooted_within maps maps.origin (is_used s.mesh) s.mesh.count (length s.table) (has_kind kinds Tree) 0 r
-    (vertex_nodes s names) tree (some_dart s o) in
+    let up = rooted_within 0 r (vertex_nodes names) tree (some_dart o) in
     let top = names.each_face colouring.root_face c.root_below in
-    let found = rooted_within maps maps.face (λ f. true) (length s.mesh.faces) (length s.table) (has_kind kinds Cotree) top.0 r
-    (face_nodes s names) cotree top.1 in
+    let found = rooted_within top.0 r (face_nodes names) cotree top.1 in
     let across : IsRooted maps maps.face (has_kind kinds Cotree) (length s.mesh.faces) colouring.root_face found.0 =
     subst (λ f. IsRooted maps maps.face (has_kind kinds Cotree) (length s.mesh.faces) f found.0) top.2 found.1 in
-    let below = faces_there maps found.0 (length s.table)
-    (kept_apart maps maps.face (has_kind kinds Cotree) (length s.mesh.faces) colouring.root_face found.0 r across)
-    (λ v x e. names.edge_below x (across.within v x e)) (length found.0) in
+    let below = faces_there (length s.table) (kept_apart r across) (λ v x e. names.edge_below x (across.within v x e)) (length found.0) in
     record {
       split = made_split kinds up.0 below.0 colouring.root_face colouring.genus;
-      is_split = split_of_ways s o colouring up.0 found.0 below.0 (maps.origin 0) c up.1 across below.1 below.2;
+      is_split = split_of_ways o below.0 c up.1 across below.1 below.2;
       tells = refl {a = colouring};
     }
 
-pub split_tells : (s : OrientedMesh) (split : SplitView) → IsSplit s split → IsColouring s (colouring_of split)
-split_tells s split is = record { split = split; is_split = is; tells = refl }
+pub split_tells : {s : OrientedMesh} {split : SplitView} → IsSplit s split → IsColouring s (colouring_of split)
+split_tells {split} is = record { split = split; is_split = is; tells = refl }
 
-pub colourings_have_trees : (s : OrientedMesh) (colouring : ColouringView) → IsColouring s colouring → HasColouredTrees s colouring
-colourings_have_trees s colouring c =
+pub colourings_have_trees : {s : OrientedMesh} {colouring : ColouringView} → IsColouring s colouring → HasColouredTrees s colouring
+colourings_have_trees {s} c =
     subst (HasColouredTrees s) c.tells (record {
       trees = record {
         each_edge = c.is_split.trees.each_edge;
@@ -62,5 +58,5 @@ colourings_have_trees s colouring c =
       genus = c.is_split.genus;
     })
 
-pub trees_of : (s : OrientedMesh) (colouring : ColouringView) → IsColouring s colouring → HasTrees s (without_ways colouring)
-trees_of s colouring c = (colourings_have_trees s colouring c).trees
+pub trees_of : {s : OrientedMesh} {colouring : ColouringView} → IsColouring s colouring → HasTrees s (without_ways colouring)
+trees_of c = (colourings_have_trees c).trees

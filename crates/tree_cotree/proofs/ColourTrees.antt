@@ -29,10 +29,10 @@ none_kept (suc n) zero = refl
 none_kept (suc n) (suc v) = none_kept n v
 
 -- the root alone
-root_grown : (maps : Rotations) (node : ℕ → ℕ) (is_node : ℕ → Bool) (bound edges : ℕ) (tree : ℕ → Bool) (root : ℕ)
+root_grown : {maps : Rotations} {node : ℕ → ℕ} {is_node : ℕ → Bool} {bound edges : ℕ} (tree : ℕ → Bool) (root : ℕ)
     → HasNodes maps node is_node bound edges → root < maps.darts
     → IsGrown maps node is_node bound tree (node root) (replicate bound None) (with_one (λ v. false) (node root))
-root_grown maps node is_node bound edges tree root n l = record {
+root_grown {node} {is_node} {bound} tree root n l = record {
   long = length-replicate bound None;
   rooted = with_itself (λ v. false) (node root);
   none = none_kept bound (node root);
@@ -54,20 +54,19 @@ root_grown maps node is_node bound edges tree root n l = record {
     ]
 
 -- one node more, across a dart of the set that leads out of the nodes
-one_more : (maps : Rotations) (node : ℕ → ℕ) (is_node : ℕ → Bool) (bound edges : ℕ) (tree : ℕ → Bool) (root : ℕ)
-    (from : List (Option ℕ)) (nodes : ℕ → Bool) (d : ℕ)
+one_more : {maps : Rotations} {node : ℕ → ℕ} {is_node : ℕ → Bool} {bound edges : ℕ} {tree : ℕ → Bool} {root : ℕ}
+    {from : List (Option ℕ)} {nodes : ℕ → Bool} (d : ℕ)
     → IsRotationSystem maps → HasNodes maps node is_node bound edges → IsGrown maps node is_node bound tree root from nodes
     → d < maps.darts → tree (maps.edge d) ≡ true → nodes (node d) ≡ true → nodes (node (maps.twin d)) ≡ false
-    → IsGrown maps node is_node bound tree root (set from (node (maps.twin d)) (Some (maps.twin d)))
-    (with_one nodes (node (maps.twin d)))
-one_more maps node is_node bound edges tree root from nodes d r n h d_in in_set inner outer = record {
+    → IsGrown maps node is_node bound tree root (set from (node (maps.twin d)) (Some (maps.twin d))) (with_one nodes (node (maps.twin d)))
+one_more {maps} {node} {is_node} {tree} {root} {from} {nodes} d r n h d_in in_set inner outer = record {
   long = length-set from new (Some twin) ∙ h.long;
   rooted = with_keeps nodes new root h.rooted;
   none = kept_other from new root twin (λ e. both_ways (nodes new) outer (subst (λ v. nodes v ≡ true) e h.rooted)) ∙ h.none;
   within = λ v x e. elim (kept_now v x e) [ inl last ↦ subst (λ y. y < maps.darts) (sym last.1) twin_in | inr old ↦ h.within v x old ];
   of_node = λ v x e. elim (kept_now v x e) [ inl last ↦ ap node last.1 ∙ sym last.0 | inr old ↦ h.of_node v x old ];
   inside = λ v x e. elim (kept_now v x e) [
-    | inl last ↦ ap (λ y. tree (maps.edge y)) last.1 ∙ ap tree (sym (twin_edge maps r d d_in)) ∙ in_set
+    | inl last ↦ ap (λ y. tree (maps.edge y)) last.1 ∙ ap tree (sym (twin_edge r d d_in)) ∙ in_set
     | inr old ↦ h.inside v x old
   ];
   listed = λ v x e. elim (kept_now v x e) [
@@ -113,22 +112,20 @@ one_more maps node is_node bound edges tree root from nodes d r n h d_in in_set 
     ]
 
     still : (v : ℕ) → nodes v ≡ true → AreJoined (LeadsUp maps node kept) v root
-    still v is = joined_by (LeadsUp maps node from) (LeadsUp maps node kept)
-        (λ u w step. (
-          step.0,
-          kept_other from new u twin (λ e. both_ways (nodes new) outer (subst (λ y. nodes y ≡ true) e (h.listed u step.0 step.1))) ∙ step.1,
-          step.2,
-        ))
-        v root (h.to_root v is)
+    still v is = joined_by (LeadsUp maps node from) (LeadsUp maps node kept) (λ u w step. (
+      step.0,
+      kept_other from new u twin (λ e. both_ways (nodes new) outer (subst (λ y. nodes y ≡ true) e (h.listed u step.0 step.1))) ∙ step.1,
+      step.2,
+    )) v root (h.to_root v is)
 
 -- all nodes, one after another
-grow_all : (maps : Rotations) (node : ℕ → ℕ) (is_node : ℕ → Bool) (bound edges : ℕ) (tree : ℕ → Bool) (root : ℕ)
+grow_all : {maps : Rotations} {node : ℕ → ℕ} {is_node : ℕ → Bool} {bound edges : ℕ} {tree : ℕ → Bool} (root : ℕ)
     → IsRotationSystem maps → HasNodes maps node is_node bound edges → IsSpanningTree maps node is_node bound edges tree
     → root < maps.darts
-    → (left : ℕ) (from : List (Option ℕ)) (nodes : ℕ → Bool) → count_below nodes bound + left ≡ count_below is_node bound
+    → (left : ℕ) {from : List (Option ℕ)} {nodes : ℕ → Bool} → count_below nodes bound + left ≡ count_below is_node bound
     → IsGrown maps node is_node bound tree (node root) from nodes
     → (kept : List (Option ℕ)) × IsRooted maps node tree bound (node root) kept
-grow_all maps node is_node bound edges tree root r n t root_in zero from nodes count h =
+grow_all {node} {is_node} {bound} root r n t root_in zero {from} {nodes} count h =
     let all : (v : ℕ) → v < bound → nodes v ≡ is_node v = same_from_count nodes is_node bound h.are_nodes (omega arith) in (
       from,
       record {
@@ -141,7 +138,7 @@ grow_all maps node is_node bound edges tree root r n t root_in zero from nodes c
         to_root = λ d l. h.to_root (node d) (all (node d) (n.node_within d l) ∙ n.is_of_dart d l);
       },
     )
-grow_all maps node is_node bound edges tree root r n t root_in (suc left) from nodes count h =
+grow_all {maps} {node} {is_node} {bound} {tree} root r n t root_in (suc left) {nodes} count h =
     elim (some_outside nodes is_node bound) [
       | inr none ↦
           let few : count_below is_node bound ≤ count_below nodes bound = count_few is_node nodes bound none in
@@ -158,21 +155,18 @@ grow_all maps node is_node bound edges tree root r n t root_in (suc left) from n
           let v : ℕ = node (maps.twin d) in
           let more : count_below (with_one nodes v) bound ≡ suc (count_below nodes bound) =
           count_with nodes bound v (n.node_within (maps.twin d) (r.twin_within d is.within)) outer in
-          grow_all maps node is_node bound edges tree root r n t root_in left (set from v (Some (maps.twin d))) (with_one nodes v)
-          (omega (arith, count, more))
-          (one_more maps node is_node bound edges tree (node root) from nodes d r n h is.within is.in_set inner outer)
+          grow_all root r n t root_in left (omega (arith, count, more)) (one_more d r n h is.within is.in_set inner outer)
     ]
 
 -- a set that spans the nodes has, from each root, a tree within it
-pub rooted_within : (maps : Rotations) (node : ℕ → ℕ) (is_node : ℕ → Bool) (bound edges : ℕ) (tree : ℕ → Bool) (root : ℕ)
+pub rooted_within : {maps : Rotations} {node : ℕ → ℕ} {is_node : ℕ → Bool} {bound edges : ℕ} {tree : ℕ → Bool} (root : ℕ)
     → IsRotationSystem maps → HasNodes maps node is_node bound edges → IsSpanningTree maps node is_node bound edges tree
     → root < maps.darts
     → (kept : List (Option ℕ)) × IsRooted maps node tree bound (node root) kept
-rooted_within maps node is_node bound edges tree root r n t root_in =
+rooted_within {maps} {node} {is_node} {bound} {tree} root r n t root_in =
     let start : IsGrown maps node is_node bound tree (node root) (replicate bound None) (with_one (λ v. false) (node root)) =
-    root_grown maps node is_node bound edges tree root n root_in in
+    root_grown tree root n root_in in
     let few : count_below (with_one (λ v. false) (node root)) bound ≤ count_below is_node bound =
     count_few (with_one (λ v. false) (node root)) is_node bound start.are_nodes in
-    grow_all maps node is_node bound edges tree root r n t root_in
-    (count_below is_node bound - count_below (with_one (λ v. false) (node root)) bound) (replicate bound None)
-    (with_one (λ v. false) (node root)) (omega (arith, few)) start
+    grow_all root r n t root_in (count_below is_node bound - count_below (with_one (λ v. false) (node root)) bound)
+    (omega (arith, few)) start

@@ -19,10 +19,10 @@ use Rattle.tree_cotree.proofs.TreeLemmas.{same_itself}
 use Rattle.tree_cotree.proofs.KindLemmas.{all_left, other_kind, tree_kind, cotree_kind, left_kind}
 use Rattle.tree_cotree.proofs.JoiningLemmas.{IsJoining, joining_none, joining_skip, joining_same, joining_set, joining_apart, ends_within, joined_spans}
 
-pub has_nodes : (s : OrientedMesh) → IsOrientedSurface s → (nodes : Nodes)
+pub has_nodes : {s : OrientedMesh} → IsOrientedSurface s → (nodes : Nodes)
     → HasNodes (rotations_of s) (node_of nodes (rotations_of s)) (is_node_of nodes s) (bound_of nodes s) (length s.table)
-has_nodes s o Vertices = vertex_nodes s (names_all s o)
-has_nodes s o Faces = face_nodes s (names_all s o)
+has_nodes {s} o Vertices = vertex_nodes (names_all s o)
+has_nodes {s} o Faces = face_nodes (names_all s o)
 
 -- edges that span nodes are not left over
 pub kind_not_left : (nodes : Nodes) → same_kind Left (kind_over nodes) ≡ false
@@ -51,26 +51,23 @@ spanning_none s nodes kind old least is free = record {
 }
 
 -- an edge that is left was left before
-was_left : (s : OrientedMesh) (nodes : Nodes) (kind : Kind) (old : List Kind) (n e : ℕ) (least : List ℕ) (kinds : List Kind)
+was_left : {s : OrientedMesh} {nodes : Nodes} {kind : Kind} {old : List Kind} {n : ℕ} (e : ℕ) {least : List ℕ} {kinds : List Kind}
     → same_kind Left kind ≡ false → has_kind kinds Left e ≡ true → IsSpanning s nodes kind old n least kinds → has_kind old Left e ≡ true
-was_left s nodes kind old n e least kinds other left h =
-    ap (λ k. same_kind k Left) (sym (h.others e (other_kind kinds Left kind e other left))) ∙ left
+was_left {kind} e {kinds} other left h = ap (λ k. same_kind k Left) (sym (h.others e (other_kind kinds Left kind e other left))) ∙ left
 
 -- an edge whose nodes are apart joins them
-spanning_more : (s : OrientedMesh) (nodes : Nodes) (kind : Kind) (old : List Kind) (n m : ℕ) (least : List ℕ) (kinds : List Kind) (x y : ℕ)
+spanning_more : {s : OrientedMesh} {nodes : Nodes} {kind : Kind} {old : List Kind} {n m : ℕ} {least : List ℕ} {kinds : List Kind} {x y : ℕ}
     → IsOrientedSurface s → m < length s.table → m < length kinds → same_kind Left kind ≡ false → has_kind kinds Left m ≡ true
     → AreEnds (rotations_of s) (node_of nodes (rotations_of s)) m x y → get_or least x 0 ≢ get_or least y 0
     → IsSpanning s nodes kind old n least kinds → IsSpanning s nodes kind old n (joined_at least x y) (set kinds m kind)
-spanning_more s nodes kind old n m least kinds x y o l b other left a apart h = record {
+spanning_more {s} {nodes} {kind} {old} {n} {m} {least} {kinds} {x} {y} o l b other left a apart h = record {
   long = length-set kinds m kind ∙ h.long;
   others = λ e out. elim (cases_eq e m) [
     | inl here ↦ absurd (both_ways (has_kind new kind e) out (ap (has_kind new kind) here ∙ at_m))
     | inr ne ↦ elsewhere e ne ∙ h.others e (ap (λ k. same_kind k kind) (sym (elsewhere e ne)) ∙ out)
   ];
   joining = subst (IsJoining maps node (is_node_of nodes s) (bound_of nodes s) (length s.table) (has_kind old Left) n (joined_at least x y))
-      (sym with_m)
-      (joining_apart maps node (is_node_of nodes s) (bound_of nodes s) (length s.table) (has_kind old Left) n m least (has_kind kinds kind)
-      x y (rotation_system s o) (has_nodes s o nodes) l (was_left s nodes kind old n m least kinds other left h)
+      (sym with_m) (joining_apart (rotation_system s o) (has_nodes o nodes) l (was_left m other left h)
       (other_kind kinds Left kind m other left) a apart h.joining);
 }
   where
@@ -101,12 +98,12 @@ spanning_more s nodes kind old n m least kinds x y o l b other left a apart h = 
     with_m = λ i e. with_m_at e i
 
 -- an edge is tried, whether its turn has come or not
-pub spanning_early : (s : OrientedMesh) (nodes : Nodes) (kind : Kind) (old : List Kind) (n m : ℕ) (least more : List ℕ)
-    (kinds new : List Kind)
+pub spanning_early : {s : OrientedMesh} {nodes : Nodes} {kind : Kind} {old : List Kind} {n m : ℕ} {least more : List ℕ}
+    {kinds new : List Kind}
     → IsOrientedSurface s → m < length s.table → m < length kinds → same_kind Left kind ≡ false
     → IsTried s nodes kind m least more kinds new → IsSpanning s nodes kind old n least kinds
     → IsSpanning s nodes kind old n more new
-spanning_early s nodes kind old n m least more kinds new o l b other tried h =
+spanning_early {s} {nodes} {kind} {old} {n} {m} {least} {more} {kinds} {new} o l b other tried h =
     elim (cases_Bool (has_kind kinds Left m)) [
       | inr out ↦ both least kinds (tried.other out).0 (tried.other out).1 h
       | inl left ↦
@@ -114,7 +111,7 @@ spanning_early s nodes kind old n m least more kinds new o l b other tried h =
           elim (cases_eq (get_or least t.x 0) (get_or least t.y 0)) [
             | inl same ↦ both least kinds (t.joined ∙ joined_at_same least t.x t.y same) (t.same same) h
             | inr apart ↦ both (joined_at least t.x t.y) (set kinds m kind) t.joined (t.apart apart)
-                (spanning_more s nodes kind old n m least kinds t.x t.y o l b other left t.ends apart h)
+                (spanning_more o l b other left t.ends apart h)
           ])
     ]
   where
@@ -124,64 +121,58 @@ spanning_early s nodes kind old n m least more kinds new o l b other tried h =
         subst (λ r. IsSpanning s nodes kind old n r new) (sym is) (subst (IsSpanning s nodes kind old n classes) (sym sets) h)
 
 -- the turn of an edge passes: its nodes are in one class, or it is in the set, or it was not left
-spanning_joined : (s : OrientedMesh) (nodes : Nodes) (kind : Kind) (old : List Kind) (n : ℕ) (least : List ℕ) (kinds : List Kind) (x y : ℕ)
+spanning_joined : {s : OrientedMesh} {nodes : Nodes} {kind : Kind} {old : List Kind} {n : ℕ} {least : List ℕ} {kinds : List Kind} {x y : ℕ}
     → IsOrientedSurface s → AreEnds (rotations_of s) (node_of nodes (rotations_of s)) n x y → get_or least x 0 ≡ get_or least y 0
     → IsSpanning s nodes kind old n least kinds → IsSpanning s nodes kind old (n + 1) least kinds
-spanning_joined s nodes kind old n least kinds x y o a same h = record {
+spanning_joined {s} o a same h = record {
   long = h.long;
   others = h.others;
-  joining = joining_same (rotations_of s) (node_of nodes (rotations_of s)) (is_node_of nodes s) (bound_of nodes s) (length s.table)
-      (has_kind old Left) n least (has_kind kinds kind) x y (rotation_system s o) a same h.joining;
+  joining = joining_same (rotation_system s o) a same h.joining;
 }
 
-spanning_passed : (s : OrientedMesh) (nodes : Nodes) (kind : Kind) (old : List Kind) (n : ℕ) (least : List ℕ) (kinds : List Kind)
+spanning_passed : {s : OrientedMesh} {nodes : Nodes} {kind : Kind} {old : List Kind} {n : ℕ} {least : List ℕ} {kinds : List Kind}
     → n < length s.table → has_kind kinds Left n ≡ false → IsSpanning s nodes kind old n least kinds
     → IsSpanning s nodes kind old (n + 1) least kinds
-spanning_passed s nodes kind old n least kinds l out h = record {
+spanning_passed {kind} {n} {kinds} l out h = record {
   long = h.long;
   others = h.others;
   joining = elim (cases_Bool (has_kind kinds kind n)) [
     | inl kept ↦
-        joining_set (rotations_of s) (node_of nodes (rotations_of s)) (is_node_of nodes s) (bound_of nodes s) (length s.table)
-        (has_kind old Left) n least (has_kind kinds kind) l kept h.joining
+        joining_set l kept h.joining
     | inr free ↦
-        joining_skip (rotations_of s) (node_of nodes (rotations_of s)) (is_node_of nodes s) (bound_of nodes s) (length s.table)
-        (has_kind old Left) n least (has_kind kinds kind) (ap (λ k. same_kind k Left) (sym (h.others n free)) ∙ out) h.joining
+        joining_skip (ap (λ k. same_kind k Left) (sym (h.others n free)) ∙ out) h.joining
   ];
 }
 
 -- an edge is tried in its turn
-pub spanning_next : (s : OrientedMesh) (nodes : Nodes) (kind : Kind) (old : List Kind) (n : ℕ) (least more : List ℕ)
-    (kinds new : List Kind)
+pub spanning_next : {s : OrientedMesh} {nodes : Nodes} {kind : Kind} {old : List Kind} {n : ℕ} {least more : List ℕ}
+    {kinds new : List Kind}
     → IsOrientedSurface s → n < length s.table → n < length kinds → same_kind Left kind ≡ false
     → IsTried s nodes kind n least more kinds new → IsSpanning s nodes kind old n least kinds
     → IsSpanning s nodes kind old (n + 1) more new
-spanning_next s nodes kind old n least more kinds new o l b other tried h =
+spanning_next {s} {nodes} {kind} {old} {n} {least} {more} {kinds} {new} o l b other tried h =
     elim (cases_Bool (has_kind kinds Left n)) [
       | inr out ↦
-          spanning_passed s nodes kind old n more new l (ap (λ (ks : List Kind). has_kind ks Left n) (tried.other out).1 ∙ out) after
+          spanning_passed l (ap (λ (ks : List Kind). has_kind ks Left n) (tried.other out).1 ∙ out) after
       | inl left ↦
           (let t = tried.left left in
-          let at = ends_within (rotations_of s) (node_of nodes (rotations_of s)) (is_node_of nodes s) (bound_of nodes s) (length s.table)
-          n t.x t.y (rotation_system s o) (has_nodes s o nodes) t.ends in
-          let one : get_or more t.x 0 ≡ get_or more t.y 0 =
-          ap (λ (r : List ℕ). get_or r t.x 0) t.joined
+          let at = ends_within (rotation_system s o) (has_nodes o nodes) t.ends in
+          let one : get_or more t.x 0 ≡ get_or more t.y 0 = ap (λ (r : List ℕ). get_or r t.x 0) t.joined
           ∙ joined_at_ends least t.x t.y (omega (arith, at.0.0, h.joining.long)) (omega (arith, at.1.0, h.joining.long))
           ∙ sym (ap (λ (r : List ℕ). get_or r t.y 0) t.joined) in
-          spanning_joined s nodes kind old n more new t.x t.y o t.ends one after)
+          spanning_joined o t.ends one after)
     ]
   where
     after : IsSpanning s nodes kind old n more new
-    after = spanning_early s nodes kind old n n least more kinds new o l b other tried h
+    after = spanning_early o l b other tried h
 
-pub spanning_all : (s : OrientedMesh) (nodes : Nodes) (kind : Kind) (old : List Kind) (n : ℕ) (least : List ℕ) (kinds : List Kind)
+pub spanning_all : {s : OrientedMesh} {nodes : Nodes} {kind : Kind} {old : List Kind} {n : ℕ} {least : List ℕ} {kinds : List Kind}
     → IsOrientedSurface s → HangTogether (rotations_of s) (node_of nodes (rotations_of s)) (has_kind old Left) → length s.table ≤ n
     → IsSpanning s nodes kind old n least kinds
     → AreSpanned s nodes kind old kinds
-spanning_all s nodes kind old n least kinds o together all h = record {
+spanning_all {nodes} o together all h = record {
   long = h.long;
-  spans = joined_spans (rotations_of s) (node_of nodes (rotations_of s)) (is_node_of nodes s) (bound_of nodes s) (length s.table)
-      (has_kind old Left) n least (has_kind kinds kind) (has_nodes s o nodes) (some_dart s o) together all h.joining;
+  spans = joined_spans (has_nodes o nodes) (some_dart o) together all h.joining;
   were_left = h.joining.within;
   others = h.others;
 }
@@ -198,41 +189,40 @@ along_darts maps inside all u v (w ∷ path) p =
       along_darts maps inside all w v path p.1,
     )
 
-pub all_hang : (s : OrientedMesh) (inside : ℕ → Bool) → IsOrientedSurface s
+pub all_hang : {s : OrientedMesh} (inside : ℕ → Bool) → IsOrientedSurface s
     → ((d : ℕ) → d < (rotations_of s).darts → inside ((rotations_of s).edge d) ≡ true)
     → HangTogether (rotations_of s) (rotations_of s).origin inside
-all_hang s inside o all d e l k =
+all_hang {s} inside o all d e l k =
     let maps : Rotations = rotations_of s in
     let way = (rotation_system s o).connected d e l k in
     (way.0, along_darts maps inside all (maps.origin d) (maps.origin e) way.0 way.1)
 
-pub vertices_hang : (s : OrientedMesh) (k0 : List Kind) → IsOrientedSurface s → k0 ≡ replicate (length s.table) Left
+pub vertices_hang : {s : OrientedMesh} (k0 : List Kind) → IsOrientedSurface s → k0 ≡ replicate (length s.table) Left
     → HangTogether (rotations_of s) (rotations_of s).origin (has_kind k0 Left)
-vertices_hang s k0 o first =
-    all_hang s (has_kind k0 Left) o
+vertices_hang {s} k0 o first =
+    all_hang (has_kind k0 Left) o
     (λ x b. ap (λ z. same_kind z Left) (all_left s k0 ((rotations_of s).edge x) first ((names_all s o).edge_below x b)))
 
 -- an edge outside the tree is left
-left_outside : (s : OrientedMesh) (k0 k1 : List Kind) (e : ℕ) → k0 ≡ replicate (length s.table) Left
+left_outside : {s : OrientedMesh} {k0 k1 : List Kind} (e : ℕ) → k0 ≡ replicate (length s.table) Left
     → AreSpanned s Vertices Tree k0 k1 → e < length s.table → has_kind k1 Tree e ≡ false → has_kind k1 Left e ≡ true
-left_outside s k0 k1 e first t l out = ap (λ k. same_kind k Left) (t.others e out ∙ all_left s k0 e first l)
+left_outside {s} {k0} e first t l out = ap (λ k. same_kind k Left) (t.others e out ∙ all_left s k0 e first l)
 
 -- the faces hang together across the edges outside the tree
-pub faces_hang : (s : OrientedMesh) (k0 k1 : List Kind) → IsOrientedSurface s → k0 ≡ replicate (length s.table) Left
+pub faces_hang : {s : OrientedMesh} {k0 k1 : List Kind} → IsOrientedSurface s → k0 ≡ replicate (length s.table) Left
     → AreSpanned s Vertices Tree k0 k1 → HangTogether (rotations_of s) (rotations_of s).face (has_kind k1 Left)
-faces_hang s k0 k1 o first t d e l k =
-    closed_holds_all maps (has_kind k1 Tree) (λ f. AreJoined steps (maps.face d) f) r ring
+faces_hang {s} {k1} o first t d e l k =
+    closed_holds_all (has_kind k1 Tree) (λ f. AreJoined steps (maps.face d) f) r ring
     (λ x b out reached. joined_trans steps (maps.face d) (maps.face x) (maps.face (maps.twin x)) reached
     (joined_step steps (maps.face x) (maps.face (maps.twin x)) (
       x,
       record {
         within = b;
-        in_set = left_outside s k0 k1 (maps.edge x) first t ((names_all s o).edge_below x b) out;
+        in_set = left_outside (maps.edge x) first t ((names_all s o).edge_below x b) out;
         starts = refl;
         ends = refl;
       },
-    )))
-    d e l k (joined_refl steps (maps.face d) (maps.face d) refl)
+    ))) d e l k (joined_refl steps (maps.face d) (maps.face d) refl)
   where
     maps : Rotations
     maps = rotations_of s
@@ -244,24 +234,24 @@ faces_hang s k0 k1 o first t d e l k =
     steps = StepsIn (rotations_of s) (rotations_of s).face (has_kind k1 Left)
 
     ring : HasOneRing maps (has_kind k1 Tree)
-    ring = tree_ring maps (is_used s.mesh) s.mesh.count (length s.table) (has_kind k1 Tree) r (vertex_nodes s (names_all s o)) t.spans
+    ring = tree_ring r (vertex_nodes (names_all s o)) t.spans
 
 -- no edge is of another kind than leftover at first, and none in the cotree after the tree
 pub none_before : (s : OrientedMesh) (k0 : List Kind) (kind : Kind) → k0 ≡ replicate (length s.table) Left → same_kind Left kind ≡ false
     → (e : ℕ) → e < length s.table → has_kind k0 kind e ≡ false
 none_before s k0 kind first other e l = ap (λ k. same_kind k kind) (all_left s k0 e first l) ∙ other
 
-pub none_between : (s : OrientedMesh) (k0 k1 : List Kind) → k0 ≡ replicate (length s.table) Left → AreSpanned s Vertices Tree k0 k1
+pub none_between : {s : OrientedMesh} {k0 k1 : List Kind} → k0 ≡ replicate (length s.table) Left → AreSpanned s Vertices Tree k0 k1
     → (e : ℕ) → e < length s.table → has_kind k1 Cotree e ≡ false
-none_between s k0 k1 first t e l = elim (cases_Bool (has_kind k1 Tree e)) [
+none_between {k1} first t e l = elim (cases_Bool (has_kind k1 Tree e)) [
   | inl is ↦ other_kind k1 Tree Cotree e refl is
-  | inr out ↦ other_kind k1 Left Cotree e refl (left_outside s k0 k1 e first t l out)
+  | inr out ↦ other_kind k1 Left Cotree e refl (left_outside e first t l out)
 ]
 
 -- the cotree leaves the tree as it is
-pub tree_stays : (s : OrientedMesh) (k1 k2 : List Kind) → length k1 ≡ length s.table → AreSpanned s Faces Cotree k1 k2 → (e : ℕ)
+pub tree_stays : {s : OrientedMesh} {k1 k2 : List Kind} → length k1 ≡ length s.table → AreSpanned s Faces Cotree k1 k2 → (e : ℕ)
     → has_kind k2 Tree e ≡ has_kind k1 Tree e
-tree_stays s k1 k2 long c e = elim (cases_Bool (has_kind k2 Cotree e)) [
+tree_stays {s} {k1} {k2} long c e = elim (cases_Bool (has_kind k2 Cotree e)) [
   | inr out ↦ ap (λ k. same_kind k Tree) (c.others e out)
   | inl is ↦ elim (cases_lt e (length s.table)) [
     | inl l ↦ other_kind k2 Cotree Tree e refl is ∙ sym (other_kind k1 Left Tree e refl (c.were_left e l is))
@@ -271,16 +261,14 @@ tree_stays s k1 k2 long c e = elim (cases_Bool (has_kind k2 Cotree e)) [
   ]
 ]
 
-coloured_trees : (s : OrientedMesh) (k0 k1 k2 : List Kind) (root genus : ℕ) → k0 ≡ replicate (length s.table) Left
+coloured_trees : {s : OrientedMesh} {k0 k1 k2 : List Kind} (root genus : ℕ) → k0 ≡ replicate (length s.table) Left
     → AreSpanned s Vertices Tree k0 k1 → AreSpanned s Faces Cotree k1 k2
     → HasTrees s (without_ways (record { kinds = k2; root_face = root; genus = genus }))
-coloured_trees s k0 k1 k2 root genus first t c =
+coloured_trees {s} {k1} {k2} root genus first t c =
     let maps : Rotations = rotations_of s in
     let colours : ColouringView = record { kinds = k2; root_face = root; genus = genus } in
-    let long : length k1 ≡ length s.table =
-    t.long ∙ ap (λ (ks : List Kind). length ks) first ∙ length-replicate (length s.table) Left in
-    let tree_set : in_tree (without_ways colours) ≡ has_kind k1 Tree = λ i e.
-    (tree_kind (get_or k2 e Tree) ∙ tree_stays s k1 k2 long c e) i in
+    let long : length k1 ≡ length s.table = t.long ∙ ap (λ (ks : List Kind). length ks) first ∙ length-replicate (length s.table) Left in
+    let tree_set : in_tree (without_ways colours) ≡ has_kind k1 Tree = λ i e. (tree_kind (get_or k2 e Tree) ∙ tree_stays long c e) i in
     let cotree_set : in_cotree (without_ways colours) ≡ has_kind k2 Cotree = λ i e. cotree_kind (get_or k2 e Tree) i in
     record {
       each_edge = c.long ∙ long;
@@ -289,18 +277,18 @@ coloured_trees s k0 k1 k2 root genus first t c =
     }
 
 -- what joining vertices and then faces makes
-pub coloured : (s : OrientedMesh) → IsOrientedSurface s → (k0 k1 k2 : List Kind) (start root genus : ℕ)
+pub coloured : {s : OrientedMesh} → IsOrientedSurface s → {k0 k1 k2 : List Kind} (start root genus : ℕ)
     → k0 ≡ replicate (length s.table) Left
     → AreSpanned s Vertices Tree k0 k1 → AreSpanned s Faces Cotree k1 k2 → start < (rotations_of s).darts
     → ((d : ℕ) → d < (rotations_of s).darts → has_kind k2 Left ((rotations_of s).edge d) ≡ true
     → has_kind k2 Left ((rotations_of s).edge start) ≡ true)
     → root ≡ (rotations_of s).face start → genus ≡ count_below (has_kind k2 Left) (length s.table) / 2
     → HasColouredTrees s (record { kinds = k2; root_face = root; genus = genus })
-coloured s o k0 k1 k2 start root genus first t c start_in start_left is_root half =
+coloured {s} o {k2} start root genus first t c start_in start_left is_root half =
     let maps : Rotations = rotations_of s in
     let colours : ColouringView = record { kinds = k2; root_face = root; genus = genus } in
     let split : SplitView = without_ways colours in
-    let trees : HasTrees s split = coloured_trees s k0 k1 k2 root genus first t c in
+    let trees : HasTrees s split = coloured_trees root genus first t c in
     let pairs = even s split o trees in
     let same : is_left split ≡ has_kind k2 Left = λ i e. left_kind (get_or k2 e Tree) i in
     let count : count_below (is_left split) (length s.table) ≡ count_below (has_kind k2 Left) (length s.table) =

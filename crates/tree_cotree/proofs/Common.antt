@@ -12,11 +12,11 @@ pub use Rattle.halfedge_map.specs.RotationSystems.{IsDartFrom, IsDartStep, IsRot
 pub use Rattle.std.proofs.Common.{Bool, List, ap, arith, cond, eqb, false, get_or, inl, inr, length, ltb, not, refl, rules, slice_index, subst, suc, sym, true, zero, ℕ, [], ◌&&◌, ◌*◌, ◌++◌, ◌+◌, ◌-◌, ◌/◌, ◌<◌, ◌||◌, ◌∙◌, ◌∷◌, ◌≡◌, ◌≢◌, ◌≤◌, ◌⊎◌}
 pub use Rattle.std.proofs.Math.ListN.{set}
 pub use Rattle.std.proofs.lemmas.Bool.{and_from, and_parts, and_right, both_ways, cases_Bool, cases_eq, cases_lt, cond-false, cond-true, eq-eqb, eqb-true, lt-ltb, ltb-true, not_from_false, not_from_true, or_cases, or_left, or_right}
-pub use Rattle.std.proofs.lemmas.List.{append-nil, append_assoc, get_or-append-add, get_or-append_right, get_or-map, get_or-replicate, get_or-set_other, get_or-set_same, get_or_append_left, get_or_default, get_or_past, get_or_push, get_or_read, length-append, length-map, length-replicate, length-set, length_push, map-append, with_items_is}
+pub use Rattle.std.proofs.lemmas.List.{append-nil, append_assoc, get_or-append_right, get_or-map, get_or-replicate, get_or-set_other, get_or-set_same, get_or_append_left, get_or_default, get_or_past, get_or_push, get_or_read, length-append, length-map, length-replicate, length-set, length_push, map-append, with_items_is}
 pub use Rattle.std.specs.Cmp.Derive.{one_truth}
 pub use Rattle.std.specs.List.{range_with_len}
 pub use Rattle.std.specs.Option.{option_map, option_to_list}
-pub use Rattle.std.specs.Prelude.{IfNone, IfSome, None, Option, Some, is_some, replicate, slice_get, swap}
+pub use Rattle.std.specs.Prelude.{Contains, IfNone, IfSome, None, Option, Some, is_some, replicate, slice_get, swap}
 pub use Rattle.surf_model.specs.Edges.{Edge, IsTableOf, edge_in}
 pub use Rattle.surf_model.specs.FaceLists.{FaceList, IsFaceList, is_used}
 pub use Rattle.surf_model.specs.Numbers.{count_below}

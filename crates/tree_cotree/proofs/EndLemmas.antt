@@ -8,9 +8,9 @@ use Rattle.surf_model.specs.Darts.{side_number}
 use Rattle.surf_model.specs.declared.edges.Side.{Side}
 use Rattle.tree_cotree.specs.Joinings.{AreEnds}
 
-pub vertices_at : (s : OrientedMesh) → IsOrientedSurface s → (k low high : ℕ) → k < length s.table → low ≡ (edge_in s.table k).low
+pub vertices_at : {s : OrientedMesh} → IsOrientedSurface s → (k low high : ℕ) → k < length s.table → low ≡ (edge_in s.table k).low
     → high ≡ (edge_in s.table k).high → AreEnds (rotations_of s) (origin_of s) k low high
-vertices_at s o k low high l is_low is_high =
+vertices_at {s} o k low high l is_low is_high =
     let there = (names_all s o).each_edge k l in
     let d : ℕ = there.0 in
     elim (between_is s o low high k d l (inl (sym is_low, sym is_high)) there.1 there.2) [
@@ -31,20 +31,20 @@ vertices_at s o k low high l is_low is_high =
     ]
 
 -- the sides of an edge are two
-pub second_side : (s : OrientedMesh) → IsOrientedSurface s → (k : ℕ) → k < length s.table → 1 < length (edge_in s.table k).sides
-second_side s o k l = omega (arith, two_sides s o k l)
+pub second_side : {s : OrientedMesh} → IsOrientedSurface s → (k : ℕ) → k < length s.table → 1 < length (edge_in s.table k).sides
+second_side {s} o k l = omega (arith, two_sides s o k l)
 
-pub faces_at : (s : OrientedMesh) → IsOrientedSurface s → (k : ℕ) (side other : Side) → k < length s.table
+pub faces_at : {s : OrientedMesh} → IsOrientedSurface s → (k : ℕ) (side other : Side) → k < length s.table
     → slice_get (edge_in s.table k).sides 0 ≡ Some side → slice_get (edge_in s.table k).sides 1 ≡ Some other
     → AreEnds (rotations_of s) (face_of s) k side.face.0 other.face.0
-faces_at s o k side other l first second =
+faces_at {s} o k side other l first second =
     let here : IsSideInTable s k side = side_got s o k 0 side l first in
     let there : IsSideInTable s k other = side_got s o k 1 other l second in
     let sides : List Side = (edge_in s.table k).sides in
     let d : ℕ = side_number s.mesh side in
     let e : ℕ = side_number s.mesh other in
     let rises : side_number s.mesh (get_or sides 0 side) < side_number s.mesh (get_or sides 1 side) =
-    edge_sides_rise s.mesh (edge_in s.table k) (table_edge s.mesh s.table k o.table l) 0 1 side (omega arith) (second_side s o k l) in
+    edge_sides_rise s.mesh (edge_in s.table k) (table_edge s.mesh s.table k o.table l) 0 1 side (omega arith) (second_side o k l) in
     let is_d : side_number s.mesh (get_or sides 0 side) ≡ d = ap (side_number s.mesh) (get_or_from_slice_get sides 0 side side first) in
     let is_e : side_number s.mesh (get_or sides 1 side) ≡ e = ap (side_number s.mesh) (get_or_from_slice_get sides 1 other side second) in
     let apart : e ≢ d = λ same. omega (arith, rises, is_d, is_e, same) in

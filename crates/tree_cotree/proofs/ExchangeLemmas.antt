@@ -4,10 +4,10 @@ use Rattle.tree_cotree.specs.RingCounts.{meets, ring_count, exchanged}
 use Rattle.tree_cotree.proofs.ClassLemmas.{found_below, passes_below, IsEquivalenceBelow, MergesClasses, one_class_less}
 
 -- reaching takes fewer than n steps
-pub reached_soon : (n : ℕ) (f : ℕ → ℕ) → IsPermutationBelow n f → (x : ℕ) → x < n → (fuel k y : ℕ) → k < fuel → after_steps f k x ≡ y
+pub reached_soon : {n : ℕ} {f : ℕ → ℕ} → IsPermutationBelow n f → (x : ℕ) → x < n → (fuel k y : ℕ) → k < fuel → after_steps f k x ≡ y
     → (j : ℕ) × (j < n) × (after_steps f j x ≡ y)
-reached_soon n f p x l zero k y few e = absurd (omega arith)
-reached_soon n f p x l (suc fuel) k y few e = elim (cases_lt k n) [
+reached_soon p x l zero k y few e = absurd (omega arith)
+reached_soon {n} {f} p x l (suc fuel) k y few e = elim (cases_lt k n) [
   | inl less ↦ (k, less, e)
   | inr more ↦
       let round : Returns n f x = returns_to n f p x l in
@@ -18,12 +18,12 @@ reached_soon n f p x l (suc fuel) k y few e = elim (cases_lt k n) [
       let sum : k - period + period ≡ k = omega (arith, round.few, more) in
       let shorter : after_steps f (k - period) x ≡ y =
       ap (after_steps f (k - period)) (sym back) ∙ sym (steps_add f (k - period) period x) ∙ ap (λ (m : ℕ). after_steps f m x) sum ∙ e in
-      reached_soon n f p x l fuel (k - period) y (omega (arith, round.few)) shorter
+      reached_soon p x l fuel (k - period) y (omega (arith, round.few)) shorter
 ]
 
-pub meets_from : (n : ℕ) (f : ℕ → ℕ) → IsPermutationBelow n f → (x y : ℕ) → x < n → IsReached f x y → meets f n x y ≡ true
-meets_from n f p x y l r =
-    let soon = reached_soon n f p x l (suc r.steps) r.steps y (omega arith) r.leads in
+pub meets_from : {n : ℕ} {f : ℕ → ℕ} → IsPermutationBelow n f → {x y : ℕ} → x < n → IsReached f x y → meets f n x y ≡ true
+meets_from {n} {f} p {x} {y} l r =
+    let soon = reached_soon p x l (suc r.steps) r.steps y (omega arith) r.leads in
     passes_below (λ k. eqb (after_steps f k x) y) n soon.0 soon.1 (eq-eqb (after_steps f soon.0 x) y soon.2)
 
 pub reached_from : (n : ℕ) (f : ℕ → ℕ) (x y : ℕ) → meets f n x y ≡ true → IsReached f x y
@@ -31,11 +31,11 @@ reached_from n f x y h =
     let found = found_below (λ k. eqb (after_steps f k x) y) n h in
     record { steps = found.0; leads = eqb-true (after_steps f found.0 x) y found.2 }
 
-pub rings_are_classes : (n : ℕ) (f : ℕ → ℕ) → IsPermutationBelow n f → IsEquivalenceBelow n (meets f n)
-rings_are_classes n f p = record {
-  itself = λ x l. meets_from n f p x x l (reached_refl f x);
-  back = λ x y l k h. meets_from n f p y x k (reached_back n f p x y l (reached_from n f x y h));
-  on = λ x y z l k m h j. meets_from n f p x z l (reached_trans f x y z (reached_from n f x y h) (reached_from n f y z j));
+pub rings_are_classes : {n : ℕ} {f : ℕ → ℕ} → IsPermutationBelow n f → IsEquivalenceBelow n (meets f n)
+rings_are_classes {n} {f} p = record {
+  itself = λ x l. meets_from p l (reached_refl f x);
+  back = λ x y l k h. meets_from p k (reached_back n f p x y l (reached_from n f x y h));
+  on = λ x y z l k m h j. meets_from p l (reached_trans f x y z (reached_from n f x y h) (reached_from n f y z j));
 }
 
 -- the values of the exchanged map
@@ -70,8 +70,8 @@ exchange_of f a b x ne = elim (cases_eq x a) [
   ]
 ]
 
-exchanged_within : (n : ℕ) (f : ℕ → ℕ) (a b : ℕ) → IsPermutationBelow n f → a < n → b < n → a ≢ b → (x : ℕ) → x < n → exchanged f a b x < n
-exchanged_within n f a b p a_in b_in ne x l = elim (exchange_of f a b x ne).is [
+exchanged_within : {n : ℕ} {f : ℕ → ℕ} (a b : ℕ) → IsPermutationBelow n f → a < n → b < n → a ≢ b → (x : ℕ) → x < n → exchanged f a b x < n
+exchanged_within {n} {f} a b p a_in b_in ne x l = elim (exchange_of f a b x ne).is [
   | inl first ↦ subst (λ (y : ℕ). y < n) (sym first.1) (p.within b b_in)
   | inr more ↦ elim more [
     | inl second ↦ subst (λ (y : ℕ). y < n) (sym second.1) (p.within a a_in)
@@ -93,10 +93,10 @@ exchanged_twice f a b ne x = elim (exchange_of (exchanged f a b) a b x ne).is [
   ]
 ]
 
-pub exchanged_permutes : (n : ℕ) (f : ℕ → ℕ) (a b : ℕ) → IsPermutationBelow n f → a < n → b < n → a ≢ b
+pub exchanged_permutes : {n : ℕ} {f : ℕ → ℕ} (a b : ℕ) → IsPermutationBelow n f → a < n → b < n → a ≢ b
     → IsPermutationBelow n (exchanged f a b)
-exchanged_permutes n f a b p a_in b_in ne = record {
-  within = exchanged_within n f a b p a_in b_in ne;
+exchanged_permutes {f} a b p a_in b_in ne = record {
+  within = exchanged_within a b p a_in b_in ne;
   injective = λ x y l k e. elim (exchange_of f a b x ne).is [
     | inl one ↦ elim (exchange_of f a b y ne).is [
       | inl two ↦ one.0 ∙ sym two.0
@@ -140,21 +140,21 @@ up_to_second f a b ne apart (suc k) z e off = elim (cases_eq z b) [
       reached_trans (exchanged f a b) z (f z) b (record { steps = 1; leads = step }) rest
 ]
 
-first_to_second : (n : ℕ) (f : ℕ → ℕ) (a b : ℕ) → IsPermutationBelow n f → a < n → b < n → a ≢ b → (IsReached f a b → ⊥)
+first_to_second : {n : ℕ} {f : ℕ → ℕ} (a b : ℕ) → IsPermutationBelow n f → a < n → b < n → a ≢ b → (IsReached f a b → ⊥)
     → IsReached (exchanged f a b) a b
-first_to_second n f a b p a_in b_in ne apart =
+first_to_second {n} {f} a b p a_in b_in ne apart =
     let round : Returns n f b = returns_to n f p b b_in in
     let off : IsReached f (f b) a → ⊥ = λ r. apart (reached_back n f p b a b_in (reached_trans f b (f b) a (reached_step f b) r)) in
     reached_trans (exchanged f a b) a (f b) b (record { steps = 1; leads = at_first f a b })
     (up_to_second f a b ne apart round.less (f b) round.back off)
 
 -- one step of f is some steps of the exchanged map
-step_still : (n : ℕ) (f : ℕ → ℕ) (a b : ℕ) → IsPermutationBelow n f → a < n → b < n → a ≢ b → (IsReached f a b → ⊥) → (x : ℕ)
+step_still : {n : ℕ} {f : ℕ → ℕ} (a b : ℕ) → IsPermutationBelow n f → a < n → b < n → a ≢ b → (IsReached f a b → ⊥) → (x : ℕ)
     → IsReached (exchanged f a b) x (f x)
-step_still n f a b p a_in b_in ne apart x =
+step_still {n} {f} a b p a_in b_in ne apart x =
     let g : ℕ → ℕ = exchanged f a b in
-    let over : IsReached g a b = first_to_second n f a b p a_in b_in ne apart in
-    let home : IsReached g b a = reached_back n g (exchanged_permutes n f a b p a_in b_in ne) a b a_in over in
+    let over : IsReached g a b = first_to_second a b p a_in b_in ne apart in
+    let home : IsReached g b a = reached_back n g (exchanged_permutes a b p a_in b_in ne) a b a_in over in
     elim (exchange_of f a b x ne).is [
       | inl first ↦
           subst (λ (y : ℕ). IsReached g y (f y)) (sym first.0)
@@ -167,25 +167,25 @@ step_still n f a b p a_in b_in ne apart x =
       ]
     ]
 
-still_reached : (n : ℕ) (f : ℕ → ℕ) (a b : ℕ) → IsPermutationBelow n f → a < n → b < n → a ≢ b → (IsReached f a b → ⊥) → (k x : ℕ)
+still_reached : {n : ℕ} {f : ℕ → ℕ} (a b : ℕ) → IsPermutationBelow n f → a < n → b < n → a ≢ b → (IsReached f a b → ⊥) → (k x : ℕ)
     → IsReached (exchanged f a b) x (after_steps f k x)
-still_reached n f a b p a_in b_in ne apart zero x = reached_refl (exchanged f a b) x
-still_reached n f a b p a_in b_in ne apart (suc k) x =
-    reached_trans (exchanged f a b) x (after_steps f k x) (f (after_steps f k x)) (still_reached n f a b p a_in b_in ne apart k x)
-    (step_still n f a b p a_in b_in ne apart (after_steps f k x))
+still_reached {f} a b p a_in b_in ne apart zero x = reached_refl (exchanged f a b) x
+still_reached {f} a b p a_in b_in ne apart (suc k) x =
+    reached_trans (exchanged f a b) x (after_steps f k x) (f (after_steps f k x)) (still_reached a b p a_in b_in ne apart k x)
+    (step_still a b p a_in b_in ne apart (after_steps f k x))
 
 -- x and y stand on one ring of f, or on those of a and b
 abbrev pub IsOnMerged : (ℕ → ℕ) → ℕ → ℕ → ℕ → ℕ → Type 0
 IsOnMerged f a b x y = IsReached f x y ⊎ ((IsReached f x a × IsReached f y b) ⊎ (IsReached f x b × IsReached f y a))
 
-further : (f : ℕ → ℕ) (x y : ℕ) → IsReached f x y → IsReached f x (f y)
-further f x y r = reached_trans f x y (f y) r (reached_step f y)
+further : {f : ℕ → ℕ} {x y : ℕ} → IsReached f x y → IsReached f x (f y)
+further {f} {x} {y} r = reached_trans f x y (f y) r (reached_step f y)
 
 -- a step of the exchanged map stays on the rings that became one
-stays_merged : (n : ℕ) (f : ℕ → ℕ) (a b : ℕ) → IsPermutationBelow n f → a < n → b < n → a ≢ b → (x y : ℕ) → x < n → y < n
+stays_merged : {n : ℕ} {f : ℕ → ℕ} (a b : ℕ) → IsPermutationBelow n f → a < n → b < n → a ≢ b → (x y : ℕ) → x < n → y < n
     → IsOnMerged f a b x y
     → IsOnMerged f a b x (exchanged f a b y)
-stays_merged n f a b p a_in b_in ne x y l k h =
+stays_merged {n} {f} a b p a_in b_in ne x y l k h =
     let before : (z : ℕ) → z < n → IsReached f (f z) z = λ z z_in. reached_back n f p z (f z) z_in (reached_step f z) in
     elim (exchange_of f a b y ne).is [
       | inl first ↦
@@ -193,7 +193,7 @@ stays_merged n f a b p a_in b_in ne x y l k h =
             | inl to_a ↦ inr (inl (to_a, before b b_in))
             | inr crossed ↦ elim crossed [
               | inl c ↦ inr (inl (c.0, before b b_in))
-              | inr c ↦ inl (further f x b c.0)
+              | inr c ↦ inl (further c.0)
             ]
           ] in
           subst (IsOnMerged f a b x) (sym first.1) (at_a (subst (IsOnMerged f a b x) first.0 h))
@@ -202,14 +202,14 @@ stays_merged n f a b p a_in b_in ne x y l k h =
             let at_b : IsOnMerged f a b x b → IsOnMerged f a b x (f a) = λ m. elim m [
               | inl to_b ↦ inr (inr (to_b, before a a_in))
               | inr crossed ↦ elim crossed [
-                | inl c ↦ inl (further f x a c.0)
+                | inl c ↦ inl (further c.0)
                 | inr c ↦ inr (inr (c.0, before a a_in))
               ]
             ] in
             subst (IsOnMerged f a b x) (sym second.1) (at_b (subst (IsOnMerged f a b x) second.0 h))
         | inr other ↦
             let plain : IsOnMerged f a b x (f y) = elim h [
-              | inl to_y ↦ inl (further f x y to_y)
+              | inl to_y ↦ inl (further to_y)
               | inr crossed ↦ inr (elim crossed [
                 | inl c ↦ inl (c.0, reached_trans f (f y) y b (before y k) c.1)
                 | inr c ↦ inr (c.0, reached_trans f (f y) y a (before y k) c.1)
@@ -219,34 +219,33 @@ stays_merged n f a b p a_in b_in ne x y l k h =
       ]
     ]
 
-merged_from : (n : ℕ) (f : ℕ → ℕ) (a b : ℕ) → IsPermutationBelow n f → a < n → b < n → a ≢ b → (x : ℕ) → x < n → (k : ℕ)
+merged_from : {n : ℕ} {f : ℕ → ℕ} (a b : ℕ) → IsPermutationBelow n f → a < n → b < n → a ≢ b → (x : ℕ) → x < n → (k : ℕ)
     → IsOnMerged f a b x (after_steps (exchanged f a b) k x)
-merged_from n f a b p a_in b_in ne x l zero = inl (reached_refl f x)
-merged_from n f a b p a_in b_in ne x l (suc k) =
-    stays_merged n f a b p a_in b_in ne x (after_steps (exchanged f a b) k x) l
-    (steps_within n (exchanged f a b) (exchanged_permutes n f a b p a_in b_in ne) k x l)
-    (merged_from n f a b p a_in b_in ne x l k)
+merged_from {f} a b p a_in b_in ne x l zero = inl (reached_refl f x)
+merged_from {n} {f} a b p a_in b_in ne x l (suc k) =
+    stays_merged a b p a_in b_in ne x (after_steps (exchanged f a b) k x) l
+    (steps_within n (exchanged f a b) (exchanged_permutes a b p a_in b_in ne) k x l) (merged_from a b p a_in b_in ne x l k)
 
 -- two rings become one
-pub joins_rings : (n : ℕ) (f : ℕ → ℕ) (a b : ℕ) → IsPermutationBelow n f → a < n → b < n → a ≢ b → (IsReached f a b → ⊥) → (x y : ℕ)
+pub joins_rings : {n : ℕ} {f : ℕ → ℕ} (a b : ℕ) → IsPermutationBelow n f → a < n → b < n → a ≢ b → (IsReached f a b → ⊥) → (x y : ℕ)
     → x < n → y < n
     → (IsReached (exchanged f a b) x y → IsOnMerged f a b x y) × (IsOnMerged f a b x y → IsReached (exchanged f a b) x y)
-joins_rings n f a b p a_in b_in ne apart x y l k = (only, all)
+joins_rings {n} {f} a b p a_in b_in ne apart x y l k = (only, all)
   where
     g : ℕ → ℕ
     g = exchanged f a b
 
     gp : IsPermutationBelow n g
-    gp = exchanged_permutes n f a b p a_in b_in ne
+    gp = exchanged_permutes a b p a_in b_in ne
 
     over : IsReached g a b
-    over = first_to_second n f a b p a_in b_in ne apart
+    over = first_to_second a b p a_in b_in ne apart
 
     still : (u v : ℕ) → IsReached f u v → IsReached g u v
-    still u v r = subst (IsReached g u) r.leads (still_reached n f a b p a_in b_in ne apart r.steps u)
+    still u v r = subst (IsReached g u) r.leads (still_reached a b p a_in b_in ne apart r.steps u)
 
     only : IsReached g x y → IsOnMerged f a b x y
-    only r = subst (IsOnMerged f a b x) r.leads (merged_from n f a b p a_in b_in ne x l r.steps)
+    only r = subst (IsOnMerged f a b x) r.leads (merged_from a b p a_in b_in ne x l r.steps)
 
     all : IsOnMerged f a b x y → IsReached g x y
     all m = elim m [
@@ -288,9 +287,9 @@ least_place p n h = go n (omega arith) h
     ]
 
 -- under the exchanged map the first of the two goes round without the other
-pub splits_ring : (n : ℕ) (f : ℕ → ℕ) (a b : ℕ) → IsPermutationBelow n f → a < n → b < n → a ≢ b → IsReached f a b
+pub splits_ring : {n : ℕ} {f : ℕ → ℕ} {a b : ℕ} → IsPermutationBelow n f → a < n → b < n → a ≢ b → IsReached f a b
     → IsReached (exchanged f a b) a b → ⊥
-splits_ring n f a b p a_in b_in ne joined over =
+splits_ring {n} {f} {a} {b} p a_in b_in ne joined over =
     elim (inside over.steps) [
       | inl at_a ↦ ne (sym (sym over.leads ∙ at_a))
       | inr more ↦ never_second more.0 more.1 (more.2 ∙ over.leads)
@@ -329,8 +328,7 @@ splits_ring n f a b p a_in b_in ne joined over =
     never_second i l e =
         let sum : k - suc i + suc i ≡ k = omega arith in
         let round : after_steps f (suc i) (f b) ≡ f b = ap f e in
-        not_sooner (k - suc i) (omega arith)
-        (ap (after_steps f (k - suc i)) (sym round) ∙ sym (steps_add f (k - suc i) (suc i) (f b))
+        not_sooner (k - suc i) (omega arith) (ap (after_steps f (k - suc i)) (sym round) ∙ sym (steps_add f (k - suc i) (suc i) (f b))
         ∙ ap (λ (m : ℕ). after_steps f m (f b)) sum ∙ meets_a)
 
     -- where the exchanged map leads from a
@@ -358,32 +356,30 @@ splits_ring n f a b p a_in b_in ne joined over =
 
 -- How many rings there are.
 
-classes_merge : (n : ℕ) (f : ℕ → ℕ) (a b : ℕ) → IsPermutationBelow n f → a < n → b < n → a ≢ b → (IsReached f a b → ⊥)
+classes_merge : {n : ℕ} {f : ℕ → ℕ} (a b : ℕ) → IsPermutationBelow n f → a < n → b < n → a ≢ b → (IsReached f a b → ⊥)
     → MergesClasses n (meets f n) (meets (exchanged f a b) n) a b
-classes_merge n f a b p a_in b_in ne apart = record {
-  only = λ x y l k is. elim ((joins_rings n f a b p a_in b_in ne apart x y l k).0 (reached_from n (exchanged f a b) x y is)) [
-    | inl r ↦ inl (meets_from n f p x y l r)
+classes_merge {n} {f} a b p a_in b_in ne apart = record {
+  only = λ x y l k is. elim ((joins_rings a b p a_in b_in ne apart x y l k).0 (reached_from n (exchanged f a b) x y is)) [
+    | inl r ↦ inl (meets_from p l r)
     | inr crossed ↦ inr (elim crossed [
-      | inl c ↦ inl (meets_from n f p x a l c.0, meets_from n f p y b k c.1)
-      | inr c ↦ inr (meets_from n f p x b l c.0, meets_from n f p y a k c.1)
+      | inl c ↦ inl (meets_from p l c.0, meets_from p k c.1)
+      | inr c ↦ inr (meets_from p l c.0, meets_from p k c.1)
     ])
   ];
-  all = λ x y l k m. meets_from n (exchanged f a b) (exchanged_permutes n f a b p a_in b_in ne) x y l
-      ((joins_rings n f a b p a_in b_in ne apart x y l k).1 (elim m [
-        | inl r ↦ inl (reached_from n f x y r)
-        | inr crossed ↦ inr (elim crossed [
-          | inl c ↦ inl (reached_from n f x a c.0, reached_from n f y b c.1)
-          | inr c ↦ inr (reached_from n f x b c.0, reached_from n f y a c.1)
-        ])
-      ]));
+  all = λ x y l k m. meets_from (exchanged_permutes a b p a_in b_in ne) l ((joins_rings a b p a_in b_in ne apart x y l k).1 (elim m [
+    | inl r ↦ inl (reached_from n f x y r)
+    | inr crossed ↦ inr (elim crossed [
+      | inl c ↦ inl (reached_from n f x a c.0, reached_from n f y b c.1)
+      | inr c ↦ inr (reached_from n f x b c.0, reached_from n f y a c.1)
+    ])
+  ]));
 }
 
 -- where the two stood on two rings there is one ring less
-pub one_ring_less : (n : ℕ) (f : ℕ → ℕ) (a b : ℕ) → IsPermutationBelow n f → a < n → b < n → a ≢ b → (IsReached f a b → ⊥)
+pub one_ring_less : {n : ℕ} {f : ℕ → ℕ} (a b : ℕ) → IsPermutationBelow n f → a < n → b < n → a ≢ b → (IsReached f a b → ⊥)
     → ring_count f n ≡ suc (ring_count (exchanged f a b) n)
-one_ring_less n f a b p a_in b_in ne apart =
-    one_class_less n (meets f n) (meets (exchanged f a b) n) a b (rings_are_classes n f p) (classes_merge n f a b p a_in b_in ne apart)
-    a_in b_in not_met
+one_ring_less {n} {f} a b p a_in b_in ne apart =
+    one_class_less (rings_are_classes p) (classes_merge a b p a_in b_in ne apart) a_in b_in not_met
   where
     not_met : meets f n a b ≡ false
     not_met = elim (cases_Bool (meets f n a b)) [
@@ -392,11 +388,10 @@ one_ring_less n f a b p a_in b_in ne apart =
     ]
 
 -- where they stood on one ring there is one ring more
-pub one_ring_more : (n : ℕ) (f : ℕ → ℕ) (a b : ℕ) → IsPermutationBelow n f → a < n → b < n → a ≢ b → IsReached f a b
+pub one_ring_more : {n : ℕ} {f : ℕ → ℕ} {a b : ℕ} → IsPermutationBelow n f → a < n → b < n → a ≢ b → IsReached f a b
     → ring_count (exchanged f a b) n ≡ suc (ring_count f n)
-one_ring_more n f a b p a_in b_in ne joined =
+one_ring_more {n} {f} {a} {b} p a_in b_in ne joined =
     let less : ring_count (exchanged f a b) n ≡ suc (ring_count (exchanged (exchanged f a b) a b) n) =
-    one_ring_less n (exchanged f a b) a b (exchanged_permutes n f a b p a_in b_in ne) a_in b_in ne
-    (splits_ring n f a b p a_in b_in ne joined) in
+    one_ring_less a b (exchanged_permutes a b p a_in b_in ne) a_in b_in ne (splits_ring p a_in b_in ne joined) in
     let same : exchanged (exchanged f a b) a b ≡ f = λ i x. exchanged_twice f a b ne x i in
     less ∙ ap (λ (g : ℕ → ℕ). suc (ring_count g n)) same

@@ -9,7 +9,6 @@ use Rattle.tree_cotree.specs.declared.search.Nodes.{Nodes}
 use Rattle.tree_cotree.specs.declared.search.Nodes.TheVariants.{Vertices, Faces}
 use Rattle.tree_cotree.specs.Searches.{node_of, has_kind}
 use Rattle.tree_cotree.specs.Splits.{SplitView, IsSplit}
-use Rattle.tree_cotree.specs.Colourings.{ColouringView}
 use Rattle.tree_cotree.specs.Joinings.{bound_of, kind_over, AreEnds, HangTogether, AreSpanned, IsTried}
 use Rattle.tree_cotree.proofs.ClassLemmas.{found_below, passes_below}
 use Rattle.tree_cotree.proofs.LawLemmas.{some_dart, exact}
@@ -24,9 +23,9 @@ record Tried (s : OrientedMesh) (nodes : Nodes) (edge : ℕ) (least : List ℕ) 
   new : List Kind
   tried : IsTried s nodes (kind_over nodes) edge least more kinds new
 
-some_try : (s : OrientedMesh) (nodes : Nodes) (edge : ℕ) (least : List ℕ) (kinds : List Kind) → IsOrientedSurface s → edge < length s.table
+some_try : {s : OrientedMesh} (nodes : Nodes) (edge : ℕ) (least : List ℕ) (kinds : List Kind) → IsOrientedSurface s → edge < length s.table
     → Tried s nodes edge least kinds
-some_try s nodes edge least kinds o l = elim (cases_Bool (has_kind kinds Left edge)) [
+some_try {s} nodes edge least kinds o l = elim (cases_Bool (has_kind kinds Left edge)) [
   | inr out ↦ record {
     more = least;
     new = kinds;
@@ -71,34 +70,33 @@ record TriedUpTo (s : OrientedMesh) (nodes : Nodes) (old : List Kind) (n : ℕ) 
   kinds : List Kind
   spanning : IsSpanning s nodes (kind_over nodes) old n least kinds
 
-tried_upto : (s : OrientedMesh) (nodes : Nodes) (old : List Kind) → IsOrientedSurface s → length old ≡ length s.table
+tried_upto : {s : OrientedMesh} (nodes : Nodes) (old : List Kind) → IsOrientedSurface s → length old ≡ length s.table
     → ((e : ℕ) → e < length s.table → has_kind old (kind_over nodes) e ≡ false)
     → (n : ℕ) → n ≤ length s.table → TriedUpTo s nodes old n
-tried_upto s nodes old o long free zero l = record {
+tried_upto {s} nodes old o long free zero l = record {
   least = range_with_len 0 (bound_of nodes s);
   kinds = old;
   spanning = spanning_none s nodes (kind_over nodes) old (range_with_len 0 (bound_of nodes s)) refl free;
 }
-tried_upto s nodes old o long free (suc n) l =
-    let before : TriedUpTo s nodes old n = tried_upto s nodes old o long free n (omega arith) in
+tried_upto {s} nodes old o long free (suc n) l =
+    let before : TriedUpTo s nodes old n = tried_upto nodes old o long free n (omega arith) in
     let within : n < length s.table = omega arith in
-    let next : Tried s nodes n before.least before.kinds = some_try s nodes n before.least before.kinds o within in
+    let next : Tried s nodes n before.least before.kinds = some_try nodes n before.least before.kinds o within in
     let up : n + 1 ≡ suc n = omega arith in
     record {
       least = next.more;
       kinds = next.new;
-      spanning = subst (λ k. IsSpanning s nodes (kind_over nodes) old k next.more next.new) up
-          (spanning_next s nodes (kind_over nodes) old n before.least next.more before.kinds next.new o within
+      spanning = subst (λ k. IsSpanning s nodes (kind_over nodes) old k next.more next.new) up (spanning_next o within
           (omega (arith, within, before.spanning.long, long)) (kind_not_left nodes) next.tried before.spanning);
     }
 
-some_spanned : (s : OrientedMesh) (nodes : Nodes) (old : List Kind) → IsOrientedSurface s → length old ≡ length s.table
+some_spanned : {s : OrientedMesh} (nodes : Nodes) (old : List Kind) → IsOrientedSurface s → length old ≡ length s.table
     → ((e : ℕ) → e < length s.table → has_kind old (kind_over nodes) e ≡ false)
     → HangTogether (rotations_of s) (node_of nodes (rotations_of s)) (has_kind old Left)
     → (kinds : List Kind) × AreSpanned s nodes (kind_over nodes) old kinds
-some_spanned s nodes old o long free together =
-    let all : TriedUpTo s nodes old (length s.table) = tried_upto s nodes old o long free (length s.table) (omega arith) in
-    (all.kinds, spanning_all s nodes (kind_over nodes) old (length s.table) all.least all.kinds o together (omega arith) all.spanning)
+some_spanned {s} nodes old o long free together =
+    let all : TriedUpTo s nodes old (length s.table) = tried_upto nodes old o long free (length s.table) (omega arith) in
+    (all.kinds, spanning_all o together (omega arith) all.spanning)
 
 -- ---- of a surface
 
@@ -109,13 +107,13 @@ record LeftoverStart (s : OrientedMesh) (kinds : List Kind) : Type 0 where
   left : (d : ℕ) → d < (rotations_of s).darts → has_kind kinds Left ((rotations_of s).edge d) ≡ true
       → has_kind kinds Left ((rotations_of s).edge dart) ≡ true
 
-some_start : (s : OrientedMesh) (kinds : List Kind) → IsOrientedSurface s → LeftoverStart s kinds
-some_start s kinds o = elim (cases_Bool (any_below is_left_dart (rotations_of s).darts)) [
+some_start : {s : OrientedMesh} (kinds : List Kind) → IsOrientedSurface s → LeftoverStart s kinds
+some_start {s} kinds o = elim (cases_Bool (any_below is_left_dart (rotations_of s).darts)) [
   | inl some ↦ (let found = found_below is_left_dart (rotations_of s).darts some in
       record { dart = found.0; within = found.1; left = λ d l is. found.2 })
   | inr none ↦ record {
     dart = 0;
-    within = some_dart s o;
+    within = some_dart o;
     left = λ d l is. absurd (both_ways (any_below is_left_dart (rotations_of s).darts) none
         (passes_below is_left_dart (rotations_of s).darts d l is));
   }
@@ -128,15 +126,12 @@ pub some_split : (s : OrientedMesh) → IsOrientedSurface s → (split : SplitVi
 some_split s o =
     let old : List Kind = replicate (length s.table) Left in
     let long : length old ≡ length s.table = length-replicate (length s.table) Left in
-    let tree = some_spanned s Vertices old o long (none_before s old Tree refl refl) (vertices_hang s old o refl) in
-    let cotree = some_spanned s Faces tree.0 o (tree.1.long ∙ long) (none_between s old tree.0 refl tree.1)
-    (faces_hang s old tree.0 o refl tree.1) in
-    let start : LeftoverStart s cotree.0 = some_start s cotree.0 o in
+    let tree = some_spanned Vertices old o long (none_before s old Tree refl refl) (vertices_hang old o refl) in
+    let cotree = some_spanned Faces tree.0 o (tree.1.long ∙ long) (none_between refl tree.1) (faces_hang o refl tree.1) in
+    let start : LeftoverStart s cotree.0 = some_start cotree.0 o in
     let root : ℕ = (rotations_of s).face start.dart in
     let genus : ℕ = count_below (has_kind cotree.0 Left) (length s.table) / 2 in
-    let colouring : ColouringView = record { kinds = cotree.0; root_face = root; genus = genus } in
-    let is = coloured_trees_are_of_a_split s colouring o
-    (coloured s o old tree.0 cotree.0 start.dart root genus refl tree.1 cotree.1 start.within start.left refl refl) in
+    let is = coloured_trees_are_of_a_split o (coloured o start.dart root genus refl tree.1 cotree.1 start.within start.left refl refl) in
     (is.split, is.is_split)
 
 -- and each mesh of a surface has a table, and a genus

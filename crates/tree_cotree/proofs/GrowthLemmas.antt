@@ -37,12 +37,12 @@ record Grown (maps : Rotations) (node : ℕ → ℕ) (is_node : ℕ → Bool) (b
       → IsReached (after_dart maps (λ e. shape (set e))) x y
 
 -- one edge more: from a dart that leads out of the nodes reached
-grow : (maps : Rotations) (node : ℕ → ℕ) (is_node : ℕ → Bool) (bound edges : ℕ) (shape : Bool → Bool) (tree set nodes : ℕ → Bool)
+grow : {maps : Rotations} {node : ℕ → ℕ} {is_node : ℕ → Bool} {bound edges : ℕ} {shape : Bool → Bool} {tree set nodes : ℕ → Bool}
     → IsRotationSystem maps → HasNodes maps node is_node bound edges → shape true ≡ not (shape false)
     → Grown maps node is_node bound edges shape tree set nodes
     → (d : ℕ) → d < maps.darts → tree (maps.edge d) ≡ true → nodes (node d) ≡ false → nodes (node (maps.twin d)) ≡ true
     → Grown maps node is_node bound edges shape tree (with_one set (maps.edge d)) (with_one nodes (node d))
-grow maps node is_node bound edges shape tree set nodes r h turned g d l chosen out inner =
+grow {maps} {node} {is_node} {bound} {edges} {shape} {tree} {set} {nodes} r h turned g d l chosen out inner =
     record {
       within_tree = λ e e_in is. elim (with_cases set edge e is) [
         | inl same ↦ subst (λ (x : ℕ). tree x ≡ true) (sym same) chosen
@@ -65,12 +65,10 @@ grow maps node is_node bound edges shape tree set nodes r h turned g d l chosen 
           let two : count_below (with_one nodes (node d)) bound ≡ suc (count_below nodes bound) =
           count_with nodes bound (node d) (h.node_within d l) out in
           omega (arith, g.count, one, two);
-      to_node = λ x y x_in y_in reached.
-          sort x y x_in y_in ((joins_rings n f d twin p l twin_in apart off x y x_in y_in).0
-          (reached_same n new old_exchanged new_p (λ z z_in. sym (moved z z_in)) x y x_in reached));
-      from_node = λ x y x_in y_in is.
-          reached_same n old_exchanged new exchanged_p moved x y x_in
-          ((joins_rings n f d twin p l twin_in apart off x y x_in y_in).1 (merge x y x_in y_in is));
+      to_node = λ x y x_in y_in reached. sort x y x_in y_in ((joins_rings d twin p l twin_in apart off x y x_in y_in).0
+          (reached_same old_exchanged new_p (λ z z_in. sym (moved z z_in)) x_in reached));
+      from_node = λ x y x_in y_in is. reached_same new exchanged_p moved x_in
+          ((joins_rings d twin p l twin_in apart off x y x_in y_in).1 (merge x y x_in y_in is));
     }
   where
     n : ℕ
@@ -95,16 +93,16 @@ grow maps node is_node bound edges shape tree set nodes r h turned g d l chosen 
     old_exchanged = exchanged f d twin
 
     p : IsPermutationBelow maps.darts f
-    p = after_permutes maps r (λ e. shape (set e))
+    p = after_permutes r (λ e. shape (set e))
 
     new_p : IsPermutationBelow maps.darts new
-    new_p = after_permutes maps r (λ e. shape (with_one set edge e))
+    new_p = after_permutes r (λ e. shape (with_one set edge e))
 
     apart : d ≢ twin
     apart e = r.twin_other d l (sym e)
 
     exchanged_p : IsPermutationBelow maps.darts old_exchanged
-    exchanged_p = exchanged_permutes maps.darts f d twin p l twin_in apart
+    exchanged_p = exchanged_permutes d twin p l twin_in apart
 
     fresh : set edge ≡ false
     fresh = elim (cases_Bool (set edge)) [
@@ -119,7 +117,7 @@ grow maps node is_node bound edges shape tree set nodes r h turned g d l chosen 
     }
 
     moved : (z : ℕ) → z < maps.darts → old_exchanged z ≡ new z
-    moved z z_in = after_exchanges maps r (λ e. shape (set e)) (λ e. shape (with_one set edge e)) d l differ z z_in
+    moved z z_in = after_exchanges r d l differ z z_in
 
     off : IsReached f d twin → ⊥
     off reached = elim (g.to_node d twin l twin_in reached) [
@@ -180,22 +178,21 @@ grow maps node is_node bound edges shape tree set nodes r h turned g d l chosen 
     ]
 
 -- grown to the end
-grown_up : (maps : Rotations) (node : ℕ → ℕ) (is_node : ℕ → Bool) (bound edges : ℕ) (shape : Bool → Bool) (tree : ℕ → Bool)
+grown_up : {maps : Rotations} {node : ℕ → ℕ} {is_node : ℕ → Bool} {bound edges : ℕ} {shape : Bool → Bool} {tree : ℕ → Bool}
     → IsRotationSystem maps → HasNodes maps node is_node bound edges → shape true ≡ not (shape false)
     → IsSpanningTree maps node is_node bound edges tree → (root : ℕ) → root < maps.darts
-    → (left : ℕ) (set nodes : ℕ → Bool) → nodes (node root) ≡ true → count_below nodes bound + left ≡ count_below is_node bound
+    → (left : ℕ) {set nodes : ℕ → Bool} → nodes (node root) ≡ true → count_below nodes bound + left ≡ count_below is_node bound
     → Grown maps node is_node bound edges shape tree set nodes
     → (x y : ℕ) → x < maps.darts → y < maps.darts → IsReached (after_dart maps (λ e. shape (tree e))) x y
-grown_up maps node is_node bound edges shape tree r h turned t root root_in zero set nodes rooted count g x y x_in y_in =
+grown_up {maps} {node} {is_node} {bound} {edges} {shape} {tree} r h turned t root root_in zero {set} {nodes} rooted count g x y x_in y_in =
     let all : (v : ℕ) → v < bound → nodes v ≡ is_node v = same_from_count nodes is_node bound g.are_nodes (omega arith) in
     let met : (z : ℕ) → z < maps.darts → nodes (node z) ≡ true = λ z z_in. all (node z) (h.node_within z z_in) ∙ h.is_of_dart z z_in in
     let whole : (e : ℕ) → e < edges → set e ≡ tree e = same_from_count set tree edges g.within_tree (omega (arith, g.count, t.count)) in
     let same : (z : ℕ) → z < maps.darts → after_dart maps (λ e. shape (set e)) z ≡ after_dart maps (λ e. shape (tree e)) z =
     λ z z_in. after_agrees maps (λ e. shape (set e)) (λ e. shape (tree e)) z (ap shape (whole (maps.edge z) (h.edge_within z z_in))) in
-    reached_same maps.darts (after_dart maps (λ e. shape (set e))) (after_dart maps (λ e. shape (tree e)))
-    (after_permutes maps r (λ e. shape (set e))) same x y x_in
+    reached_same (after_dart maps (λ e. shape (tree e))) (after_permutes r (λ e. shape (set e))) same x_in
     (g.from_node x y x_in y_in (inr (met x x_in, met y y_in)))
-grown_up maps node is_node bound edges shape tree r h turned t root root_in (suc left) set nodes rooted count g x y x_in y_in =
+grown_up {maps} {node} {is_node} {bound} {tree} r h turned t root root_in (suc left) {nodes} rooted count g x y x_in y_in =
     elim (some_outside nodes is_node bound) [
       | inr none ↦
           let few : count_below is_node bound ≤ count_below nodes bound = count_few is_node nodes bound none in
@@ -217,19 +214,17 @@ grown_up maps node is_node bound edges shape tree r h turned t root root_in (suc
           subst (λ (z : ℕ). nodes (node z) ≡ true) (sym back) (subst (λ (v : ℕ). nodes v ≡ true) (sym is.starts) step.3) in
           let more : count_below (with_one nodes (node d)) bound ≡ suc (count_below nodes bound) =
           count_with nodes bound (node d) (h.node_within d d_in) outer in
-          grown_up maps node is_node bound edges shape tree r h turned t root root_in left (with_one set (maps.edge d))
-          (with_one nodes (node d))
-          (with_keeps nodes (node d) (node root) rooted) (omega (arith, count, more))
-          (grow maps node is_node bound edges shape tree set nodes r h turned g d d_in chosen outer inner) x y x_in y_in
+          grown_up r h turned t root root_in left (with_keeps nodes (node d) (node root) rooted) (omega (arith, count, more))
+          (grow r h turned g d d_in chosen outer inner) x y x_in y_in
     ]
 
 -- before the first edge each node makes a ring of its own
-seed : (maps : Rotations) (node : ℕ → ℕ) (is_node : ℕ → Bool) (bound edges : ℕ) (shape : Bool → Bool) (tree : ℕ → Bool)
+seed : {maps : Rotations} {node : ℕ → ℕ} {is_node : ℕ → Bool} {bound edges : ℕ} (shape : Bool → Bool) (tree : ℕ → Bool)
     → HasNodes maps node is_node bound edges
     → ((x y : ℕ) → x < maps.darts → y < maps.darts → (IsReached (after_dart maps (λ e. shape false)) x y → node x ≡ node y)
     × (node x ≡ node y → IsReached (after_dart maps (λ e. shape false)) x y))
     → (root : ℕ) → root < maps.darts → Grown maps node is_node bound edges shape tree (λ _. false) (with_one (λ _. false) (node root))
-seed maps node is_node bound edges shape tree h base root root_in = record {
+seed {node} {is_node} {bound} {edges} shape tree h base root root_in = record {
   within_tree = λ e l is. absurd (both_ways false refl is);
   ends = λ d l is. absurd (both_ways false refl is);
   are_nodes = λ v l is. subst (λ (x : ℕ). is_node x ≡ true) (sym (only v is)) (h.is_of_dart root root_in);
@@ -245,17 +240,16 @@ seed maps node is_node bound edges shape tree h base root root_in = record {
     only v is = elim (with_cases (λ _. false) (node root) v is) [ inl same ↦ same | inr none ↦ absurd (both_ways false refl none) ]
 
 -- a spanning tree leaves one ring
-pub one_ring : (maps : Rotations) (node : ℕ → ℕ) (is_node : ℕ → Bool) (bound edges : ℕ) (shape : Bool → Bool) (tree : ℕ → Bool)
+pub one_ring : {maps : Rotations} {node : ℕ → ℕ} {is_node : ℕ → Bool} {bound edges : ℕ} (shape : Bool → Bool) {tree : ℕ → Bool}
     → IsRotationSystem maps → HasNodes maps node is_node bound edges → shape true ≡ not (shape false)
     → IsSpanningTree maps node is_node bound edges tree
     → ((x y : ℕ) → x < maps.darts → y < maps.darts → (IsReached (after_dart maps (λ e. shape false)) x y → node x ≡ node y)
     × (node x ≡ node y → IsReached (after_dart maps (λ e. shape false)) x y))
     → (x y : ℕ) → x < maps.darts → y < maps.darts → IsReached (after_dart maps (λ e. shape (tree e))) x y
-one_ring maps node is_node bound edges shape tree r h turned t base x y x_in y_in =
+one_ring {maps} {node} {is_node} {bound} {edges} shape {tree} r h turned t base x y x_in y_in =
     let start : Grown maps node is_node bound edges shape tree (λ _. false) (with_one (λ _. false) (node x)) =
-    seed maps node is_node bound edges shape tree h base x x_in in
+    seed shape tree h base x x_in in
     let few : count_below (with_one (λ _. false) (node x)) bound ≤ count_below is_node bound =
     count_few (with_one (λ _. false) (node x)) is_node bound start.are_nodes in
-    grown_up maps node is_node bound edges shape tree r h turned t x x_in
-    (count_below is_node bound - count_below (with_one (λ _. false) (node x)) bound)
-    (λ _. false) (with_one (λ _. false) (node x)) (with_itself (λ _. false) (node x)) (omega (arith, few)) start x y x_in y_in
+    grown_up r h turned t x x_in (count_below is_node bound - count_below (with_one (λ _. false) (node x)) bound)
+    (with_itself (λ _. false) (node x)) (omega (arith, few)) start x y x_in y_in

@@ -72,11 +72,11 @@ joining_none maps node is_node bound edges allowed set none = record {
     read v l = get_or-range_with_len 0 bound v 0 l ∙ omega arith
 
 -- an edge that is not allowed is passed
-pub joining_skip : (maps : Rotations) (node : ℕ → ℕ) (is_node : ℕ → Bool) (bound edges : ℕ) (allowed : ℕ → Bool) (n : ℕ) (least : List ℕ)
-    (set : ℕ → Bool)
+pub joining_skip : {maps : Rotations} {node : ℕ → ℕ} {is_node : ℕ → Bool} {bound edges : ℕ} {allowed : ℕ → Bool} {n : ℕ} {least : List ℕ}
+    {set : ℕ → Bool}
     → allowed n ≡ false → IsJoining maps node is_node bound edges allowed n least set
     → IsJoining maps node is_node bound edges allowed (n + 1) least set
-joining_skip maps node is_node bound edges allowed n least set out h = record {
+joining_skip {maps} {allowed} {n} out h = record {
   long = h.long;
   members = h.members;
   nodes = h.nodes;
@@ -91,9 +91,9 @@ joining_skip maps node is_node bound edges allowed n least set out h = record {
 }
 
 -- the nodes of the darts of an edge
-ends_of : (maps : Rotations) (node : ℕ → ℕ) (n x y : ℕ) → IsRotationSystem maps → AreEnds maps node n x y → (d : ℕ) → d < maps.darts
+ends_of : {maps : Rotations} {node : ℕ → ℕ} {n x y : ℕ} → IsRotationSystem maps → AreEnds maps node n x y → (d : ℕ) → d < maps.darts
     → maps.edge d ≡ n → ((node d ≡ x) × (node (maps.twin d) ≡ y)) ⊎ ((node d ≡ y) × (node (maps.twin d) ≡ x))
-ends_of maps node n x y r a d l on = elim ((r.edges a.dart d a.within l).0 (a.on_edge ∙ sym on)) [
+ends_of {maps} {node} r a d l on = elim ((r.edges a.dart d a.within l).0 (a.on_edge ∙ sym on)) [
   | inl is ↦ inl (ap node is ∙ a.starts, ap (λ e. node (maps.twin e)) is ∙ a.ends)
   | inr is ↦ inr (
     ap node is ∙ a.ends,
@@ -101,21 +101,21 @@ ends_of maps node n x y r a d l on = elim ((r.edges a.dart d a.within l).0 (a.on
   )
 ]
 
-same_ends : (maps : Rotations) (node : ℕ → ℕ) (n x y : ℕ) (least : List ℕ) → IsRotationSystem maps → AreEnds maps node n x y
+same_ends : {maps : Rotations} {node : ℕ → ℕ} {n x y : ℕ} (least : List ℕ) → IsRotationSystem maps → AreEnds maps node n x y
     → get_or least x 0 ≡ get_or least y 0 → (d : ℕ) → d < maps.darts → maps.edge d ≡ n
     → get_or least (node d) 0 ≡ get_or least (node (maps.twin d)) 0
-same_ends maps node n x y least r a same d l on = elim (ends_of maps node n x y r a d l on) [
+same_ends least r a same d l on = elim (ends_of r a d l on) [
   | inl p ↦ ap (λ v. get_or least v 0) p.0 ∙ same ∙ sym (ap (λ v. get_or least v 0) p.1)
   | inr p ↦ ap (λ v. get_or least v 0) p.0 ∙ sym same ∙ sym (ap (λ v. get_or least v 0) p.1)
 ]
 
 -- one whose nodes are joined already is left out
-pub joining_same : (maps : Rotations) (node : ℕ → ℕ) (is_node : ℕ → Bool) (bound edges : ℕ) (allowed : ℕ → Bool) (n : ℕ) (least : List ℕ)
-    (set : ℕ → Bool) (x y : ℕ)
+pub joining_same : {maps : Rotations} {node : ℕ → ℕ} {is_node : ℕ → Bool} {bound edges : ℕ} {allowed : ℕ → Bool} {n : ℕ} {least : List ℕ}
+    {set : ℕ → Bool} {x y : ℕ}
     → IsRotationSystem maps → AreEnds maps node n x y → get_or least x 0 ≡ get_or least y 0
     → IsJoining maps node is_node bound edges allowed n least set
     → IsJoining maps node is_node bound edges allowed (n + 1) least set
-joining_same maps node is_node bound edges allowed n least set x y r a same h = record {
+joining_same {maps} {n} {least} r a same h = record {
   long = h.long;
   members = h.members;
   nodes = h.nodes;
@@ -123,18 +123,18 @@ joining_same maps node is_node bound edges allowed n least set x y r a same h = 
   within = h.within;
   joined = h.joined;
   ends = λ d l k is. elim (cases_eq (maps.edge d) n) [
-    | inl here ↦ same_ends maps node n x y least r a same d l here
+    | inl here ↦ same_ends least r a same d l here
     | inr ne ↦ h.ends d l (omega (arith, k, ne)) is
   ];
   count = h.count;
 }
 
 -- one that is in the set already is passed
-pub joining_set : (maps : Rotations) (node : ℕ → ℕ) (is_node : ℕ → Bool) (bound edges : ℕ) (allowed : ℕ → Bool) (n : ℕ) (least : List ℕ)
-    (set : ℕ → Bool)
+pub joining_set : {maps : Rotations} {node : ℕ → ℕ} {is_node : ℕ → Bool} {bound edges : ℕ} {allowed : ℕ → Bool} {n : ℕ} {least : List ℕ}
+    {set : ℕ → Bool}
     → n < edges → set n ≡ true → IsJoining maps node is_node bound edges allowed n least set
     → IsJoining maps node is_node bound edges allowed (n + 1) least set
-joining_set maps node is_node bound edges allowed n least set n_in kept h = record {
+joining_set {maps} {n} {set} n_in kept h = record {
   long = h.long;
   members = h.members;
   nodes = h.nodes;
@@ -148,10 +148,10 @@ joining_set maps node is_node bound edges allowed n least set n_in kept h = reco
   count = h.count;
 }
 
-pub ends_within : (maps : Rotations) (node : ℕ → ℕ) (is_node : ℕ → Bool) (bound edges n x y : ℕ) → IsRotationSystem maps
+pub ends_within : {maps : Rotations} {node : ℕ → ℕ} {is_node : ℕ → Bool} {bound edges n x y : ℕ} → IsRotationSystem maps
     → HasNodes maps node is_node bound edges → AreEnds maps node n x y
     → ((x < bound) × (is_node x ≡ true)) × ((y < bound) × (is_node y ≡ true))
-ends_within maps node is_node bound edges n x y r h a =
+ends_within {maps} {is_node} {bound} r h a =
     let turned : maps.twin a.dart < maps.darts = r.twin_within a.dart a.within in (
       (
         subst (λ v. v < bound) a.starts (h.node_within a.dart a.within),
@@ -164,13 +164,13 @@ ends_within maps node is_node bound edges n x y r h a =
     )
 
 -- one whose nodes are apart joins them, whether its turn has come or not
-pub joining_apart : (maps : Rotations) (node : ℕ → ℕ) (is_node : ℕ → Bool) (bound edges : ℕ) (allowed : ℕ → Bool) (n m : ℕ)
-    (least : List ℕ) (set : ℕ → Bool) (x y : ℕ)
+pub joining_apart : {maps : Rotations} {node : ℕ → ℕ} {is_node : ℕ → Bool} {bound edges : ℕ} {allowed : ℕ → Bool} {n m : ℕ}
+    {least : List ℕ} {set : ℕ → Bool} {x y : ℕ}
     → IsRotationSystem maps → HasNodes maps node is_node bound edges → m < edges → allowed m ≡ true → set m ≡ false
     → AreEnds maps node m x y → get_or least x 0 ≢ get_or least y 0
     → IsJoining maps node is_node bound edges allowed n least set
     → IsJoining maps node is_node bound edges allowed n (joined_at least x y) (with_one set m)
-joining_apart maps node is_node bound edges allowed n m least set x y r hn m_in passes fresh a apart h = record {
+joining_apart {maps} {node} {is_node} {bound} {edges} {allowed} {m} {least} {set} {x} {y} r hn m_in passes fresh a apart h = record {
   long = length-joined_at least x y ∙ h.long;
   members = least_joined_at least x y h.members x_in y_in;
   nodes = λ v l is. elim (cases_eq (get_or least v 0) high) [
@@ -182,7 +182,7 @@ joining_apart maps node is_node bound edges allowed n m least set x y r hn m_in 
       (λ v l. omega (arith, l, h.long)) at.0.0 at.1.0 step back;
   within = λ e l is. elim (with_cases set m e is) [ inl same ↦ ap allowed same ∙ passes | inr old ↦ h.within e l old ];
   joined = λ d l k is. elim (with_cases set m (maps.edge d) is) [
-    | inl here ↦ same_ends maps node m x y (joined_at least x y) r a (joined_at_ends least x y x_in y_in) d l here
+    | inl here ↦ same_ends (joined_at least x y) r a (joined_at_ends least x y x_in y_in) d l here
     | inr old ↦ joined_at_keeps least x y (node d) (node (maps.twin d)) (in_list d l) (in_list (maps.twin d) (r.twin_within d l))
         (h.joined d l k old)
   ];
@@ -197,7 +197,7 @@ joining_apart maps node is_node bound edges allowed n m least set x y r hn m_in 
 }
   where
     at : ((x < bound) × (is_node x ≡ true)) × ((y < bound) × (is_node y ≡ true))
-    at = ends_within maps node is_node bound edges m x y r hn a
+    at = ends_within r hn a
 
     in_list : (d : ℕ) → d < maps.darts → node d < length least
     in_list d l = omega (arith, hn.node_within d l, h.long)
@@ -238,7 +238,7 @@ joining_apart maps node is_node bound edges allowed n m least set x y r hn m_in 
       maps.twin a.dart,
       record {
         within = r.twin_within a.dart a.within;
-        in_set = ap (with_one set m) (sym (twin_edge maps r a.dart a.within) ∙ a.on_edge) ∙ with_itself set m;
+        in_set = ap (with_one set m) (sym (twin_edge r a.dart a.within) ∙ a.on_edge) ∙ with_itself set m;
         starts = a.ends;
         ends = ap node (r.twin_back a.dart a.within) ∙ a.starts;
       },
@@ -259,12 +259,12 @@ joining_apart maps node is_node bound edges allowed n m least set x y r hn m_in 
         (λ is. eq-eqb (get_or least v 0) v (either.1 (eqb-true (get_or (joined_at least x y) v 0) v is))))
 
 -- Once all edges are tried, and the nodes hang together across the allowed ones, all nodes are in one class, and the set spans them.
-pub joined_spans : (maps : Rotations) (node : ℕ → ℕ) (is_node : ℕ → Bool) (bound edges : ℕ) (allowed : ℕ → Bool) (n : ℕ) (least : List ℕ)
-    (set : ℕ → Bool)
+pub joined_spans : {maps : Rotations} {node : ℕ → ℕ} {is_node : ℕ → Bool} {bound edges : ℕ} {allowed : ℕ → Bool} {n : ℕ} {least : List ℕ}
+    {set : ℕ → Bool}
     → HasNodes maps node is_node bound edges → 0 < maps.darts → HangTogether maps node allowed → edges ≤ n
     → IsJoining maps node is_node bound edges allowed n least set
     → IsSpanningTree maps node is_node bound edges set
-joined_spans maps node is_node bound edges allowed n least set hn some together all h = record {
+joined_spans {maps} {node} {is_node} {bound} {allowed} {n} {least} hn some together all h = record {
   joins = λ d e l k. h.sound (node d) (node e) (hn.node_within d l) (hn.node_within e k) (one_entry d e l k);
   count = omega (arith, h.count, roots, count_none bound);
 }

@@ -8,18 +8,18 @@ use Rattle.tree_cotree.proofs.GrowthLemmas.{HasNodes}
 use Rattle.tree_cotree.proofs.SplitLemmas.{OneOfThree, tree_one, cotree_one, left_one, tree_ring, cotree_ring, count_three}
 use Rattle.tree_cotree.proofs.LeftoverLemmas.{even_left}
 
-pub vertex_nodes : (s : OrientedMesh) → NamesAll s
+pub vertex_nodes : {s : OrientedMesh} → NamesAll s
     → HasNodes (rotations_of s) (rotations_of s).origin (is_used s.mesh) s.mesh.count (length s.table)
-vertex_nodes s h = record {
+vertex_nodes h = record {
   edge_within = h.edge_below;
   node_within = h.vertex_below;
   is_of_dart = h.vertex_used;
   has_dart = λ v _ is. h.each_vertex v is;
 }
 
-pub face_nodes : (s : OrientedMesh) → NamesAll s
+pub face_nodes : {s : OrientedMesh} → NamesAll s
     → HasNodes (rotations_of s) (rotations_of s).face (λ f. true) (length s.mesh.faces) (length s.table)
-face_nodes s h = record {
+face_nodes h = record {
   edge_within = h.edge_below;
   node_within = h.face_below;
   is_of_dart = λ d l. refl;
@@ -34,30 +34,27 @@ one_of_three split e = go (kind_of split e)
     go Cotree = cotree_one
     go Left = left_one
 
-pub tree_has_ring : (s : OrientedMesh) (split : SplitView) → IsOrientedSurface s → HasTrees s split
+pub tree_has_ring : {s : OrientedMesh} {split : SplitView} → IsOrientedSurface s → HasTrees s split
     → HasOneRing (rotations_of s) (in_tree split)
-tree_has_ring s split o t =
-    tree_ring (rotations_of s) (is_used s.mesh) s.mesh.count (length s.table) (in_tree split) (rotation_system s o)
-    (vertex_nodes s (names_all s o)) t.tree
+tree_has_ring {s} o t =
+    tree_ring (rotation_system s o) (vertex_nodes (names_all s o)) t.tree
 
-pub rest_has_ring : (s : OrientedMesh) (split : SplitView) → IsOrientedSurface s → HasTrees s split
+pub rest_has_ring : {s : OrientedMesh} {split : SplitView} → IsOrientedSurface s → HasTrees s split
     → HasOneRing (rotations_of s) (λ e. not (in_cotree split e))
-rest_has_ring s split o t =
-    cotree_ring (rotations_of s) (λ f. true) (length s.mesh.faces) (length s.table) (in_cotree split) (rotation_system s o)
-    (face_nodes s (names_all s o)) t.cotree
+rest_has_ring {s} o t =
+    cotree_ring (rotation_system s o) (face_nodes (names_all s o)) t.cotree
 
 -- a closed surface has a dart
-pub some_dart : (s : OrientedMesh) → IsOrientedSurface s → 0 < (rotations_of s).darts
-some_dart s o =
+pub some_dart : {s : OrientedMesh} → IsOrientedSurface s → 0 < (rotations_of s).darts
+some_dart {s} o =
     let dart = (names_all s o).each_face 0 o.closed.some_face in
     omega (arith, dart.1)
 
 pub even : (s : OrientedMesh) (split : SplitView) → IsOrientedSurface s → HasTrees s split
     → (g : ℕ) × (count_below (is_left split) (length s.table) ≡ 2 * g)
 even s split o t =
-    even_left (rotations_of s) (in_tree split) (in_cotree split) (is_left split) (length s.table) (rotation_system s o)
-    (names_all s o).edge_below
-    (names_all s o).each_edge (λ e l. one_of_three split e) (some_dart s o) (tree_has_ring s split o t) (rest_has_ring s split o t)
+    even_left (in_tree split) (in_cotree split) (is_left split) (length s.table) (rotation_system s o) (names_all s o).edge_below
+    (names_all s o).each_edge (λ e l. one_of_three split e) (some_dart o) (tree_has_ring o t) (rest_has_ring o t)
 
 pub count_all : (n : ℕ) → count_below (λ f. true) n ≡ n
 count_all zero = refl

@@ -12,16 +12,16 @@ pub data ByOne : ℕ → ℕ → Type 0 where
   one_more : (k : ℕ) → ByOne k (suc k)
   one_less : (k : ℕ) → ByOne (suc k) k
 
-pub swap_by_one : (maps : Rotations) → IsRotationSystem maps → (inside others : ℕ → Bool) (d : ℕ) → d < maps.darts
+pub swap_by_one : {maps : Rotations} → IsRotationSystem maps → {inside others : ℕ → Bool} (d : ℕ) → d < maps.darts
     → DifferAt inside others (maps.edge d)
     → ByOne (ring_count (after_dart maps inside) maps.darts) (ring_count (after_dart maps others) maps.darts)
-swap_by_one maps r inside others d l differ = elim (cases_Bool (meets f n d twin)) [
+swap_by_one {maps} r {inside} {others} d l differ = elim (cases_Bool (meets f n d twin)) [
   | inl met ↦
-      let more : ring_count changed n ≡ suc (ring_count f n) = one_ring_more n f d twin p l twin_in apart (reached_from n f d twin met) in
+      let more : ring_count changed n ≡ suc (ring_count f n) = one_ring_more p l twin_in apart (reached_from n f d twin met) in
       subst (ByOne (ring_count f n)) (sym more ∙ same) (one_more (ring_count f n))
   | inr off ↦
       let less : ring_count f n ≡ suc (ring_count changed n) =
-      one_ring_less n f d twin p l twin_in apart (λ reached. both_ways (meets f n d twin) off (meets_from n f p d twin l reached)) in
+      one_ring_less d twin p l twin_in apart (λ reached. both_ways (meets f n d twin) off (meets_from p l reached)) in
       subst (λ (k : ℕ). ByOne k (ring_count g n)) (sym (less ∙ ap suc same)) (one_less (ring_count g n))
 ]
   where
@@ -44,14 +44,13 @@ swap_by_one maps r inside others d l differ = elim (cases_Bool (meets f n d twin
     g = after_dart maps others
 
     p : IsPermutationBelow maps.darts f
-    p = after_permutes maps r inside
+    p = after_permutes r inside
 
     changed : ℕ → ℕ
     changed = exchanged f d twin
 
     same : ring_count changed maps.darts ≡ ring_count g maps.darts
-    same = rings_same maps.darts changed g (exchanged_permutes maps.darts f d twin p l twin_in apart)
-        (after_exchanges maps r inside others d l differ)
+    same = rings_same g (exchanged_permutes d twin p l twin_in apart) (after_exchanges r d l differ)
 
 -- the tree with the leftover edges below k
 with_left : (tree left : ℕ → Bool) (k : ℕ) → ℕ → Bool
@@ -99,23 +98,22 @@ step_taken tree left k h t =
     rw (h, t, now, before) refl
 
 -- rings and leftover edges together stay odd
-odd_so_far : (maps : Rotations) (tree left : ℕ → Bool) (edges : ℕ) → IsRotationSystem maps
+odd_so_far : {maps : Rotations} (tree left : ℕ → Bool) (edges : ℕ) → IsRotationSystem maps
     → ((e : ℕ) → e < edges → (d : ℕ) × (d < maps.darts) × (maps.edge d ≡ e))
     → ((e : ℕ) → e < edges → left e ≡ true → tree e ≡ false) → 0 < maps.darts → HasOneRing maps tree → (k : ℕ) → k ≤ edges
     → (m : ℕ) × (ring_count (after_dart maps (with_left tree left k)) maps.darts + count_below left k ≡ m + m + 1)
-odd_so_far maps tree left edges r darts apart some ring zero l = (
+odd_so_far {maps} tree left edges r darts apart some ring zero l = (
   0,
   (
       let same : ring_count (after_dart maps tree) maps.darts ≡ ring_count (after_dart maps (with_left tree left 0)) maps.darts =
-      rings_same maps.darts (after_dart maps tree) (after_dart maps (with_left tree left 0)) (after_permutes maps r tree)
+      rings_same (after_dart maps (with_left tree left 0)) (after_permutes r tree)
       (λ x x_in. after_agrees maps tree (with_left tree left 0) x (sym (unopened tree left (maps.edge x)))) in
-      let one : ring_count (after_dart maps tree) maps.darts ≡ 1 =
-      one_ring_counted maps.darts (after_dart maps tree) (after_permutes maps r tree) some ring in
+      let one : ring_count (after_dart maps tree) maps.darts ≡ 1 = one_ring_counted (after_permutes r tree) some ring in
       omega (arith, same, one)
       ),
 )
-odd_so_far maps tree left edges r darts apart some ring (suc k) l =
-    let before = odd_so_far maps tree left edges r darts apart some ring k (omega arith) in
+odd_so_far {maps} tree left edges r darts apart some ring (suc k) l =
+    let before = odd_so_far tree left edges r darts apart some ring k (omega arith) in
     elim (cases_Bool (left k)) [
       | inr skipped ↦
           let agree : (e : ℕ) → with_left tree left k e ≡ with_left tree left (suc k) e = λ e. elim (cases_eq e k) [
@@ -125,8 +123,7 @@ odd_so_far maps tree left edges r darts apart some ring (suc k) l =
           ] in
           let same : ring_count (after_dart maps (with_left tree left k)) maps.darts ≡ ring_count
           (after_dart maps (with_left tree left (suc k))) maps.darts =
-          rings_same maps.darts (after_dart maps (with_left tree left k)) (after_dart maps (with_left tree left (suc k)))
-          (after_permutes maps r (with_left tree left k))
+          rings_same (after_dart maps (with_left tree left (suc k))) (after_permutes r (with_left tree left k))
           (λ x x_in. after_agrees maps (with_left tree left k) (with_left tree left (suc k)) x (agree (maps.edge x))) in
           let count : count_below left (suc k) ≡ count_below left k + 0 = rw skipped refl in
           (before.0, omega (arith, before.1, same, count))
@@ -138,8 +135,7 @@ odd_so_far maps tree left edges r darts apart some ring (suc k) l =
           } in
           let swapped : ByOne (ring_count (after_dart maps (with_left tree left k)) maps.darts)
           (ring_count (after_dart maps (with_left tree left (suc k))) maps.darts) =
-          swap_by_one maps r (with_left tree left k) (with_left tree left (suc k)) dart.0 dart.1
-          (subst (DifferAt (with_left tree left k) (with_left tree left (suc k))) (sym dart.2) differ) in
+          swap_by_one r dart.0 dart.1 (subst (DifferAt (with_left tree left k) (with_left tree left (suc k))) (sym dart.2) differ) in
           let count : count_below left (suc k) ≡ count_below left k + 1 = rw taken refl in
           still_odd (ring_count (after_dart maps (with_left tree left k)) maps.darts)
           (ring_count (after_dart maps (with_left tree left (suc k))) maps.darts)
@@ -151,24 +147,23 @@ odd_so_far maps tree left edges r darts apart some ring (suc k) l =
     still_odd a b c e m (one_less k) h s = (m, omega arith)
 
 -- the leftover edges are 2 g
-pub even_left : (maps : Rotations) (tree cotree left : ℕ → Bool) (edges : ℕ) → IsRotationSystem maps
+pub even_left : {maps : Rotations} (tree cotree left : ℕ → Bool) (edges : ℕ) → IsRotationSystem maps
     → ((d : ℕ) → d < maps.darts → maps.edge d < edges)
     → ((e : ℕ) → e < edges → (d : ℕ) × (d < maps.darts) × (maps.edge d ≡ e))
     → ((e : ℕ) → e < edges → OneOfThree (tree e) (cotree e) (left e)) → 0 < maps.darts → HasOneRing maps tree
     → HasOneRing maps (λ e. not (cotree e))
     → (g : ℕ) × (count_below left edges ≡ 2 * g)
 unfolding with_left
-even_left maps tree cotree left edges r edge_in darts kinds some ring ring_left =
-    let odd = odd_so_far maps tree left edges r darts (λ e l is. no_tree (tree e) (cotree e) (left e) (kinds e l) is) some ring edges
+even_left {maps} tree cotree left edges r edge_in darts kinds some ring ring_left =
+    let odd = odd_so_far tree left edges r darts (λ e l is. no_tree (tree e) (cotree e) (left e) (kinds e l) is) some ring edges
     (omega arith) in
     let end : (e : ℕ) → e < edges → not (cotree e) ≡ with_left tree left edges e = λ e l. at_end e l in
     let same : ring_count (after_dart maps (λ e. not (cotree e))) maps.darts ≡ ring_count (after_dart maps (with_left tree left edges))
     maps.darts =
-    rings_same maps.darts (after_dart maps (λ e. not (cotree e))) (after_dart maps (with_left tree left edges))
-    (after_permutes maps r (λ e. not (cotree e)))
+    rings_same (after_dart maps (with_left tree left edges)) (after_permutes r (λ e. not (cotree e)))
     (λ x x_in. after_agrees maps (λ e. not (cotree e)) (with_left tree left edges) x (end (maps.edge x) (edge_in x x_in))) in
     let one : ring_count (after_dart maps (λ e. not (cotree e))) maps.darts ≡ 1 =
-    one_ring_counted maps.darts (after_dart maps (λ e. not (cotree e))) (after_permutes maps r (λ e. not (cotree e))) some ring_left in
+    one_ring_counted (after_permutes r (λ e. not (cotree e))) some ring_left in
     (odd.0, omega (arith, odd.1, same, one))
   where
     no_tree : (a b c : Bool) → OneOfThree a b c → c ≡ true → a ≡ false

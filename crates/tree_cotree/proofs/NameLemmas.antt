@@ -38,12 +38,11 @@ none_borne name zero = refl
 none_borne name (suc n) = rw (none_borne name n) (omega arith)
 
 -- as many least numbers of classes below m as names that numbers below m bear
-least_are_borne : (n bound : ℕ) (related : ℕ → ℕ → Bool) (name : ℕ → ℕ) (is_name : ℕ → Bool) → AreNamed n bound related name is_name
+least_are_borne : {n bound : ℕ} {related : ℕ → ℕ → Bool} {name : ℕ → ℕ} {is_name : ℕ → Bool} → AreNamed n bound related name is_name
     → (m : ℕ) → m ≤ n → count_below (is_least related) m ≡ count_below (is_borne name m) bound
-least_are_borne n bound related name is_name h zero l = sym (none_borne name bound)
-least_are_borne n bound related name is_name h (suc m) l =
-    let before : count_below (is_least related) m ≡ count_below (is_borne name m) bound =
-    least_are_borne n bound related name is_name h m (omega (arith, l)) in
+least_are_borne {bound} {name} h zero l = sym (none_borne name bound)
+least_are_borne {bound} {related} {name} h (suc m) l =
+    let before : count_below (is_least related) m ≡ count_below (is_borne name m) bound = least_are_borne h m (omega (arith, l)) in
     elim (cases_Bool (any_below (λ y. related y m) m)) [
       | inl some ↦
           let found = found_below (λ y. related y m) m some in
@@ -54,8 +53,7 @@ least_are_borne n bound related name is_name h (suc m) l =
           (λ is. elim (or_cases (is_borne name m v) (eqb (name m) v) is) [
             | inl earlier ↦ earlier
             | inr here ↦ subst (λ (z : ℕ). is_borne name m z ≡ true) (eqb-true (name m) v here) again
-          ])
-          (λ is. or_left (is_borne name m v) (eqb (name m) v) is)) in
+          ]) (λ is. or_left (is_borne name m v) (eqb (name m) v) is)) in
           let no_more : is_least related m ≡ false = ap not some in
           rw (no_more, same, before) (omega arith)
       | inr none ↦
@@ -75,10 +73,10 @@ least_are_borne n bound related name is_name h (suc m) l =
     ]
 
 -- as many classes as names
-pub classes_are_names : (n bound : ℕ) (related : ℕ → ℕ → Bool) (name : ℕ → ℕ) (is_name : ℕ → Bool)
+pub classes_are_names : {n bound : ℕ} {related : ℕ → ℕ → Bool} {name : ℕ → ℕ} {is_name : ℕ → Bool}
     → AreNamed n bound related name is_name → class_count related n ≡ count_below is_name bound
-classes_are_names n bound related name is_name h =
-    least_are_borne n bound related name is_name h n (omega arith)
+classes_are_names {n} {bound} {name} {is_name} h =
+    least_are_borne h n (omega arith)
     ∙ count_same (is_borne name n) is_name bound (λ v l. one_truth (is_borne name n v) (is_name v)
     (λ is. let by = bearer name n v is in subst (λ (z : ℕ). is_name z ≡ true) by.2 (h.is by.0 by.1))
     (λ is. let by = h.each v l is in borne_by name n by.0 v by.1 by.2))

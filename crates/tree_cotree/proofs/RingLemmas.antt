@@ -75,20 +75,20 @@ pub record IsSwapped (surface : OrientedMesh) (edge dart : ℕ) (old new : RingV
   pub after : (x : ℕ) → x < darts_of surface → slice_index new.after x ≡ exchanged (slice_index old.after) dart (twin_of surface dart) x
   pub inside : new.inside ≡ set old.inside edge (not (is_inside old.inside edge))
 
-follow_rule : (s : OrientedMesh) → IsOrientedSurface s → (rings : RingView) → AreRingsOf s rings
+follow_rule : {s : OrientedMesh} → IsOrientedSurface s → {rings : RingView} → AreRingsOf s rings
     → IsPermutationBelow (darts_of s) (slice_index rings.after)
-follow_rule s h rings are =
+follow_rule {s} h {rings} are =
     let p : IsPermutationBelow (darts_of s) (after_dart (rotations_of s) (is_inside rings.inside)) =
-    after_permutes (rotations_of s) (rotation_system s h) (is_inside rings.inside) in
+    after_permutes (rotation_system s h) (is_inside rings.inside) in
     record {
       within = λ x l. subst (λ y. y < darts_of s) (sym (are.rule x l)) (p.within x l);
       injective = λ x y l k e. p.injective x y l k (sym (are.rule x l) ∙ e ∙ are.rule y k);
     }
 
-pub swapped_rings : (s : OrientedMesh) → IsOrientedSurface s → (edge dart : ℕ) (old new : RingView) → edge < length s.table
+pub swapped_rings : {s : OrientedMesh} → IsOrientedSurface s → {edge dart : ℕ} {old new : RingView} → edge < length s.table
     → AreRingsOf s old
     → IsSwapped s edge dart old new → AreRingsOf s new
-swapped_rings s h edge dart old new l are swapped =
+swapped_rings {s} h {edge} {dart} {old} {new} l are swapped =
     let maps : Rotations = rotations_of s in
     let differ : DifferAt (is_inside old.inside) (is_inside new.inside) edge =
     differ_at old.inside new.inside edge (omega (arith, l, are.each_edge)) swapped.inside in
@@ -100,46 +100,42 @@ swapped_rings s h edge dart old new l are swapped =
       each_edge = ap (λ (xs : List Bool). length xs) swapped.inside ∙ length-set old.inside edge (not (is_inside old.inside edge))
           ∙ are.each_edge;
       each_dart = swapped.long ∙ are.each_dart;
-      rule = λ x k.
-          swapped.after x k
+      rule = λ x k. swapped.after x k
           ∙ exchange_agrees (darts_of s) (slice_index old.after) (after_dart maps (is_inside old.inside)) dart b x swapped.dart_in
           (system.twin_within dart swapped.dart_in) k are.rule
-          ∙ after_exchanges maps system (is_inside old.inside) (is_inside new.inside) dart swapped.dart_in here x k;
+          ∙ after_exchanges system dart swapped.dart_in here x k;
     }
   where
     exchange_agrees : (n : ℕ) (f g : ℕ → ℕ) (a b x : ℕ) → a < n → b < n → x < n → ((y : ℕ) → y < n → f y ≡ g y)
         → exchanged f a b x ≡ exchanged g a b x
     exchange_agrees n f g a b x l k m same = rw (same a l, same b k, same x m) refl
 
-pub swapped_count : (s : OrientedMesh) → IsOrientedSurface s → (edge dart : ℕ) (old new : RingView) → AreRingsOf s old
+pub swapped_count : {s : OrientedMesh} → IsOrientedSurface s → {edge dart : ℕ} {old new : RingView} → AreRingsOf s old
     → IsSwapped s edge dart old new
     → ChangesByOne s edge old new
-swapped_count s h edge dart old new are swapped =
+swapped_count {s} h {edge} {dart} {old} {new} are swapped =
     let maps : Rotations = rotations_of s in
     let system : IsRotationSystem maps = rotation_system s h in
     let n : ℕ = darts_of s in
     let f : ℕ → ℕ = slice_index old.after in
-    let p : IsPermutationBelow n f = follow_rule s h old are in
+    let p : IsPermutationBelow n f = follow_rule h are in
     let old_is : rings_of old ≡ ring_count f n = ap (ring_count f) are.each_dart in
-    let counted : (d : ℕ) → d < n → edge_of s d ≡ edge → rings_of new ≡ ring_count (exchanged f d (twin_of s d)) n =
-    λ d l on.
+    let counted : (d : ℕ) → d < n → edge_of s d ≡ edge → rings_of new ≡ ring_count (exchanged f d (twin_of s d)) n = λ d l on.
     let exchange : (x : ℕ) → x < n → exchanged f d (twin_of s d) x ≡ slice_index new.after x =
     elim ((system.edges dart d swapped.dart_in l).0 (swapped.dart_on ∙ sym on)) [
       | inl is ↦ λ x k. ap (λ a. exchanged f a (twin_of s a) x) is ∙ sym (swapped.after x k)
-      | inr turned ↦ λ x k.
-          ap (λ a. exchanged f a (twin_of s a) x) turned
+      | inr turned ↦ λ x k. ap (λ a. exchanged f a (twin_of s a) x) turned
           ∙ ap (λ b. exchanged f (twin_of s dart) b x) (system.twin_back dart swapped.dart_in)
           ∙ exchanged_either f (twin_of s dart) dart x (system.twin_other dart swapped.dart_in) ∙ sym (swapped.after x k)
     ] in
     ap (ring_count (slice_index new.after)) (swapped.long ∙ are.each_dart)
-    ∙ sym (rings_same n (exchanged f d (twin_of s d)) (slice_index new.after)
-    (exchanged_permutes n f d (twin_of s d) p l (system.twin_within d l) (λ e. system.twin_other d l (sym e))) exchange) in
+    ∙ sym (rings_same (slice_index new.after)
+    (exchanged_permutes d (twin_of s d) p l (system.twin_within d l) (λ e. system.twin_other d l (sym e))) exchange) in
     record {
-      more = λ d l on reached.
-          counted d l on ∙ one_ring_more n f d (twin_of s d) p l (system.twin_within d l) (λ e. system.twin_other d l (sym e)) reached
+      more = λ d l on reached. counted d l on ∙ one_ring_more p l (system.twin_within d l) (λ e. system.twin_other d l (sym e)) reached
           ∙ ap suc (sym old_is) ∙ (let e : suc (rings_of old) ≡ rings_of old + 1 = omega arith in e);
       fewer = λ d l on apart.
-          old_is ∙ one_ring_less n f d (twin_of s d) p l (system.twin_within d l) (λ e. system.twin_other d l (sym e)) apart
+          old_is ∙ one_ring_less d (twin_of s d) p l (system.twin_within d l) (λ e. system.twin_other d l (sym e)) apart
           ∙ ap suc (sym (counted d l on)) ∙ (let e : suc (rings_of new) ≡ rings_of new + 1 = omega arith in e);
     }
 
@@ -147,18 +143,17 @@ swapped_count s h edge dart old new are swapped =
 abbrev pub stored_rings : List Bool → List DartName → RingView
 stored_rings set_of xs = record { inside = set_of; after = dart_numbers xs }
 
-pub stored_swap : (s : OrientedMesh) → IsOrientedSurface s → (edge a b : ℕ) (set_of others : List Bool) (xs ys : List DartName)
+pub stored_swap : {s : OrientedMesh} → IsOrientedSurface s → (edge a b : ℕ) (set_of others : List Bool) (xs ys : List DartName)
     → AreRingsOf s (stored_rings set_of xs) → a < darts_of s → edge_of s a ≡ edge → b ≡ twin_of s a → ys ≡ swap xs a b
     → others ≡ set set_of edge (not (get_or set_of edge false)) → IsSwapped s edge a (stored_rings set_of xs) (stored_rings others ys)
-stored_swap s h edge a b set_of others xs ys are l on twin swapped changed =
+stored_swap {s} h edge a b set_of others xs ys are l on twin swapped changed =
     let system : IsRotationSystem (rotations_of s) = rotation_system s h in
     let long : length xs ≡ darts_of s = sym (length-map xs (λ (x : DartName). x.0)) ∙ are.each_dart in
     let is : ys ≡ swap xs a (twin_of s a) = swapped ∙ ap (swap xs a) twin in
     let a_in : a < length xs = omega (arith, l, long) in
     let b_in : twin_of s a < length xs = omega (arith, system.twin_within a l, long) in
     let none : DartName = record { 0 = 0 } in
-    let same_long : length ys ≡ length xs =
-    ap (λ (zs : List DartName). length zs) (is ∙ sym (swap_is xs a (twin_of s a) none a_in b_in))
+    let same_long : length ys ≡ length xs = ap (λ (zs : List DartName). length zs) (is ∙ sym (swap_is xs a (twin_of s a) none a_in b_in))
     ∙ length-set (set xs a (get_or xs (twin_of s a) none)) (twin_of s a) (get_or xs a none)
     ∙ length-set xs a (get_or xs (twin_of s a) none) in
     record {

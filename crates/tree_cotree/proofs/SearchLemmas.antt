@@ -43,12 +43,12 @@ not_both o x e k = cc
 pub same_some : (o : Option ℕ) (x y : ℕ) → o ≡ Some x → o ≡ Some y → x ≡ y
 same_some o x y e k = cc
 
-pub order_more : (maps : Rotations) (node : ℕ → ℕ) (allowed : ℕ → Bool) (bound root : ℕ) (order : List ℕ)
-    (from : List (Option ℕ)) (d x : ℕ)
+pub order_more : {maps : Rotations} {node : ℕ → ℕ} {allowed : ℕ → Bool} {bound root : ℕ} {order : List ℕ}
+    {from : List (Option ℕ)} {d : ℕ} (x : ℕ)
     → IsRotationSystem maps → IsOrder maps node allowed bound root order from → IsNewDart maps node allowed bound root order from d
     → x ≡ maps.twin d
     → IsOrder maps node allowed bound root (order ++ x ∷ []) (set from (node (maps.twin d)) (Some x))
-order_more maps node allowed bound root order from d x r h new is =
+order_more {maps} {node} {allowed} {order} {from} {d} x r h new is =
     let v : ℕ = node (maps.twin d) in
     let n : ℕ = length order in
     let more : List ℕ = order ++ x ∷ [] in
@@ -96,7 +96,7 @@ order_more maps node allowed bound root order from d x r h new is =
       inside = λ j later l. elim (cases_lt j n) [
         | inl less ↦ ap (λ y. allowed (maps.edge y)) (old j less) ∙ h.inside j later less
         | inr at_end ↦ ap (λ y. allowed (maps.edge y)) (last j (omega (arith, l, long, at_end)) ∙ is)
-            ∙ ap allowed (sym (twin_edge maps r d new.dart)) ∙ new.crosses
+            ∙ ap allowed (sym (twin_edge r d new.dart)) ∙ new.crosses
       ];
       named = λ j later l. elim (cases_lt j n) [
         | inl less ↦
@@ -135,8 +135,8 @@ pub record GoesOn (old new : List ℕ) : Type 0 where
   pub longer : length old ≤ length new
   pub same : (j : ℕ) → j < length old → get_or new j 0 ≡ get_or old j 0
 
-pub found_on : (node : ℕ → ℕ) (old new : List ℕ) (v : ℕ) → GoesOn old new → IsFound node old v → IsFound node new v
-found_on node old new v h found =
+pub found_on : {node : ℕ → ℕ} {old : List ℕ} (new : List ℕ) {v : ℕ} → GoesOn old new → IsFound node old v → IsFound node new v
+found_on {node} new h found =
     record {
       place = found.place;
       within = omega (arith, found.within, h.longer);
@@ -145,9 +145,9 @@ found_on node old new v h found =
     }
 
 -- an order has no more darts than there are numbers of nodes
-pub order_few : (maps : Rotations) (node : ℕ → ℕ) (allowed : ℕ → Bool) (bound root : ℕ) (order : List ℕ) (from : List (Option ℕ))
+pub order_few : {maps : Rotations} {node : ℕ → ℕ} {allowed : ℕ → Bool} {bound root : ℕ} {order : List ℕ} {from : List (Option ℕ)}
     → IsOrder maps node allowed bound root order from → ((d : ℕ) → d < maps.darts → node d < bound) → length order ≤ bound
-order_few maps node allowed bound root order from h below =
+order_few {node} {bound} {order} h below =
     elim (cases_lt bound (length order)) [
       | inl more ↦
           (let alike : AreAlike (λ j. node (get_or order j 0)) (suc bound) =
@@ -180,22 +180,22 @@ CrossedUpTo maps node allowed turn order first k =
     (i : ℕ) → i < k → allowed (maps.edge (after_steps turn i first)) ≡ true
     → IsFound node order (node (maps.twin (after_steps turn i first)))
 
-pub crossed_round : (maps : Rotations) (node : ℕ → ℕ) (allowed : ℕ → Bool) (turn : ℕ → ℕ) (order : List ℕ) (first k : ℕ)
+pub crossed_round : {maps : Rotations} {node : ℕ → ℕ} (allowed : ℕ → Bool) {turn : ℕ → ℕ} (order : List ℕ) (first k : ℕ)
     → IsTurning maps node turn → first < maps.darts
     → CrossedUpTo maps node allowed turn order first k → (0 < k) × (after_steps turn k first ≡ first)
     → IsCrossed maps node allowed order (node first)
-crossed_round maps node allowed turn order first k t l crossed comes d b same passes =
+crossed_round {maps} {node} allowed {turn} order first k t l crossed comes d b same passes =
     let way : IsReached turn first d = t.reaches first d l b (sym same) in
     let soon = round turn first k way.steps comes.0 comes.1 in
     let is : after_steps turn soon.0 first ≡ d = sym soon.2 ∙ way.leads in
     subst (λ y. IsFound node order (node (maps.twin y))) is (crossed soon.0 soon.1 (ap (λ y. allowed (maps.edge y)) is ∙ passes))
 
-pub crossed_all : (maps : Rotations) (node : ℕ → ℕ) (allowed : ℕ → Bool) (turn : ℕ → ℕ) (order : List ℕ) (first k : ℕ)
+pub crossed_all : {maps : Rotations} {node : ℕ → ℕ} (allowed : ℕ → Bool) {turn : ℕ → ℕ} (order : List ℕ) (first k : ℕ)
     → IsTurning maps node turn → first < maps.darts
     → CrossedUpTo maps node allowed turn order first k → maps.darts ≤ k → IsCrossed maps node allowed order (node first)
-crossed_all maps node allowed turn order first k t l crossed many d b same passes =
+crossed_all {maps} {node} allowed {turn} order first k t l crossed many d b same passes =
     let way : IsReached turn first d = t.reaches first d l b (sym same) in
-    let soon = reached_soon maps.darts turn t.permutes first l (suc way.steps) way.steps d (omega arith) way.leads in
+    let soon = reached_soon t.permutes first l (suc way.steps) way.steps d (omega arith) way.leads in
     subst (λ y. IsFound node order (node (maps.twin y))) soon.2
     (crossed soon.0 (omega (arith, soon.1, many)) (ap (λ y. allowed (maps.edge y)) soon.2 ∙ passes))
 
@@ -206,7 +206,7 @@ pub crossed_more : (maps : Rotations) (node : ℕ → ℕ) (allowed : ℕ → Bo
     → CrossedUpTo maps node allowed turn new first (k + 1)
 crossed_more maps node allowed turn old new first k h crossed here i l passes =
     elim (cases_lt i k) [
-      | inl less ↦ found_on node old new (node (maps.twin (after_steps turn i first))) h (crossed i less passes)
+      | inl less ↦ found_on new h (crossed i less passes)
       | inr more ↦
           (let same : i ≡ k = omega (arith, l, more) in
           subst (λ j. IsFound node new (node (maps.twin (after_steps turn j first)))) (sym same)
@@ -215,19 +215,19 @@ crossed_more maps node allowed turn old new first k h crossed here i l passes =
 
 pub crossed_on : (maps : Rotations) (node : ℕ → ℕ) (allowed : ℕ → Bool) (old new : List ℕ) (v : ℕ) → GoesOn old new
     → IsCrossed maps node allowed old v → IsCrossed maps node allowed new v
-crossed_on maps node allowed old new v h crossed d l is passes = found_on node old new (node (maps.twin d)) h (crossed d l is passes)
+crossed_on maps node allowed old new v h crossed d l is passes = found_on new h (crossed d l is passes)
 
 -- round a vertex by the next dart of the twin, round a face by the next dart
-pub turning : (s : OrientedMesh) → IsOrientedSurface s → (nodes : Nodes)
+pub turning : {s : OrientedMesh} → IsOrientedSurface s → (nodes : Nodes)
     → IsTurning (rotations_of s) (node_of nodes (rotations_of s)) (turn_of nodes (rotations_of s))
-turning s h Vertices =
+turning {s} h Vertices =
     let r : IsRotationSystem (rotations_of s) = rotation_system s h in
     record {
       permutes = turns_permute s h;
       reaches = λ d e l k same. (r.vertices d e l k).0 same;
       keeps = λ d l. origin-turned s h d l;
     }
-turning s h Faces =
+turning {s} h Faces =
     let r : IsRotationSystem (rotations_of s) = rotation_system s h in
     record {
       permutes = next_permutes s;
@@ -236,13 +236,13 @@ turning s h Faces =
     }
 
 -- a node that is the root, or for which a dart is kept, is found
-pub root_found : (maps : Rotations) (node : ℕ → ℕ) (allowed : ℕ → Bool) (bound root : ℕ) (order : List ℕ)
-    (from : List (Option ℕ)) (v : ℕ)
+pub root_found : {maps : Rotations} {node : ℕ → ℕ} {allowed : ℕ → Bool} {bound root : ℕ} {order : List ℕ}
+    {from : List (Option ℕ)} (v : ℕ)
     → IsOrder maps node allowed bound root order from → v ≡ root → IsFound node order v
-root_found maps node allowed bound root order from v h is = record { place = 0; within = h.some; is = h.first ∙ sym is }
+root_found v h is = record { place = 0; within = h.some; is = h.first ∙ sym is }
 
-pub named_found : (node : ℕ → ℕ) (order : List ℕ) (v x : ℕ) → IsNamed node order v x → IsFound node order v
-named_found node order v x h = record { place = h.place; within = h.within; is = ap node h.is ∙ h.of_node }
+pub named_found : {node : ℕ → ℕ} {order : List ℕ} {v x : ℕ} → IsNamed node order v x → IsFound node order v
+named_found {node} h = record { place = h.place; within = h.within; is = ap node h.is ∙ h.of_node }
 
 kept_is : (from : List (Option ℕ)) (v : ℕ) (o : Option ℕ) → v < length from → o ≡ get_or from v o → get_or from v None ≡ o
 kept_is from v o l e = sym (get_or_read from v o l e None)
@@ -252,12 +252,11 @@ pub kept_read : (from : List (Option ℕ)) (v : ℕ) (o : Option ℕ) (got x : O
     → option_map (λ d. d.0) got ≡ o → got ≡ x → kept_at from v ≡ option_map (λ d. d.0) x
 kept_read from v o got x l e get is = kept_is from v o l e ∙ sym get ∙ ap (option_map (λ (d : DartName). d.0)) is
 
-pub kept_found : (maps : Rotations) (node : ℕ → ℕ) (allowed : ℕ → Bool) (bound root : ℕ) (order : List ℕ)
-    (from : List (Option ℕ)) (v : ℕ) (o : Option ℕ)
+pub kept_found : {maps : Rotations} {node : ℕ → ℕ} {allowed : ℕ → Bool} {bound root : ℕ} {order : List ℕ}
+    {from : List (Option ℕ)} (v : ℕ) (o : Option ℕ)
     → IsOrder maps node allowed bound root order from → v < length from → o ≡ get_or from v o → is_some o ≡ true → IsFound node order v
-kept_found maps node allowed bound root order from v None h l e some = cc
-kept_found maps node allowed bound root order from v (Some x) h l e some =
-    named_found node order v x (h.only v x (kept_is from v (Some x) l e))
+kept_found v None h l e some = cc
+kept_found {from} v (Some x) h l e some = named_found (h.only v x (kept_is from v (Some x) l e))
 
 pub none_kept : (from : List (Option ℕ)) (v : ℕ) (o : Option ℕ) → v < length from → o ≡ get_or from v o
     → is_some o ≡ false → kept_at from v ≡ None
@@ -267,14 +266,13 @@ none_kept from v (Some x) l e none = cc
 pub numbers_push : (xs ys : List DartName) (x : DartName) → ys ≡ xs ++ x ∷ [] → dart_numbers ys ≡ dart_numbers xs ++ x.0 ∷ []
 numbers_push xs ys x e = ap dart_numbers e ∙ map-append (λ (d : DartName). d.0) xs (x ∷ [])
 
-pub order_pushed : (maps : Rotations) (node : ℕ → ℕ) (allowed : ℕ → Bool) (bound root : ℕ) (xs ys : List DartName)
-    (from : List (Option ℕ)) (d v : ℕ) (x : DartName)
+pub order_pushed : {maps : Rotations} {node : ℕ → ℕ} {allowed : ℕ → Bool} {bound root : ℕ} (xs ys : List DartName)
+    {from : List (Option ℕ)} {d : ℕ} (v : ℕ) (x : DartName)
     → IsRotationSystem maps → IsOrder maps node allowed bound root (dart_numbers xs) from
     → IsNewDart maps node allowed bound root (dart_numbers xs) from d
     → x.0 ≡ maps.twin d → v ≡ node (maps.twin d) → ys ≡ xs ++ x ∷ []
     → IsOrder maps node allowed bound root (dart_numbers ys) (set from v (Some x.0))
-order_pushed maps node allowed bound root xs ys from d v x r h new is at pushed =
-    rw (numbers_push xs ys x pushed, at) (order_more maps node allowed bound root (dart_numbers xs) from d x.0 r h new is)
+order_pushed xs ys v x r h new is at pushed = rw (numbers_push xs ys x pushed, at) (order_more x.0 r h new is)
 
 pub found_pushed : (maps : Rotations) (node : ℕ → ℕ) (xs ys : List DartName) (d : ℕ) (x : DartName) → x.0 ≡ maps.twin d → ys ≡ xs ++ x ∷ []
     → IsFound node (dart_numbers ys) (node (maps.twin d))
@@ -300,16 +298,16 @@ added_pushed xs ys ws vs x pushed waits = record {
       numbers_push ws vs x waits;
 }
 
-pub added_on : (xs ws ys vs zs us : List ℕ) → AreAdded xs ws ys vs → AreAdded ys vs zs us → AreAdded xs ws zs us
-added_on xs ws ys vs zs us h k =
+pub added_on : {xs ws ys vs zs us : List ℕ} → AreAdded xs ws ys vs → AreAdded ys vs zs us → AreAdded xs ws zs us
+added_on {xs} {ws} h k =
     record {
       added = h.added ++ k.added;
       order = k.order ∙ ap (λ (ts : List ℕ). ts ++ k.added) h.order ∙ append_assoc xs h.added k.added;
       waits = k.waits ∙ ap (λ (ts : List ℕ). ts ++ k.added) h.waits ∙ append_assoc ws h.added k.added;
     }
 
-pub added_goes : (xs ws ys vs : List ℕ) → AreAdded xs ws ys vs → GoesOn xs ys
-added_goes xs ws ys vs h =
+pub added_goes : {xs ws ys vs : List ℕ} → AreAdded xs ws ys vs → GoesOn xs ys
+added_goes {xs} h =
     record {
       longer = omega (arith, ap (λ (ts : List ℕ). length ts) h.order, length-append xs h.added);
       same = λ j l. ap (λ (ts : List ℕ). get_or ts j 0) h.order ∙ get_or_append_left xs h.added 0 j l;
@@ -323,45 +321,44 @@ pub record IsVisiting (maps : Rotations) (node : ℕ → ℕ) (allowed : ℕ →
   pub at : dart ≡ after_steps turn k first
   pub crossed : CrossedUpTo maps node allowed turn order first k
 
-pub visit_start : (maps : Rotations) (node : ℕ → ℕ) (allowed : ℕ → Bool) (turn : ℕ → ℕ) (bound root : ℕ) (order waiting : List ℕ)
-    (from : List (Option ℕ)) (first : ℕ)
+pub visit_start : {maps : Rotations} {node : ℕ → ℕ} {allowed : ℕ → Bool} (turn : ℕ → ℕ) {bound root : ℕ} {order : List ℕ} (waiting : List ℕ)
+    {from : List (Option ℕ)} (first : ℕ)
     → IsOrder maps node allowed bound root order from
     → IsVisiting maps node allowed turn bound root order waiting order waiting from first first 0
-visit_start maps node allowed turn bound root order waiting from first h =
+visit_start turn {order} waiting first h =
     record { is_order = h; added = added_none order waiting; at = refl; crossed = λ i l passes. absurd (omega arith) }
 
-pub visit_more : (maps : Rotations) (node : ℕ → ℕ) (allowed : ℕ → Bool) (turn : ℕ → ℕ) (bound root : ℕ)
-    (before waited order waiting new more : List ℕ) (from kept : List (Option ℕ)) (first dart next k : ℕ)
+pub visit_more : {maps : Rotations} {node : ℕ → ℕ} {allowed : ℕ → Bool} {turn : ℕ → ℕ} {bound root : ℕ}
+    {before waited order waiting new more : List ℕ} {from kept : List (Option ℕ)} {first dart : ℕ} (next : ℕ) {k : ℕ}
     → IsVisiting maps node allowed turn bound root before waited order waiting from first dart k
     → IsOrder maps node allowed bound root new kept
     → AreAdded order waiting new more → (allowed (maps.edge dart) ≡ true → IsFound node new (node (maps.twin dart))) → next ≡ turn dart
     → IsVisiting maps node allowed turn bound root before waited new more kept first next (k + 1)
-visit_more maps node allowed turn bound root before waited order waiting new more from kept first dart next k h is adds here turned =
+visit_more {maps} {node} {allowed} {turn} {order} {new} {first} next {k} h is adds here turned =
     let step : k + 1 ≡ suc k = omega arith in
     record {
       is_order = is;
-      added = added_on before waited order waiting new more h.added adds;
+      added = added_on h.added adds;
       at = turned ∙ ap turn h.at ∙ ap (λ j. after_steps turn j first) (sym step);
-      crossed = crossed_more maps node allowed turn order new first k (added_goes order waiting new more adds) h.crossed
+      crossed = crossed_more maps node allowed turn order new first k (added_goes adds) h.crossed
           (subst (λ d. allowed (maps.edge d) ≡ true → IsFound node new (node (maps.twin d))) h.at here);
     }
 
-pub visit_within : (maps : Rotations) (node : ℕ → ℕ) (turn : ℕ → ℕ) (first dart k : ℕ) → IsTurning maps node turn → first < maps.darts
+pub visit_within : {maps : Rotations} {node : ℕ → ℕ} {turn : ℕ → ℕ} (first dart k : ℕ) → IsTurning maps node turn → first < maps.darts
     → dart ≡ after_steps turn k first → dart < maps.darts
-visit_within maps node turn first dart k t l at = subst (λ d. d < maps.darts) (sym at) (steps_within maps.darts turn t.permutes k first l)
+visit_within {maps} {turn} first dart k t l at = subst (λ d. d < maps.darts) (sym at) (steps_within maps.darts turn t.permutes k first l)
 
-pub visit_found : (maps : Rotations) (node : ℕ → ℕ) (allowed : ℕ → Bool) (turn : ℕ → ℕ) (bound root : ℕ)
-    (before waited order waiting : List ℕ) (from : List (Option ℕ)) (first dart k : ℕ)
+pub visit_found : {maps : Rotations} {node : ℕ → ℕ} {allowed : ℕ → Bool} {turn : ℕ → ℕ} {bound root : ℕ}
+    {before waited order waiting : List ℕ} {from : List (Option ℕ)} {first dart k : ℕ}
     → IsTurning maps node turn → first < maps.darts → IsFound node before (node first)
     → IsVisiting maps node allowed turn bound root before waited order waiting from first dart k → IsFound node order (node dart)
-visit_found maps node allowed turn bound root before waited order waiting from first dart k t l found h =
-    let same : node dart ≡ node first =
-    ap node h.at
+visit_found {maps} {node} {turn} {order} {first} {dart} {k} t l found h =
+    let same : node dart ≡ node first = ap node h.at
     ∙ reached_keeps maps.darts turn node t.permutes t.keeps first (after_steps turn k first) l (record { steps = k; leads = refl }) in
-    subst (IsFound node order) (sym same) (found_on node before order (node first) (added_goes before waited order waiting h.added) found)
+    subst (IsFound node order) (sym same) (found_on order (added_goes h.added) found)
 
 -- the order and its bound
-pub rebound : (maps : Rotations) (node : ℕ → ℕ) (allowed : ℕ → Bool) (bound other root : ℕ) (order : List ℕ)
-    (from : List (Option ℕ)) → bound ≡ other
+pub rebound : {maps : Rotations} {node : ℕ → ℕ} {allowed : ℕ → Bool} {bound : ℕ} (other : ℕ) {root : ℕ} {order : List ℕ}
+    {from : List (Option ℕ)} → bound ≡ other
     → IsOrder maps node allowed bound root order from → IsOrder maps node allowed other root order from
-rebound maps node allowed bound other root order from e h = subst (λ b. IsOrder maps node allowed b root order from) e h
+rebound {maps} {node} {allowed} other {root} {order} {from} e h = subst (λ b. IsOrder maps node allowed b root order from) e h

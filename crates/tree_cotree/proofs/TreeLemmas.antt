@@ -14,44 +14,43 @@ use Rattle.tree_cotree.proofs.GrowthLemmas.{HasNodes}
 use Rattle.tree_cotree.proofs.SearchLemmas.{option_cases, not_both, same_some}
 use Rattle.tree_cotree.proofs.UpwardLemmas.{IsUpward, no_return, joined_by}
 
-pub crossed_from : (maps : Rotations) (node : ℕ → ℕ) (allowed : ℕ → Bool) (bound root : ℕ) (from : List (Option ℕ))
+pub crossed_from : {maps : Rotations} {node : ℕ → ℕ} {allowed : ℕ → Bool} {bound root : ℕ} {from : List (Option ℕ)}
     (s : IsSearched maps node allowed bound root from)
     → (d : ℕ) → d < maps.darts → allowed (maps.edge d) ≡ true → IsFound node s.order (node d) → IsFound node s.order (node (maps.twin d))
-crossed_from maps node allowed bound root from s d l passes found = s.closed found.place found.within d l (sym found.is) passes
+crossed_from s d l passes found = s.closed found.place found.within d l (sym found.is) passes
 
 -- along allowed edges all nodes are found that hang together so
-path_found : (maps : Rotations) (node : ℕ → ℕ) (allowed : ℕ → Bool) (bound root : ℕ) (from : List (Option ℕ))
+path_found : {maps : Rotations} {node : ℕ → ℕ} {allowed : ℕ → Bool} {bound root : ℕ} {from : List (Option ℕ)}
     (s : IsSearched maps node allowed bound root from)
-    → (u v : ℕ) (path : List ℕ) → IsPath (StepsIn maps node allowed) u path v → IsFound node s.order u → IsFound node s.order v
-path_found maps node allowed bound root from s u v [] p found = subst (IsFound node s.order) p found
-path_found maps node allowed bound root from s u v (w ∷ path) p found =
+    → {u : ℕ} (v : ℕ) (path : List ℕ) → IsPath (StepsIn maps node allowed) u path v → IsFound node s.order u → IsFound node s.order v
+path_found {node} s v [] p found = subst (IsFound node s.order) p found
+path_found {maps} {node} {allowed} s {u} v (w ∷ path) p found =
     let d : ℕ = p.0.0 in
     let step : IsStepIn maps node allowed u w d = p.0.1 in
-    path_found maps node allowed bound root from s w v path p.1
-    (subst (IsFound node s.order) step.ends
-    (crossed_from maps node allowed bound root from s d step.within step.in_set (subst (IsFound node s.order) (sym step.starts) found)))
+    path_found s v path p.1 (subst (IsFound node s.order) step.ends
+    (crossed_from s d step.within step.in_set (subst (IsFound node s.order) (sym step.starts) found)))
 
 -- from each node found the darts lead back to the root
-found_to_root : (maps : Rotations) (node : ℕ → ℕ) (allowed : ℕ → Bool) (bound root : ℕ) (order : List ℕ) (from : List (Option ℕ))
+found_to_root : {maps : Rotations} {node : ℕ → ℕ} {allowed : ℕ → Bool} {bound root : ℕ} {order : List ℕ} {from : List (Option ℕ)}
     → IsOrder maps node allowed bound root order from
     → (fuel j : ℕ) → j < fuel → j < length order → AreJoined (LeadsUp maps node from) (node (get_or order j 0)) root
-found_to_root maps node allowed bound root order from h zero j b l = absurd (omega arith)
-found_to_root maps node allowed bound root order from h (suc fuel) j b l =
+found_to_root h zero j b l = absurd (omega arith)
+found_to_root {maps} {node} {root} {order} {from} h (suc fuel) j b l =
     elim (cases_eq j 0) [
       | inl first ↦ ([], ap (λ k. node (get_or order k 0)) first ∙ h.first)
       | inr not_first ↦
           (let later : 0 < j = omega (arith, not_first) in
           let d : LeadsBack maps node order j = h.back j later l in
           let rest : AreJoined (LeadsUp maps node from) (node (get_or order d.place 0)) root =
-          found_to_root maps node allowed bound root order from h fuel d.place (omega (arith, d.before, b)) (omega (arith, d.before, l)) in
+          found_to_root h fuel d.place (omega (arith, d.before, b)) (omega (arith, d.before, l)) in
           (node (get_or order d.place 0) ∷ rest.0, ((get_or order j 0, h.named j later l, d.is), rest.1)))
     ]
 
 -- a search across edges by which all nodes hang together makes a tree over them
-pub search_rooted : (maps : Rotations) (node : ℕ → ℕ) (allowed : ℕ → Bool) (bound start : ℕ) (from : List (Option ℕ))
+pub search_rooted : {maps : Rotations} {node : ℕ → ℕ} {allowed : ℕ → Bool} {bound : ℕ} (start : ℕ) {from : List (Option ℕ)}
     → start < maps.darts → HangTogether maps node allowed → IsSearched maps node allowed bound (node start) from
     → IsRooted maps node allowed bound (node start) from
-search_rooted maps node allowed bound start from l together s =
+search_rooted {maps} {node} {allowed} {bound} start {from} l together s =
     let h : IsOrder maps node allowed bound (node start) s.order from = s.is_order in
     record {
       long = h.long;
@@ -69,27 +68,26 @@ search_rooted maps node allowed bound start from l together s =
           ap (λ d. allowed (maps.edge d)) (sym name.is) ∙ h.inside name.place name.later name.within;
       to_root = λ d k.
           let way = together start d l k in
-          let found : IsFound node s.order (node d) =
-          path_found maps node allowed bound (node start) from s (node start) (node d) way.0 way.1
+          let found : IsFound node s.order (node d) = path_found s (node d) way.0 way.1
           (record { place = 0; within = h.some; is = h.first }) in
           subst (λ v. AreJoined (LeadsUp maps node from) v (node start)) found.is
-          (found_to_root maps node allowed bound (node start) s.order from h (suc found.place) found.place (omega arith) found.within);
+          (found_to_root h (suc found.place) found.place (omega arith) found.within);
     }
 
 -- one step at most leads up from a node, and none from the root
-pub upward : (maps : Rotations) (node : ℕ → ℕ) (allowed : ℕ → Bool) (bound root : ℕ) (from : List (Option ℕ))
+pub upward : {maps : Rotations} {node : ℕ → ℕ} {allowed : ℕ → Bool} {bound root : ℕ} {from : List (Option ℕ)}
     → IsRooted maps node allowed bound root from → IsUpward (LeadsUp maps node from) root
-upward maps node allowed bound root from h = record {
+upward {maps} {node} {root} {from} h = record {
   one = λ u v w p q. sym p.2 ∙ ap (λ d. node (maps.twin d)) (same_some (kept_at from u) p.0 q.0 p.1 q.1) ∙ q.2;
   top = λ v p. not_both (kept_at from root) p.0 p.1 h.none;
 }
 
 -- the nodes for which a dart is kept are all but the root
-pub kept_nodes : (maps : Rotations) (node : ℕ → ℕ) (allowed : ℕ → Bool) (bound root edges : ℕ) (is_node : ℕ → Bool)
-    (from : List (Option ℕ))
+pub kept_nodes : {maps : Rotations} {node : ℕ → ℕ} {allowed : ℕ → Bool} {bound root edges : ℕ} {is_node : ℕ → Bool}
+    {from : List (Option ℕ)}
     → HasNodes maps node is_node bound edges → (f : IsRooted maps node allowed bound root from) → (v : ℕ) → v < bound
     → is_node v ≡ with_one (λ w. is_some (kept_at from w)) root v
-kept_nodes maps node allowed bound root edges is_node from n f v l =
+kept_nodes {maps} {node} {root} {is_node} {from} n f v l =
     elim (cases_Bool (is_node v)) [
       | inl yes_node ↦ yes_node ∙ sym (here (n.has_dart v l yes_node))
       | inr no_node ↦ no_node ∙ sym (elim (cases_Bool (with_one kept root v)) [
@@ -122,11 +120,11 @@ kept_nodes maps node allowed bound root edges is_node from n f v l =
         subst (λ w. is_node w ≡ true) (f.of_node v x.0 x.1) (n.is_of_dart x.0 (f.within v x.0 x.1))
 
 -- the kept darts and the set of their edges join any two nodes
-pub kept_join : (maps : Rotations) (node : ℕ → ℕ) (allowed inside : ℕ → Bool) (bound root : ℕ) (from : List (Option ℕ))
+pub kept_join : {maps : Rotations} {node : ℕ → ℕ} {allowed : ℕ → Bool} (inside : ℕ → Bool) {bound root : ℕ} {from : List (Option ℕ)}
     → IsRotationSystem maps
     → (f : IsRooted maps node allowed bound root from) → ((v x : ℕ) → kept_at from v ≡ Some x → inside (maps.edge x) ≡ true)
     → HangTogether maps node inside
-kept_join maps node allowed inside bound root from r f marked d e l k =
+kept_join {maps} {node} inside {root} {from} r f marked d e l k =
     joined_trans steps (node d) root (node e) (up d l) (joined_sym steps turned (node e) root (up e k))
   where
     steps : ℕ → ℕ → Type 0
@@ -142,23 +140,22 @@ kept_join maps node allowed inside bound root from r f marked d e l k =
       maps.twin p.0,
       record {
         within = r.twin_within p.0 p.1.within;
-        in_set = ap inside (sym (twin_edge maps r p.0 p.1.within)) ∙ p.1.in_set;
+        in_set = ap inside (sym (twin_edge r p.0 p.1.within)) ∙ p.1.in_set;
         starts = p.1.ends;
         ends = ap node (r.twin_back p.0 p.1.within) ∙ p.1.starts;
       },
     )
 
 -- no two kept darts lie on one edge
-pub kept_apart : (maps : Rotations) (node : ℕ → ℕ) (allowed : ℕ → Bool) (bound root : ℕ) (from : List (Option ℕ))
+pub kept_apart : {maps : Rotations} {node : ℕ → ℕ} {allowed : ℕ → Bool} {bound root : ℕ} {from : List (Option ℕ)}
     → IsRotationSystem maps → IsRooted maps node allowed bound root from → AreApart maps from
-kept_apart maps node allowed bound root from r h =
+kept_apart {maps} {node} {root} {from} r h =
     record {
       within = h.within;
       apart = λ v w x y a b ne same. elim ((r.edges x y (h.within v x a) (h.within w y b)).0 same) [
         | inl is ↦ ne (sym (h.of_node v x a) ∙ ap node (sym is) ∙ h.of_node w y b)
         | inr twin ↦
-            no_return (LeadsUp maps node from) root (upward maps node allowed bound root from h) v w
-            (x, a, ap node (sym twin) ∙ h.of_node w y b)
+            no_return (upward h) v w (x, a, ap node (sym twin) ∙ h.of_node w y b)
             (y, b, ap (λ d. node (maps.twin d)) twin ∙ ap node (r.twin_back x (h.within v x a)) ∙ h.of_node v x a)
             (subst (λ u. AreJoined (LeadsUp maps node from) u root) (h.of_node v x a) (h.to_root x (h.within v x a)))
       ];
@@ -169,10 +166,10 @@ marked_none maps from edges old =
     record { count = omega arith; marked = λ v x l e. absurd (omega arith); kept = λ e k. k; only = λ e k. inl k }
 
 -- no dart is kept for the next node
-pub marked_skip : (maps : Rotations) (from : List (Option ℕ)) (edges n : ℕ) (old new : ℕ → Bool)
+pub marked_skip : {maps : Rotations} {from : List (Option ℕ)} {edges n : ℕ} {old new : ℕ → Bool}
     → AreMarked maps from edges old new n → kept_at from n ≡ None
     → AreMarked maps from edges old new (n + 1)
-marked_skip maps from edges n old new h none =
+marked_skip {from} {edges} {n} {old} h none =
     let no_more : count_below (λ w. is_some (kept_at from w)) (n + 1) ≡ count_below (λ w. is_some (kept_at from w)) n =
     ap (count_below (λ w. is_some (kept_at from w))) (let e : n + 1 ≡ suc n = omega arith in e)
     ∙ ap (λ o. count_below (λ w. is_some (kept_at from w)) n + cond (is_some o) 1 0) none
@@ -191,11 +188,11 @@ marked_skip maps from edges n old new h none =
     }
 
 -- the edge of the dart that is kept for the next node is put in
-pub marked_more : (maps : Rotations) (from : List (Option ℕ)) (edges n x : ℕ) (old new others : ℕ → Bool)
+pub marked_more : {maps : Rotations} {from : List (Option ℕ)} {edges n : ℕ} (x : ℕ) {old new : ℕ → Bool} (others : ℕ → Bool)
     → AreMarked maps from edges old new n → kept_at from n ≡ Some x
     → maps.edge x < edges → old (maps.edge x) ≡ false → ((v y : ℕ) → v ≢ n → kept_at from v ≡ Some y → maps.edge y ≢ maps.edge x)
     → ((e : ℕ) → others e ≡ with_one new (maps.edge x) e) → AreMarked maps from edges old others (n + 1)
-marked_more maps from edges n x old new others h some l free apart is =
+marked_more {maps} {from} {edges} {n} x {old} {new} others h some l free apart is =
     let e : ℕ = maps.edge x in
     let one_more : count_below (λ w. is_some (kept_at from w)) (n + 1) ≡ count_below (λ w. is_some (kept_at from w)) n + 1 =
     ap (count_below (λ w. is_some (kept_at from w))) (let e : n + 1 ≡ suc n = omega arith in e)
@@ -235,22 +232,21 @@ same_itself Tree = refl
 same_itself Cotree = refl
 same_itself Left = refl
 
-pub marks_skip : (maps : Rotations) (from : List (Option ℕ)) (kind : Kind) (old new : List Kind) (n : ℕ)
+pub marks_skip : {maps : Rotations} {from : List (Option ℕ)} {kind : Kind} {old new : List Kind} {n : ℕ}
     → IsMarked maps from kind old new n → kept_at from n ≡ None
     → IsMarked maps from kind old new (n + 1)
-marks_skip maps from kind old new n h none =
+marks_skip h none =
     record {
       long = h.long;
-      sets = marked_skip maps from (length old) n (has_kind old kind) (has_kind new kind) h.sets none;
-      others =
-          h.others;
+      sets = marked_skip h.sets none;
+      others = h.others;
     }
 
-pub marks_more : (maps : Rotations) (from : List (Option ℕ)) (kind : Kind) (old new : List Kind) (n x : ℕ) → AreApart maps from
+pub marks_more : {maps : Rotations} {from : List (Option ℕ)} {kind : Kind} {old new : List Kind} {n : ℕ} (x : ℕ) → AreApart maps from
     → IsMarked maps from kind old new n
     → kept_at from n ≡ Some x → maps.edge x < length old → has_kind old kind (maps.edge x) ≡ false
     → IsMarked maps from kind old (set new (maps.edge x) kind) (n + 1)
-marks_more maps from kind old new n x apart h some l free =
+marks_more {maps} {kind} {new} {n} x apart h some l free =
     let i : ℕ = maps.edge x in
     let more : List Kind = set new i kind in
     let here : has_kind more kind i ≡ true = ap (λ k. same_kind k kind) (get_or-set_same new i kind Tree (omega (arith, l, h.long)))
@@ -258,13 +254,11 @@ marks_more maps from kind old new n x apart h some l free =
     let other : (e : ℕ) → e ≢ i → get_or more e Tree ≡ get_or new e Tree = λ e ne. get_or-set_other new i e kind Tree ne in
     record {
       long = length-set new i kind ∙ h.long;
-      sets = marked_more maps from (length old) n x (has_kind old kind) (has_kind new kind) (has_kind more kind) h.sets some l free
-          (λ v y ne e. apart.apart v n y x e some ne)
-          (λ e. elim (cases_eq e i) [
-            | inl same ↦ ap (has_kind more kind) same ∙ here
-                ∙ sym (ap (with_one (has_kind new kind) i) same ∙ with_itself (has_kind new kind) i)
-            | inr ne ↦ ap (λ k. same_kind k kind) (other e ne) ∙ sym (with_other (has_kind new kind) i e ne)
-          ]);
+      sets = marked_more x (has_kind more kind) h.sets some l free (λ v y ne e. apart.apart v n y x e some ne) (λ e. elim (cases_eq e i) [
+        | inl same ↦ ap (has_kind more kind) same ∙ here
+            ∙ sym (ap (with_one (has_kind new kind) i) same ∙ with_itself (has_kind new kind) i)
+        | inr ne ↦ ap (λ k. same_kind k kind) (other e ne) ∙ sym (with_other (has_kind new kind) i e ne)
+      ]);
       others = λ e out. elim (cases_eq e i) [
         | inl same ↦ absurd (both_ways (has_kind more kind e) out (ap (has_kind more kind) same ∙ here))
         | inr ne ↦ other e ne ∙ h.others e (ap (λ k. same_kind k kind) (sym (other e ne)) ∙ out)

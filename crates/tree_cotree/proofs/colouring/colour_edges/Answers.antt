@@ -2,7 +2,6 @@ use Rattle.tree_cotree.proofs.Common.{OrientedMesh, ◌≡◌, ◌/◌, ℕ, Lis
 use Rattle.tree_cotree.specs.declared.split.Kind.{Kind}
 use Rattle.tree_cotree.specs.declared.split.Kind.TheVariants.{Tree, Left}
 use Rattle.tree_cotree.specs.Searches.{has_kind}
-use Rattle.tree_cotree.specs.Colourings.{ColouringView}
 use Rattle.tree_cotree.proofs.ColouringLemmas.{none_before, none_between, vertices_hang, faces_hang, coloured}
 use Rattle.tree_cotree.proofs.ColourLemmas.{coloured_trees_are_of_a_split}
 use Rattle.tree_cotree.proofs.colouring.colour_edges.Goals as goal
@@ -17,37 +16,34 @@ pub span-requires-clause-together : goal.span-requires-clause-together
 span-requires-clause-together c =
     let s : OrientedMesh = c.args.surface.now in
     let first : c.in_ok-kinds.kinds.items ≡ replicate (length s.table) Left = search rules in
-    vertices_hang s c.in_ok-kinds.kinds.items c.faces.ensures.valid first
+    vertices_hang c.in_ok-kinds.kinds.items c.faces.ensures.valid first
 
 pub span-requires-2-clause-free : goal.span-requires-2-clause-free
 span-requires-2-clause-free c =
     let s : OrientedMesh = c.args.surface.now in
     let first : c.in_ok-kinds.kinds.items ≡ replicate (length s.table) Left = search rules in
-    none_between s c.in_ok-kinds.kinds.items c.span.new.kinds.items first c.span.ensures
+    none_between first c.span.ensures
 
 pub span-requires-2-clause-together : goal.span-requires-2-clause-together
 span-requires-2-clause-together c =
     let s : OrientedMesh = c.args.surface.now in
     let first : c.in_ok-kinds.kinds.items ≡ replicate (length s.table) Left = search rules in
-    faces_hang s c.in_ok-kinds.kinds.items c.span.new.kinds.items c.faces.ensures.valid first c.span.ensures
+    faces_hang c.faces.ensures.valid first c.span.ensures
 
 pub returns : goal.returns
 returns c =
     let s : OrientedMesh = c.args.surface.now in
     let k0 : List Kind = c.in_ok-kinds.kinds.items in
-    let k1 : List Kind = c.span.new.kinds.items in
     let k2 : List Kind = c.span-2.new.kinds.items in
     let start : ℕ = c.leftover_dart-start.result.0 in
     let root : ℕ = c.face_of.result.0 in
     let genus : ℕ = c.leftover_edges-genus.result / 2 in
-    let colours : ColouringView = record { kinds = k2; root_face = root; genus = genus } in
     let first : k0 ≡ replicate (length s.table) Left = search rules in
     let long : length k2 ≡ length s.table =
     c.span-2.ensures.long ∙ c.span.ensures.long ∙ ap (λ (ks : List Kind). length ks) first ∙ length-replicate (length s.table) Left in
-    let half : genus ≡ count_below (has_kind k2 Left) (length s.table) / 2 =
-    ap (λ n. n / 2)
+    let half : genus ≡ count_below (has_kind k2 Left) (length s.table) / 2 = ap (λ n. n / 2)
     (c.leftover_edges-genus.ensures ∙ ap (λ (ks : List Kind). count_below (has_kind ks Left) (length ks)) c.deref-2.ensures.value
     ∙ ap (count_below (has_kind k2 Left)) long) in
-    coloured_trees_are_of_a_split s colours c.faces.ensures.valid
-    (coloured s c.faces.ensures.valid k0 k1 k2 start root genus first c.span.ensures c.span-2.ensures c.leftover_dart-start.ensures.within
+    coloured_trees_are_of_a_split c.faces.ensures.valid
+    (coloured c.faces.ensures.valid start root genus first c.span.ensures c.span-2.ensures c.leftover_dart-start.ensures.within
     (rw c.deref.ensures.value at c.leftover_dart-start.ensures.left) c.face_of.ensures.face half)

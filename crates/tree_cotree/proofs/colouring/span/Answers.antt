@@ -16,19 +16,16 @@ loop-early-preserved c =
     let s : OrientedMesh = c.args.surface.now in
     let old : List Kind = c.args.kinds.now.items in
     let m : ℕ = c.loop-early.early in
-    let within : m < length s.table =
-    subst (λ (t : List Edge). m < length t) c.sides.ensures.table
+    let within : m < length s.table = subst (λ (t : List Edge). m < length t) c.sides.ensures.table
     (omega (arith, c.loop-early-test.true, c.first_round-early-end.ensures, c.len-edges.ensures)) in
     let few : m < length c.loop-early.kinds.items = omega (arith, within, c.requires.kinds, c.loop-early.invariant.long) in
     elim c.if-begins_vertex.branch [
       | then-begins_vertex w ↦
-          spanning_early s c.args.nodes kind old 0 m c.loop-early.classes c.if-begins_vertex.classes c.loop-early.kinds.items
-          c.if-begins_vertex.kinds.items c.requires.valid within few (kind_not_left c.args.nodes)
+          spanning_early c.requires.valid within few (kind_not_left c.args.nodes)
           (subst (λ ks. IsTried s c.args.nodes kind m c.loop-early.classes c.if-begins_vertex.classes c.loop-early.kinds.items ks)
           (sym (ap (λ v. v.items) w.kinds-is))
           (subst (λ r. IsTried s c.args.nodes kind m c.loop-early.classes r c.loop-early.kinds.items w.try_edge.new.kinds.items)
-          (sym w.classes-is) w.try_edge.ensures))
-          c.loop-early.invariant
+          (sym w.classes-is) w.try_edge.ensures)) c.loop-early.invariant
       | else-begins_vertex w ↦
           subst (IsSpanning s c.args.nodes kind old 0 c.if-begins_vertex.classes) (sym (ap (λ v. v.items) w.kinds-is))
           (subst (λ r. IsSpanning s c.args.nodes kind old 0 r c.loop-early.kinds.items) (sym w.classes-is) c.loop-early.invariant)
@@ -36,21 +33,15 @@ loop-early-preserved c =
 
 pub loop-edge-preserved : goal.loop-edge-preserved
 loop-edge-preserved c =
-    let kind : Kind = kind_over c.args.nodes in
     let s : OrientedMesh = c.args.surface.now in
     let n : ℕ = c.loop-edge.edge in
     let within : n < length s.table =
     subst (λ (t : List Edge). n < length t) c.sides.ensures.table (omega (arith, c.loop-edge-test.true, c.len-edges.ensures)) in
-    spanning_next s c.args.nodes kind c.args.kinds.now.items n c.loop-edge.classes c.try_edge-in-loop-edge.new.classes
-    c.loop-edge.kinds.items c.try_edge-in-loop-edge.new.kinds.items c.requires.valid within
+    spanning_next c.requires.valid within
     (omega (arith, within, c.requires.kinds, c.loop-edge.invariant.long)) (kind_not_left c.args.nodes) c.try_edge-in-loop-edge.ensures
     c.loop-edge.invariant
 
 pub returns : goal.returns
 returns c =
-    let kind : Kind = kind_over c.args.nodes in
-    spanning_all c.args.surface.now c.args.nodes kind c.args.kinds.now.items c.loop-edge.edge c.loop-edge.classes
-    c.loop-edge.kinds.items c.requires.valid c.requires.together
-    (subst (λ (t : List Edge). length t ≤ c.loop-edge.edge) c.sides.ensures.table
-    (omega (arith, c.loop-edge-test.false, c.len-edges.ensures)))
-    c.loop-edge.invariant
+    spanning_all c.requires.valid c.requires.together (subst (λ (t : List Edge). length t ≤ c.loop-edge.edge) c.sides.ensures.table
+    (omega (arith, c.loop-edge-test.false, c.len-edges.ensures))) c.loop-edge.invariant

@@ -1,8 +1,7 @@
-use Rattle.tree_cotree.proofs.Common.{rotation_system, OrientedMesh, Rotations, rotations_of, ◌≡◌, ◌<◌, List, length, refl, ap, sym, ◌∙◌, arith, set, both_ways, get_or_default}
+use Rattle.tree_cotree.proofs.Common.{rotation_system, OrientedMesh, ◌≡◌, ◌<◌, List, length, refl, ap, sym, ◌∙◌, arith, set, both_ways, get_or_default}
 use Rattle.tree_cotree.specs.declared.split.Kind.{Kind}
 use Rattle.tree_cotree.specs.declared.split.Kind.TheVariants.{Tree, Left}
-use Rattle.tree_cotree.specs.Searches.{same_kind, has_kind, node_of}
-use Rattle.tree_cotree.specs.Joinings.{bound_of, is_node_of}
+use Rattle.tree_cotree.specs.Searches.{same_kind, has_kind}
 use Rattle.tree_cotree.proofs.JoiningLemmas.{ends_within}
 use Rattle.tree_cotree.proofs.ColouringLemmas.{has_nodes}
 use Rattle.tree_cotree.proofs.colouring.try_edge.Goals as goal
@@ -13,10 +12,7 @@ within : (c : After-ends-first)
     → (c.ends-first.result.0 < length c.args.classes.now) × (c.ends-first.result.1 < length c.args.classes.now)
 within c =
     let s : OrientedMesh = c.args.surface.now in
-    let maps : Rotations = rotations_of s in
-    let at = ends_within maps (node_of c.args.nodes maps) (is_node_of c.args.nodes s) (bound_of c.args.nodes s) (length s.table)
-    c.args.edge.0 c.ends-first.result.0 c.ends-first.result.1 (rotation_system s c.requires.valid)
-    (has_nodes s c.requires.valid c.args.nodes) c.ends-first.ensures in
+    let at = ends_within (rotation_system s c.requires.valid) (has_nodes c.requires.valid c.args.nodes) c.ends-first.ensures in
     (omega (arith, at.0.0, c.requires.classes), omega (arith, at.1.0, c.requires.classes))
 
 -- the test is whether the edge is left over

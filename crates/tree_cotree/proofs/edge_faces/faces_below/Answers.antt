@@ -37,7 +37,7 @@ loop-face-preserved c =
             long = ap (λ (fs : List (Option ℕ)). length fs) is ∙ length-set old (edge_of s x) (Some n)
                 ∙ c.loop-face.invariant.long;
             kept = subst (λ fs. AreBelowEdges maps from (length s.table) (kept_at fs) (n + 1)) (sym is)
-                (faces_more maps from (length s.table) n x old c.requires.apart c.loop-face.invariant.long c.loop-face.invariant.kept
+                (faces_more x old c.requires.apart c.loop-face.invariant.long c.loop-face.invariant.kept
                 some (subst (λ e. e < length s.table) w.edge_of.ensures.edge w.edge_of.ensures.within));
           })
       | in_default w ↦
@@ -45,7 +45,7 @@ loop-face-preserved c =
           record {
             long = ap (λ (fs : List (Option ℕ)). length fs) is ∙ c.loop-face.invariant.long;
             kept = subst (λ fs. AreBelowEdges maps from (length s.table) (kept_at fs) (n + 1)) (sym is)
-                (faces_skip maps from (length s.table) n old c.loop-face.invariant.kept
+                (faces_skip old c.loop-face.invariant.kept
                 (kept_read from n c.index-from-face.result c.dart.result None within c.index-from-face.is c.dart.ensures w.in_default.is));
           })
     ]

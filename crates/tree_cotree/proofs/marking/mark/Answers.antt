@@ -27,15 +27,13 @@ loop-node-preserved c =
           let below : edge_of s x < length c.args.kinds.now.items =
           omega (arith, w.edge_of.ensures.within, w.edge_of.ensures.edge, c.requires.kinds) in
           let more : IsMarked maps from c.args.kind c.args.kinds.now.items (set c.loop-node.kinds.items (edge_of s x) c.args.kind) (n + 1) =
-          marks_more maps from c.args.kind c.args.kinds.now.items c.loop-node.kinds.items n x c.requires.apart c.loop-node.invariant
-          some below (c.requires.free n x some) in
+          marks_more x c.requires.apart c.loop-node.invariant some below (c.requires.free n x some) in
           let is : c.match-dart.kinds.items ≡ set c.loop-node.kinds.items (edge_of s x) c.args.kind =
           ap (λ v. v.items) w.kinds-is ∙ ap (λ e. set c.loop-node.kinds.items e c.args.kind) w.edge_of.ensures.edge in
           subst (λ ks. IsMarked maps from c.args.kind c.args.kinds.now.items ks (n + 1)) (sym is) more)
       | in_default w ↦
           (let is : c.match-dart.kinds.items ≡ c.loop-node.kinds.items = ap (λ v. v.items) w.kinds-is in
-          subst (λ ks. IsMarked maps from c.args.kind c.args.kinds.now.items ks (n + 1)) (sym is)
-          (marks_skip maps from c.args.kind c.args.kinds.now.items c.loop-node.kinds.items n c.loop-node.invariant
+          subst (λ ks. IsMarked maps from c.args.kind c.args.kinds.now.items ks (n + 1)) (sym is) (marks_skip c.loop-node.invariant
           (kept_read c.args.from.now c.loop-node.node c.index-from-node.result c.dart.result None (omega arith) c.index-from-node.is
           c.dart.ensures w.in_default.is)))
     ]

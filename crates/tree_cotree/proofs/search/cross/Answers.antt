@@ -13,16 +13,13 @@ returns-then-across-root-clause-crossed c =
     let across : c.node_across-across.result ≡ node (maps.twin c.args.dart.0) = c.node_across-across.ensures in
     let order : List ℕ = dart_numbers c.args.search.now.order.items in
     let from = c.args.search.now.from.items in
-    let below : c.node_across-across.result < length from =
-    rw across (c.requires.below (maps.twin c.args.dart.0)
+    let below : c.node_across-across.result < length from = rw across (c.requires.below (maps.twin c.args.dart.0)
     ((rotation_system c.args.graph.now.surface.now c.requires.valid).twin_within c.args.dart.0 c.requires.dart)) in
     λ passes. subst (IsFound node order) across (elim c.then-across-root.branch [
       | then-across-root-via-then-across-root w ↦
-          root_found maps node (crosses c.args.graph.now) (length from) c.args.root order from
-          c.node_across-across.result c.requires.order w.if-across-root.true
+          root_found c.node_across-across.result c.requires.order w.if-across-root.true
       | then-across-root-via-else-across-root+then-is_some w ↦
-          kept_found maps node (crosses c.args.graph.now) (length from) c.args.root order from
-          c.node_across-across.result w.index.result.now c.requires.order
+          kept_found c.node_across-across.result w.index.result.now c.requires.order
           below w.index.ensures (sym w.is_some.ensures ∙ w.if-is_some.true)
     ])
 
@@ -49,10 +46,8 @@ returns-clause-order c =
       none_kept = rw across at none;
     } in
     subst (λ entry. IsOrder maps node allowed (length from) c.args.root (dart_numbers c.push.new.self.items)
-    (set from c.node_across-across.result entry)) (sym c.some.ensures)
-    (order_pushed maps node allowed (length from) c.args.root c.args.search.now.order.items c.push.new.self.items from d
-    c.node_across-across.result c.twin-back.result
-    system c.requires.order new c.twin-back.ensures.twin across c.in_ok-push.ensures.items)
+    (set from c.node_across-across.result entry)) (sym c.some.ensures) (order_pushed c.args.search.now.order.items c.push.new.self.items
+    c.node_across-across.result c.twin-back.result system c.requires.order new c.twin-back.ensures.twin across c.in_ok-push.ensures.items)
 
 pub returns-clause-crossed : goal.returns-clause-crossed
 returns-clause-crossed c =

@@ -4,7 +4,7 @@ use Rattle.tree_cotree.specs.Waiting.{waiting_darts, IsTaken}
 use Rattle.tree_cotree.specs.Graphs.{maps_of, node_in, crosses}
 use Rattle.tree_cotree.specs.Searches.{AreBelow, IsSearched}
 use Rattle.tree_cotree.proofs.SearchLemmas.{order_few, rebound}
-use Rattle.tree_cotree.proofs.WaitingLemmas.{taken, none_waits, taken_dart, taken_found, underway_more, underway_done}
+use Rattle.tree_cotree.proofs.WaitingLemmas.{taken, none_waits, taken_longer, taken_dart, taken_found, underway_more, underway_done}
 use Rattle.tree_cotree.proofs.search.search_over.Goals as goal
 use Rattle.tree_cotree.proofs.search.search_over.Goals.{In-Some}
 
@@ -14,8 +14,7 @@ first_taken : (c : In-Some) → IsTaken (waiting_darts c.loop-search.search.wait
 first_taken c = taken c.in_ok-first.field-0 c.in-Some.first _ _ c.in-Some.is c.in_ok-first.ensures.some
 
 pub visit-requires-clause-dart : goal.visit-requires-clause-dart
-visit-requires-clause-dart c =
-    taken_dart _ _ _ _ _ _ _ _ _ _ c.loop-search.invariant (first_taken (goal.at.visit-requires-clause-dart c).In-Some)
+visit-requires-clause-dart c = taken_dart c.loop-search.invariant (first_taken (goal.at.visit-requires-clause-dart c).In-Some)
 
 pub visit-requires-clause-below : goal.visit-requires-clause-below
 visit-requires-clause-below c =
@@ -23,36 +22,26 @@ visit-requires-clause-below c =
     subst (AreBelow maps (node_in c.args.graph.now)) (sym c.loop-search.invariant.is_order.long) c.requires.below
 
 pub visit-requires-clause-found : goal.visit-requires-clause-found
-visit-requires-clause-found c =
-    taken_found _ _ _ _ _ _ _ _ _ _ c.loop-search.invariant (first_taken (goal.at.visit-requires-clause-found c).In-Some)
+visit-requires-clause-found c = taken_found c.loop-search.invariant (first_taken (goal.at.visit-requires-clause-found c).In-Some)
 
 pub visit-requires-clause-order : goal.visit-requires-clause-order
 visit-requires-clause-order c =
-    let maps : Rotations = maps_of c.args.graph.now in
-    rebound maps (node_in c.args.graph.now) (crosses c.args.graph.now) c.args.bound
-    (length c.loop-search.search.from.items) c.node-root.result
-    (dart_numbers c.loop-search.search.order.items) c.loop-search.search.from.items (sym c.loop-search.invariant.is_order.long)
-    c.loop-search.invariant.is_order
+    rebound (length c.loop-search.search.from.items) (sym c.loop-search.invariant.is_order.long) c.loop-search.invariant.is_order
 
 pub loop-search-smaller : goal.loop-search-smaller
 loop-search-smaller c =
-    let maps : Rotations = maps_of c.args.graph.now in
     let xs : List DartName = c.loop-search.search.order.items in
     let ys : List DartName = c.visit.new.search.order.items in
     let rest : List ℕ = waiting_darts c.take.new.self.far.items c.take.new.self.near.items in
     let taken_one = first_taken (goal.at.loop-search-smaller c).In-Some in
-    let few : length (dart_numbers ys) ≤ c.args.bound =
-    order_few maps (node_in c.args.graph.now) (crosses c.args.graph.now) c.args.bound c.node-root.result (dart_numbers ys)
-    c.visit.new.search.from.items (rebound maps (node_in c.args.graph.now) (crosses c.args.graph.now)
-    (length c.loop-search.search.from.items) c.args.bound
-    c.node-root.result (dart_numbers c.visit.new.search.order.items) c.visit.new.search.from.items c.loop-search.invariant.is_order.long
+    let few : length (dart_numbers ys) ≤ c.args.bound = order_few (rebound c.args.bound c.loop-search.invariant.is_order.long
     c.in_ok-visit.ensures.order) c.requires.below in
     let added = c.in_ok-visit.ensures.added in
     let numbers : (ds : List DartName) → length (dart_numbers ds) ≡ length ds = λ ds. length-map ds (λ (x : DartName). x.0) in
     omega (
       arith,
       few,
-      taken_one.longer,
+      taken_longer taken_one,
       numbers xs,
       numbers ys,
       ap (λ (ts : List ℕ). length ts) added.order,
@@ -63,28 +52,15 @@ loop-search-smaller c =
 
 pub loop-search-preserved : goal.loop-search-preserved
 loop-search-preserved c =
-    let maps : Rotations = maps_of c.args.graph.now in
-    underway_more maps (node_in c.args.graph.now) (crosses c.args.graph.now) c.args.bound c.node-root.result
-    (dart_numbers c.loop-search.search.order.items) (waiting_darts c.loop-search.search.waiting.far.items
-    c.loop-search.search.waiting.near.items) (waiting_darts c.take.new.self.far.items c.take.new.self.near.items)
-    (dart_numbers c.visit.new.search.order.items) (waiting_darts c.visit.new.search.waiting.far.items
-    c.visit.new.search.waiting.near.items) c.loop-search.search.from.items
-    c.visit.new.search.from.items c.in-Some.first.0 c.loop-search.invariant
-    (first_taken (goal.at.loop-search-preserved c).In-Some)
-    (rebound maps (node_in c.args.graph.now) (crosses c.args.graph.now) (length c.loop-search.search.from.items)
-    c.args.bound
-    c.node-root.result (dart_numbers c.visit.new.search.order.items) c.visit.new.search.from.items c.loop-search.invariant.is_order.long
-    c.in_ok-visit.ensures.order) c.in_ok-visit.ensures.added
-    c.in_ok-visit.ensures.crossed
+    underway_more c.loop-search.invariant (first_taken (goal.at.loop-search-preserved c).In-Some) (rebound c.args.bound
+    c.loop-search.invariant.is_order.long c.in_ok-visit.ensures.order) c.in_ok-visit.ensures.added c.in_ok-visit.ensures.crossed
 
 pub returns : goal.returns
 returns c =
     let maps : Rotations = maps_of c.args.graph.now in
     let node : ℕ → ℕ = node_in c.args.graph.now in
     let allowed = crosses c.args.graph.now in
-    subst (λ r. IsSearched maps node allowed c.args.bound r c.loop-search.search.from.items) c.node-root.ensures
-    (underway_done maps node allowed c.args.bound c.node-root.result (dart_numbers c.loop-search.search.order.items)
-    (waiting_darts c.loop-search.search.waiting.far.items c.loop-search.search.waiting.near.items) c.loop-search.search.from.items
+    subst (λ r. IsSearched maps node allowed c.args.bound r c.loop-search.search.from.items) c.node-root.ensures (underway_done
     c.loop-search.invariant
     (none_waits c.in_ok-first.field-0 (waiting_darts c.loop-search.search.waiting.far.items c.loop-search.search.waiting.near.items)
     c.in_default.not-Some c.in_ok-first.ensures.none))

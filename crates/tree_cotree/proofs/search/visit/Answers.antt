@@ -8,11 +8,8 @@ use Rattle.tree_cotree.proofs.search.visit.Goals as goal
 
 pub loop-turn-init : goal.loop-turn-init
 loop-turn-init c =
-    let maps : Rotations = maps_of c.args.graph.now in
-    visit_start maps (node_in c.args.graph.now) (crosses c.args.graph.now) (turn_in c.args.graph.now)
-    (length c.args.search.now.from.items) c.args.root
-    (dart_numbers c.args.search.now.order.items) (waiting_darts c.args.search.now.waiting.far.items
-    c.args.search.now.waiting.near.items) c.args.search.now.from.items c.args.first.0 c.requires.order
+    visit_start (turn_in c.args.graph.now) (waiting_darts c.args.search.now.waiting.far.items
+    c.args.search.now.waiting.near.items) c.args.first.0 c.requires.order
 
 pub cross-requires-clause-below : goal.cross-requires-clause-below
 cross-requires-clause-below c =
@@ -21,52 +18,25 @@ cross-requires-clause-below c =
 
 pub cross-requires-clause-dart : goal.cross-requires-clause-dart
 cross-requires-clause-dart c =
-    let maps : Rotations = maps_of c.args.graph.now in
-    visit_within maps (node_in c.args.graph.now) (turn_in c.args.graph.now) c.args.first.0 c.loop-turn.dart.0 c.loop-turn._turn
-    (turning c.args.graph.now.surface.now c.darts-turn-end.ensures.valid c.args.graph.now.nodes) c.requires.dart c.loop-turn.invariant.at
+    visit_within c.args.first.0 c.loop-turn.dart.0 c.loop-turn._turn
+    (turning c.darts-turn-end.ensures.valid c.args.graph.now.nodes) c.requires.dart c.loop-turn.invariant.at
 
 pub cross-requires-clause-found : goal.cross-requires-clause-found
 cross-requires-clause-found c =
-    let maps : Rotations = maps_of c.args.graph.now in
-    visit_found maps (node_in c.args.graph.now) (crosses c.args.graph.now) (turn_in c.args.graph.now)
-    (length c.args.search.now.from.items) c.args.root
-    (dart_numbers c.args.search.now.order.items) (waiting_darts c.args.search.now.waiting.far.items
-    c.args.search.now.waiting.near.items) (dart_numbers c.loop-turn.search.order.items)
-    (waiting_darts c.loop-turn.search.waiting.far.items c.loop-turn.search.waiting.near.items) c.loop-turn.search.from.items
-    c.args.first.0 c.loop-turn.dart.0 c.loop-turn._turn
-    (turning c.args.graph.now.surface.now c.darts-turn-end.ensures.valid c.args.graph.now.nodes)
-    c.requires.dart c.requires.found c.loop-turn.invariant
+    visit_found (turning c.darts-turn-end.ensures.valid c.args.graph.now.nodes) c.requires.dart c.requires.found c.loop-turn.invariant
 
 pub cross-requires-clause-order : goal.cross-requires-clause-order
 cross-requires-clause-order c =
-    let maps : Rotations = maps_of c.args.graph.now in
-    rebound maps (node_in c.args.graph.now) (crosses c.args.graph.now) (length c.args.search.now.from.items)
-    (length c.loop-turn.search.from.items) c.args.root
-    (dart_numbers c.loop-turn.search.order.items) c.loop-turn.search.from.items (sym c.loop-turn.invariant.is_order.long)
-    c.loop-turn.invariant.is_order
+    rebound (length c.loop-turn.search.from.items) (sym c.loop-turn.invariant.is_order.long) c.loop-turn.invariant.is_order
 
 pub turn-dart-requires : goal.turn-dart-requires
 turn-dart-requires c =
-    let maps : Rotations = maps_of c.args.graph.now in
-    visit_within maps (node_in c.args.graph.now) (turn_in c.args.graph.now) c.args.first.0 c.loop-turn.dart.0 c.loop-turn._turn
-    (turning c.args.graph.now.surface.now c.darts-turn-end.ensures.valid c.args.graph.now.nodes) c.requires.dart c.loop-turn.invariant.at
+    visit_within c.args.first.0 c.loop-turn.dart.0 c.loop-turn._turn
+    (turning c.darts-turn-end.ensures.valid c.args.graph.now.nodes) c.requires.dart c.loop-turn.invariant.at
 
 pub loop-turn-preserved : goal.loop-turn-preserved
 loop-turn-preserved c =
-    let maps : Rotations = maps_of c.args.graph.now in
-    let node : ℕ → ℕ = node_in c.args.graph.now in
-    let allowed = crosses c.args.graph.now in
-    let order : List ℕ = dart_numbers c.loop-turn.search.order.items in
-    let waiting : List ℕ = waiting_darts c.loop-turn.search.waiting.far.items c.loop-turn.search.waiting.near.items in
-    let new : List ℕ = dart_numbers c.cross.new.search.order.items in
-    let more : List ℕ = waiting_darts c.cross.new.search.waiting.far.items c.cross.new.search.waiting.near.items in
-    visit_more maps node allowed (turn_in c.args.graph.now) (length c.args.search.now.from.items) c.args.root
-    (dart_numbers c.args.search.now.order.items)
-    (waiting_darts c.args.search.now.waiting.far.items c.args.search.now.waiting.near.items) order waiting new more
-    c.loop-turn.search.from.items c.cross.new.search.from.items c.args.first.0 c.loop-turn.dart.0 c.turn-dart.result.0 c.loop-turn._turn
-    c.loop-turn.invariant
-    (rebound maps node allowed (length c.loop-turn.search.from.items) (length c.args.search.now.from.items) c.args.root new
-    c.cross.new.search.from.items
+    visit_more c.turn-dart.result.0 c.loop-turn.invariant (rebound (length c.args.search.now.from.items)
     c.loop-turn.invariant.is_order.long c.in_ok-cross.ensures.order)
     c.in_ok-cross.ensures.added c.in_ok-cross.ensures.crossed c.turn-dart.ensures.turn
 
@@ -76,8 +46,6 @@ returns-then-eq-clause-crossed c =
     let node : ℕ → ℕ = node_in c.args.graph.now in
     let turn : ℕ → ℕ = turn_in c.args.graph.now in
     let allowed = crosses c.args.graph.now in
-    let order : List ℕ = dart_numbers c.loop-turn.search.order.items in
-    let waiting : List ℕ = waiting_darts c.loop-turn.search.waiting.far.items c.loop-turn.search.waiting.near.items in
     let new : List ℕ = dart_numbers c.cross.new.search.order.items in
     let more : List ℕ = waiting_darts c.cross.new.search.waiting.far.items c.cross.new.search.waiting.near.items in
     let k : ℕ = c.loop-turn._turn in
@@ -85,44 +53,28 @@ returns-then-eq-clause-crossed c =
     (dart_numbers c.args.search.now.order.items)
     (waiting_darts c.args.search.now.waiting.far.items c.args.search.now.waiting.near.items) new more
     c.cross.new.search.from.items c.args.first.0 c.turn-dart.result.0 (k + 1) =
-    visit_more maps node allowed turn (length c.args.search.now.from.items) c.args.root (dart_numbers c.args.search.now.order.items)
-    (waiting_darts c.args.search.now.waiting.far.items c.args.search.now.waiting.near.items) order waiting new more
-    c.loop-turn.search.from.items c.cross.new.search.from.items c.args.first.0 c.loop-turn.dart.0 c.turn-dart.result.0 k
-    c.loop-turn.invariant
-    (rebound maps node allowed (length c.loop-turn.search.from.items) (length c.args.search.now.from.items) c.args.root new
-    c.cross.new.search.from.items
+    visit_more c.turn-dart.result.0 c.loop-turn.invariant (rebound (length c.args.search.now.from.items)
     c.loop-turn.invariant.is_order.long c.in_ok-cross.ensures.order)
     c.in_ok-cross.ensures.added c.in_ok-cross.ensures.crossed c.turn-dart.ensures.turn in
     let home : c.turn-dart.result.0 ≡ c.args.first.0 = eqb-true c.turn-dart.result.0 c.args.first.0 (sym c.eq.ensures ∙ c.if-eq.true) in
-    crossed_round maps node allowed turn new c.args.first.0 (k + 1)
-    (turning c.args.graph.now.surface.now c.darts-turn-end.ensures.valid c.args.graph.now.nodes) c.requires.dart
+    crossed_round allowed new c.args.first.0 (k + 1) (turning c.darts-turn-end.ensures.valid c.args.graph.now.nodes) c.requires.dart
     visited.crossed (omega arith, sym visited.at ∙ home)
 
 pub returns-clause-crossed : goal.returns-clause-crossed
 returns-clause-crossed c =
     let maps : Rotations = maps_of c.args.graph.now in
     let all : maps.darts ≤ c.loop-turn._turn = omega (arith, c.loop-turn-test.false, c.darts-turn-end.ensures.count) in
-    crossed_all maps (node_in c.args.graph.now) (crosses c.args.graph.now) (turn_in c.args.graph.now)
-    (dart_numbers c.loop-turn.search.order.items)
-    c.args.first.0 c.loop-turn._turn (turning c.args.graph.now.surface.now c.darts-turn-end.ensures.valid c.args.graph.now.nodes)
-    c.requires.dart
+    crossed_all (crosses c.args.graph.now) (dart_numbers c.loop-turn.search.order.items)
+    c.args.first.0 c.loop-turn._turn (turning c.darts-turn-end.ensures.valid c.args.graph.now.nodes) c.requires.dart
     c.loop-turn.invariant.crossed all
 
 pub returns-then-eq-clause-order : goal.returns-then-eq-clause-order
 returns-then-eq-clause-order c =
-    let maps : Rotations = maps_of c.args.graph.now in
-    rebound maps (node_in c.args.graph.now) (crosses c.args.graph.now) (length c.loop-turn.search.from.items)
-    (length c.args.search.now.from.items) c.args.root (dart_numbers c.cross.new.search.order.items) c.cross.new.search.from.items
-    c.loop-turn.invariant.is_order.long c.in_ok-cross.ensures.order
+    rebound (length c.args.search.now.from.items) c.loop-turn.invariant.is_order.long c.in_ok-cross.ensures.order
 
 pub returns-then-eq-clause-added : goal.returns-then-eq-clause-added
 returns-then-eq-clause-added c =
-    added_on (dart_numbers c.args.search.now.order.items)
-    (waiting_darts c.args.search.now.waiting.far.items c.args.search.now.waiting.near.items) (dart_numbers c.loop-turn.search.order.items)
-    (waiting_darts c.loop-turn.search.waiting.far.items c.loop-turn.search.waiting.near.items)
-    (dart_numbers c.cross.new.search.order.items) (waiting_darts c.cross.new.search.waiting.far.items
-    c.cross.new.search.waiting.near.items)
-    c.loop-turn.invariant.added c.in_ok-cross.ensures.added
+    added_on c.loop-turn.invariant.added c.in_ok-cross.ensures.added
 
 pub returns-clause-order : goal.returns-clause-order
 returns-clause-order c = c.loop-turn.invariant.is_order

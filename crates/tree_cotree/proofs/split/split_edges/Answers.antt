@@ -23,10 +23,8 @@ pub mark-requires-clause-apart : goal.mark-requires-clause-apart
 mark-requires-clause-apart c =
     let s : OrientedMesh = c.args.surface.now in
     let maps : Rotations = rotations_of s in
-    let p : List (Option ℕ) = c.in_ok-parents.parents.items in
-    subst (AreApart maps) (sym c.deref-2.ensures.value)
-    (kept_apart maps maps.origin (λ e. true) s.mesh.count (maps.origin 0) p (rotation_system s c.faces.ensures.valid)
-    (tree_rooted s c.faces.ensures.valid p
+    subst (AreApart maps) (sym c.deref-2.ensures.value) (kept_apart (rotation_system s c.faces.ensures.valid)
+    (tree_rooted c.faces.ensures.valid
     (rw (c.deref.ensures.value, c.count-vertices.ensures.count, c.faces-2.ensures.mesh) at c.in_ok-parents.ensures)))
 
 pub mark-requires-clause-free : goal.mark-requires-clause-free
@@ -52,13 +50,11 @@ mark-requires-2-clause-apart c =
     let maps : Rotations = rotations_of s in
     let q : List (Option ℕ) = c.in_ok-face_parents.face_parents.items in
     let rooted : IsRooted maps maps.face (has_kind c.mark.new.kinds.items Left) (length s.mesh.faces) (maps.face 0) q =
-    cotree_rooted s c.faces.ensures.valid c.in_ok-kinds.kinds.items c.mark.new.kinds.items c.in_ok-parents.parents.items q (search rules)
+    cotree_rooted c.faces.ensures.valid (search rules)
     (rw (c.deref.ensures.value, c.count-vertices.ensures.count, c.faces-2.ensures.mesh) at c.in_ok-parents.ensures)
     (rw c.deref-2.ensures.value at c.mark.ensures)
     (rw (c.deref-3.ensures.value, c.len-faces.ensures.count, c.faces.ensures.mesh) at c.in_ok-face_parents.ensures) in
-    subst (AreApart maps) (sym c.deref-4.ensures.value)
-    (kept_apart maps maps.face (has_kind c.mark.new.kinds.items Left) (length s.mesh.faces) (maps.face 0) q
-    (rotation_system s c.faces.ensures.valid) rooted)
+    subst (AreApart maps) (sym c.deref-4.ensures.value) (kept_apart (rotation_system s c.faces.ensures.valid) rooted)
 
 pub turn_round-requires-clause-tree : goal.turn_round-requires-clause-tree
 turn_round-requires-clause-tree c =
@@ -66,15 +62,13 @@ turn_round-requires-clause-tree c =
     let maps : Rotations = rotations_of s in
     let q : List (Option ℕ) = c.in_ok-face_parents.face_parents.items in
     let rooted : IsRooted maps maps.face (has_kind c.mark.new.kinds.items Left) (length s.mesh.faces) (maps.face 0) q =
-    cotree_rooted s c.faces.ensures.valid c.in_ok-kinds.kinds.items c.mark.new.kinds.items c.in_ok-parents.parents.items q (search rules)
+    cotree_rooted c.faces.ensures.valid (search rules)
     (rw (c.deref.ensures.value, c.count-vertices.ensures.count, c.faces-2.ensures.mesh) at c.in_ok-parents.ensures)
     (rw c.deref-2.ensures.value at c.mark.ensures)
     (rw (c.deref-3.ensures.value, c.len-faces.ensures.count, c.faces.ensures.mesh) at c.in_ok-face_parents.ensures) in
     subst (HasRoot maps) (sym c.deref_mut.ensures.value) (
       maps.face 0,
-      subst (λ n. IsRooted maps maps.face (λ e. true) n (maps.face 0) q) (sym rooted.long)
-          (allow maps maps.face (has_kind c.mark.new.kinds.items Left) (λ e. true) (length s.mesh.faces) (maps.face 0) q rooted
-          (λ v x e. refl)),
+      subst (λ n. IsRooted maps maps.face (λ e. true) n (maps.face 0) q) (sym rooted.long) (allow (λ e. true) rooted (λ v x e. refl)),
     )
 
 pub turn_round-requires-clause-each_face : goal.turn_round-requires-clause-each_face
@@ -90,7 +84,7 @@ faces_below-requires-clause-apart c =
     let t : List (Option ℕ) = c.turn_round.new.from in
     let q : List (Option ℕ) = c.in_ok-face_parents.face_parents.items in
     let rooted : IsRooted maps maps.face (has_kind c.mark.new.kinds.items Left) (length s.mesh.faces) (maps.face 0) q =
-    cotree_rooted s c.faces.ensures.valid c.in_ok-kinds.kinds.items c.mark.new.kinds.items c.in_ok-parents.parents.items q (search rules)
+    cotree_rooted c.faces.ensures.valid (search rules)
     (rw (c.deref.ensures.value, c.count-vertices.ensures.count, c.faces-2.ensures.mesh) at c.in_ok-parents.ensures)
     (rw c.deref-2.ensures.value at c.mark.ensures)
     (rw (c.deref-3.ensures.value, c.len-faces.ensures.count, c.faces.ensures.mesh) at c.in_ok-face_parents.ensures) in
@@ -98,15 +92,13 @@ faces_below-requires-clause-apart c =
     let turned = c.in_ok-turn_round.ensures left (maps.face 0)
     (subst (λ ds. IsRooted maps maps.face left (length ds) (maps.face 0) ds) (sym c.deref_mut.ensures.value)
     (subst (λ n. IsRooted maps maps.face left n (maps.face 0) q) (sym rooted.long) rooted)) in
-    let size : length t ≡ c.in_ok-face_parents.face_parents.len =
-    omega (
+    let size : length t ≡ c.in_ok-face_parents.face_parents.len = omega (
       arith,
       turned.long,
       ap (λ (ds : List (Option ℕ)). length ds) c.deref_mut.ensures.value,
       c.in_ok-face_parents.face_parents.ok.0,
     ) in
-    subst (AreApart maps) (sym (c.deref-6.ensures.value ∙ with_items_is c.in_ok-face_parents.face_parents t size))
-    (kept_apart maps maps.face left (length c.deref_mut.result.now) (maps.face c.leftover_dart-start.result.0) t
+    subst (AreApart maps) (sym (c.deref-6.ensures.value ∙ with_items_is c.in_ok-face_parents.face_parents t size)) (kept_apart
     (rotation_system s c.faces.ensures.valid) turned)
 
 pub returns : goal.returns
@@ -128,19 +120,16 @@ returns c =
     ap (λ (ds : List (Option ℕ)). length ds) is_q ∙ cotree.is_order.long in
     let turned : (allowed : ℕ → Bool) (root : ℕ) → IsRooted maps maps.face allowed (length s.mesh.faces) root q
     → IsRooted maps maps.face allowed (length s.mesh.faces) (maps.face start) t =
-    λ allowed root f.
-    subst (λ n. IsRooted maps maps.face allowed n (maps.face start) t) long
-    (c.in_ok-turn_round.ensures allowed root
+    λ allowed root f. subst (λ n. IsRooted maps maps.face allowed n (maps.face start) t) long (c.in_ok-turn_round.ensures allowed root
     (subst (λ n. IsRooted maps maps.face allowed n root c.deref_mut.result.now) (sym long)
     (subst (IsRooted maps maps.face allowed (length s.mesh.faces) root) (sym is_q) f))) in
     let rooted : IsRooted maps maps.face (has_kind k1 Left) (length s.mesh.faces) (maps.face 0) q =
-    cotree_rooted s c.faces.ensures.valid k0 k1 p q first
+    cotree_rooted c.faces.ensures.valid first
     (rw (c.deref.ensures.value, c.count-vertices.ensures.count, c.faces-2.ensures.mesh) at c.in_ok-parents.ensures)
     (rw c.deref-2.ensures.value at c.mark.ensures) cotree in
     let size : length t ≡ c.in_ok-face_parents.face_parents.len =
     omega (arith, (turned (has_kind k1 Left) (maps.face 0) rooted).long, cotree.is_order.long, c.in_ok-face_parents.face_parents.ok.0) in
-    let is_t : c.deref-6.result.now ≡ t =
-    c.deref-6.ensures.value ∙ with_items_is c.in_ok-face_parents.face_parents t size in
+    let is_t : c.deref-6.result.now ≡ t = c.deref-6.ensures.value ∙ with_items_is c.in_ok-face_parents.face_parents t size in
     let made : IsMade s k0 k1 k2 p q t c.in_ok-children.children.items start = record {
       first = first;
       tree = rw (c.deref.ensures.value, c.count-vertices.ensures.count, c.faces-2.ensures.mesh) at c.in_ok-parents.ensures;
@@ -156,9 +145,7 @@ returns c =
     } in
     let long_2 : length k2 ≡ length s.table =
     c.mark-2.ensures.long ∙ c.mark.ensures.long ∙ ap (λ (ks : List Kind). length ks) first ∙ length-replicate (length s.table) Left in
-    let half : c.leftover_edges-genus.result / 2 ≡ count_below (has_kind k2 Left) (length s.table) / 2 =
-    ap (λ n. n / 2)
+    let half : c.leftover_edges-genus.result / 2 ≡ count_below (has_kind k2 Left) (length s.table) / 2 = ap (λ n. n / 2)
     (c.leftover_edges-genus.ensures ∙ ap (λ (ks : List Kind). count_below (has_kind ks Left) (length ks)) c.deref-7.ensures.value
     ∙ ap (count_below (has_kind k2 Left)) long_2) in
-    rw c.face_of.ensures.face
-    (split_is s c.faces.ensures.valid k0 k1 k2 p q t c.in_ok-children.children.items start (c.leftover_edges-genus.result / 2) made half)
+    rw c.face_of.ensures.face (split_is c.faces.ensures.valid (c.leftover_edges-genus.result / 2) made half)

@@ -7,14 +7,12 @@ use Rattle.tree_cotree.proofs.turning.turn_round.Goals as goal
 pub loop-dart-init : goal.loop-dart-init
 loop-dart-init c =
     let tree = c.requires.tree in
-    turning_start (rotations_of c.args.surface.now) c.args.from.now ((rotations_of c.args.surface.now).face c.args.start.0) tree.0
+    turning_start ((rotations_of c.args.surface.now).face c.args.start.0)
     (dart_numbers c.in_ok-way.way.items) tree.1 (c.in_ok-way.ensures tree.0 tree.1)
 
 pub twin-back-requires : goal.twin-back-requires
 twin-back-requires c =
-    let maps : Rotations = rotations_of c.args.surface.now in
-    last_in maps c.args.from.now (maps.face c.args.start.0) c.loop-dart.from (dart_numbers c.loop-dart.way.items)
-    (dart_numbers c.pop.new.self.items) c.in-Some.dart.0 c.requires.tree.0 c.requires.tree.1 c.loop-dart.invariant
+    last_in (dart_numbers c.pop.new.self.items) c.in-Some.dart.0 c.requires.tree.1 c.loop-dart.invariant
     (numbers_push c.pop.new.self.items c.loop-dart.way.items c.in-Some.dart c.in-Some.ensures.items)
 
 pub bounds-from-face_of : goal.bounds-from-face_of
@@ -22,9 +20,7 @@ bounds-from-face_of c = omega (arith, c.face_of.ensures.within, c.requires.each_
 
 pub face_of-requires-in-Some : goal.face_of-requires-in-Some
 face_of-requires-in-Some c =
-    let maps : Rotations = rotations_of c.args.surface.now in
-    last_in maps c.args.from.now (maps.face c.args.start.0) c.loop-dart.from (dart_numbers c.loop-dart.way.items)
-    (dart_numbers c.pop.new.self.items) c.in-Some.dart.0 c.requires.tree.0 c.requires.tree.1 c.loop-dart.invariant
+    last_in (dart_numbers c.pop.new.self.items) c.in-Some.dart.0 c.requires.tree.1 c.loop-dart.invariant
     (numbers_push c.pop.new.self.items c.loop-dart.way.items c.in-Some.dart c.in-Some.ensures.items)
 
 pub bounds-from-face_of-in-Some : goal.bounds-from-face_of-in-Some
@@ -48,17 +44,15 @@ loop-dart-preserved c =
     let way : List ℕ = dart_numbers c.pop.new.self.items in
     let long : length from ≡ length s.mesh.faces = c.loop-dart.auto.from ∙ c.requires.each_face in
     let turned : IsPartlyTurned maps c.args.from.now start (set (set from (maps.face x) (Some x)) (maps.face d) None) way =
-    turning_more maps c.args.from.now start from way d x c.requires.tree.0 (rotation_system s c.requires.valid)
+    turning_more way d x (rotation_system s c.requires.valid)
     (λ e l. subst (λ n. maps.face e < n) (sym long) ((names_all s c.requires.valid).face_below e l)) c.requires.tree.1
     (subst (IsPartlyTurned maps c.args.from.now start from)
-    (numbers_push c.pop.new.self.items c.loop-dart.way.items c.in-Some.dart c.in-Some.ensures.items)
-    c.loop-dart.invariant)
+    (numbers_push c.pop.new.self.items c.loop-dart.way.items c.in-Some.dart c.in-Some.ensures.items) c.loop-dart.invariant)
     c.twin-back.ensures.twin in
     subst (λ v. IsPartlyTurned maps c.args.from.now start (set (set from v c.some.result) c.face_of-in-Some.result.0 c.none.result) way)
     (sym c.face_of.ensures.face)
     (subst (λ w. IsPartlyTurned maps c.args.from.now start (set (set from (maps.face x) c.some.result) w c.none.result) way)
-    (sym c.face_of-in-Some.ensures.face)
-    (rw (sym c.some.ensures, sym c.none.ensures) at turned))
+    (sym c.face_of-in-Some.ensures.face) (rw (sym c.some.ensures, sym c.none.ensures) at turned))
 
 pub returns : goal.returns
 returns c =

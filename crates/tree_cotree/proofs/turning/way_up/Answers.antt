@@ -1,4 +1,4 @@
-use Rattle.tree_cotree.proofs.Common.{rotation_system, names_all, OrientedMesh, Rotations, rotations_of, ◌≡◌, ◌<◌, ℕ, true, List, length, ap, sym, ◌∙◌, subst, arith, length_push, length-map, Some, None, DartName}
+use Rattle.tree_cotree.proofs.Common.{rotation_system, names_all, OrientedMesh, Rotations, rotations_of, ◌≡◌, ◌<◌, ℕ, List, length, ap, sym, ◌∙◌, subst, arith, length_push, length-map, Some, None, DartName}
 use Rattle.tree_cotree.specs.RingViews.{dart_numbers}
 use Rattle.tree_cotree.specs.Searches.{kept_at}
 use Rattle.tree_cotree.specs.Ways.{IsWay}
@@ -18,14 +18,12 @@ loop-dart-init c =
 
 pub bounds-from-face : goal.bounds-from-face
 bounds-from-face c =
-    face_within c.args.surface.now c.requires.valid (length c.args.from.now) c.loop-dart.face.0 c.requires.each_face
-    c.loop-dart.invariant.dart
+    face_within c.requires.valid (length c.args.from.now) c.loop-dart.face.0 c.requires.each_face c.loop-dart.invariant.dart
 
 pub twin-requires : goal.twin-requires
 twin-requires c =
     let within : c.loop-dart.face.0 < length c.args.from.now =
-    face_within c.args.surface.now c.requires.valid (length c.args.from.now) c.loop-dart.face.0 c.requires.each_face
-    c.loop-dart.invariant.dart in
+    face_within c.requires.valid (length c.args.from.now) c.loop-dart.face.0 c.requires.each_face c.loop-dart.invariant.dart in
     c.requires.tree.1.within c.loop-dart.face.0 c.in-Some.dart.0
     (kept_read c.args.from.now c.loop-dart.face.0 c.index-from-face.result c.dart.result (Some c.in-Some.dart) within
     c.index-from-face.is c.dart.ensures c.in-Some.is)
@@ -36,8 +34,7 @@ loop-dart-smaller c =
     let maps : Rotations = rotations_of s in
     let xs : List DartName = c.loop-dart.way.items in
     let at = c.loop-dart.invariant.dart in
-    let few : length (dart_numbers xs) < length c.args.from.now =
-    few_darts maps (λ e. true) (length c.args.from.now) c.requires.tree.0 c.args.from.now c.requires.tree.1
+    let few : length (dart_numbers xs) < length c.args.from.now = few_darts c.requires.tree.1
     (λ e l. subst (λ n. maps.face e < n) (sym c.requires.each_face) ((names_all s c.requires.valid).face_below e l))
     (maps.face c.args.start.0) (dart_numbers xs) at.0 at.1
     (subst (IsWay maps c.args.from.now (maps.face c.args.start.0) (dart_numbers xs)) (sym at.2) c.loop-dart.invariant.way) in
@@ -54,8 +51,7 @@ loop-dart-preserved c =
     let s : OrientedMesh = c.args.surface.now in
     let maps : Rotations = rotations_of s in
     let within : c.loop-dart.face.0 < length c.args.from.now =
-    face_within c.args.surface.now c.requires.valid (length c.args.from.now) c.loop-dart.face.0 c.requires.each_face
-    c.loop-dart.invariant.dart in
+    face_within c.requires.valid (length c.args.from.now) c.loop-dart.face.0 c.requires.each_face c.loop-dart.invariant.dart in
     let start : ℕ = maps.face c.args.start.0 in
     let d : ℕ = c.in-Some.dart.0 in
     let xs : List DartName = c.loop-dart.way.items in
@@ -80,14 +76,10 @@ pub returns : goal.returns
 returns c =
     let maps : Rotations = rotations_of c.args.surface.now in
     let within : c.loop-dart.face.0 < length c.args.from.now =
-    face_within c.args.surface.now c.requires.valid (length c.args.from.now) c.loop-dart.face.0 c.requires.each_face
-    c.loop-dart.invariant.dart in
+    face_within c.requires.valid (length c.args.from.now) c.loop-dart.face.0 c.requires.each_face c.loop-dart.invariant.dart in
     let at = c.loop-dart.invariant.dart in
     let none : kept_at c.args.from.now c.loop-dart.face.0 ≡ None =
     kept_read c.args.from.now c.loop-dart.face.0 c.index-from-face.result c.dart.result None within c.index-from-face.is c.dart.ensures
     c.in_default.is in
-    λ root h.
-    subst (IsWay maps c.args.from.now (maps.face c.args.start.0) (dart_numbers c.loop-dart.way.items))
-    (sym at.2
-    ∙ ends_at_root maps (λ e. true) (length c.args.from.now) root c.args.from.now h at.0 at.1 (ap (kept_at c.args.from.now) at.2 ∙ none))
-    c.loop-dart.invariant.way
+    λ root h. subst (IsWay maps c.args.from.now (maps.face c.args.start.0) (dart_numbers c.loop-dart.way.items)) (sym at.2
+    ∙ ends_at_root h at.0 at.1 (ap (kept_at c.args.from.now) at.2 ∙ none)) c.loop-dart.invariant.way
