@@ -5,11 +5,11 @@ use Rattle.free_forms.specs.PeakedLists.{IsWithin}
 use Rattle.free_forms.specs.declared.limits.TheConstants.{MOST_OPEN_SIDES, MOST_OPEN_DARTS, MOST_OPEN_STEPS}
 
 -- each common dart is paid for by those of the whole walks
-pub around_within : (first second near far : List ℕ) (common : CommonDarts) (list whole : PeakedMoves) → 0 < length first
+pub around_within : {first second near far : List ℕ} {common : CommonDarts} {list : PeakedMoves} (whole : PeakedMoves) → 0 < length first
     → 0 < length second → AreCommonDarts first second common → AreLeft first second common near far
     → IsWithin ((darts near + darts far) * MOST_OPEN_SIDES) list → whole ≡ put_around common list
     → darts first + darts second ≤ MOST_OPEN_DARTS → IsWithin MOST_OPEN_STEPS whole
-around_within first second near far common list whole some other_some c left short is few =
+around_within {first} {second} {near} {far} {common} {list} whole some other_some c left short is few =
     let fewer : HaveFewerDarts first second near far common = fewer_darts first second near far common some other_some c left in
     let count : length whole.moves ≡ length list.moves =
     ap (λ (l : PeakedMoves). length l.moves) is ∙ length-map list.moves (raised common.front) in

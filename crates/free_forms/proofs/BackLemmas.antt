@@ -53,11 +53,11 @@ greatest_darts-last mesh (move ∷ moves) first walk e =
     omega (arith, greatest_darts-last mesh moves told.0 walk told.2, greatest_darts-more mesh first told.0 move moves told.1)
 
 -- where the second list has no moves, the first passes its walk
-no_others : (mesh : FaceList) (first second one two : List ℕ) (list others : PeakedMoves) → LeadsAtPeak mesh first list one
+no_others : {mesh : FaceList} {first second one two : List ℕ} {list others : PeakedMoves} → LeadsAtPeak mesh first list one
     → LeadsAtPeak mesh second others two → one ≡ two → (ms : List Move) → others.moves ≡ ms → length ms ≡ 0
     → max list.peak others.peak ≡ list.peak
-no_others mesh first second one two list others h k same (m ∷ ms) is none = absurd (omega arith)
-no_others mesh first second one two list others h k same [] is none =
+no_others h k same (m ∷ ms) is none = absurd (omega arith)
+no_others {mesh} {first} {second} {one} {two} {list} {others} h k same [] is none =
     let leads : apply_all mesh second [] ≡ Some two = ap (apply_all mesh second) (sym is) ∙ k.leads in
     let here : second ≡ two = cc in
     let peak : others.peak ≡ darts second = k.peak ∙ ap (greatest_darts mesh second) is ∙ greatest_darts-none mesh second in
@@ -65,12 +65,13 @@ no_others mesh first second one two list others h k same [] is none =
     omega (arith, last, peak, h.peak, ap darts here, ap darts same)
 
 -- from the first walk to the one where both lists lead, and back along the second list
-pub there_and_back_leads : (mesh : FaceList) (first second one two : List ℕ) (list others whole : PeakedMoves) → IsWalk mesh second
+pub there_and_back_leads : {mesh : FaceList} {first second one two : List ℕ} {list others : PeakedMoves} (whole : PeakedMoves) → IsWalk mesh
+    second
     → LeadsAtPeak mesh first list one → LeadsAtPeak mesh second others two → one ≡ two
     → whole.moves ≡ list.moves ++ way_back mesh others.moves
     → (length others.moves ≡ 0 → whole.peak ≡ list.peak) → (0 < length others.moves → whole.peak ≡ max list.peak others.peak)
     → LeadsAtPeak mesh first whole second
-there_and_back_leads mesh first second one two list others whole is_walk h k same moves none some =
+there_and_back_leads {mesh} {first} {second} {one} {two} {list} {others} whole is_walk h k same moves none some =
     let back : apply_all mesh two (way_back mesh others.moves) ≡ Some second = list_undone mesh others.moves second two is_walk k.leads in
     let from_one : apply_all mesh one (way_back mesh others.moves) ≡ Some second =
     subst (λ (w : List ℕ). apply_all mesh w (way_back mesh others.moves) ≡ Some second) (sym same) back in
@@ -86,7 +87,7 @@ there_and_back_leads mesh first second one two list others whole is_walk h k sam
           ∙ one_after_another mesh list.moves (way_back mesh others.moves) first one second h.leads from_one;
       peak = elim (cases_eq (length others.moves) 0) [
         | inl empty ↦
-            none empty ∙ sym (no_others mesh first second one two list others h k same others.moves refl empty) ∙ sym whole_is
+            none empty ∙ sym (no_others h k same others.moves refl empty) ∙ sym whole_is
         | inr more ↦ some (omega arith) ∙ sym whole_is
       ];
     }
@@ -101,13 +102,13 @@ length-way_back mesh (move ∷ moves) =
     )
 
 -- neither list is long, so neither is that of both
-pub both_within : (mesh : FaceList) (n m most : ℕ) (list others whole : PeakedMoves) → IsWithin n list → IsWithin m others → n + m ≤ most
+pub both_within : (mesh : FaceList) {n m : ℕ} (most : ℕ) {list others : PeakedMoves} (whole : PeakedMoves) → IsWithin n list → IsWithin m
+    others → n + m ≤ most
     → whole.moves ≡ list.moves ++ way_back mesh others.moves
     → (length others.moves ≡ 0 → whole.peak ≡ list.peak) → (0 < length others.moves → whole.peak ≡ max list.peak others.peak)
     → IsWithin most whole
-both_within mesh n m most list others whole h k few moves none some =
-    let count : length whole.moves ≡ length list.moves + length others.moves =
-    omega (
+both_within mesh most {list} {others} whole h k few moves none some =
+    let count : length whole.moves ≡ length list.moves + length others.moves = omega (
       arith,
       ap (λ (ms : List Move). length ms) moves,
       length-append list.moves (way_back mesh others.moves),

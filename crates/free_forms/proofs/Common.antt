@@ -19,7 +19,7 @@ pub use Rattle.surf_model.proofs.ContextLemmas.{first_answer, one_after_another,
 pub use Rattle.surf_model.proofs.EdgeLemmas.{ends_differ, step_within}
 pub use Rattle.surf_model.proofs.PartnerLemmas.{IsEdgeOfSide, IsSideOfEdge, edge_has_side, edge_of_side, ends_agree, side_of_edge, table_edge}
 pub use Rattle.surf_model.proofs.ReplacementLemmas.{by_replacing}
-pub use Rattle.surf_model.proofs.RoundLemmas.{corner_after, falls, falls_past, meet, rises, rises_past}
+pub use Rattle.surf_model.proofs.RoundLemmas.{corner_after, meet}
 pub use Rattle.surf_model.proofs.TableEdgeLemmas.{IsEdgeBetween, edge_between, sides_between_swap, sides_of_edge}
 pub use Rattle.surf_model.proofs.TableLemmas.{Contains-filter, face_side_in, joins_swap}
 pub use Rattle.surf_model.proofs.WayBackLemmas.{keeps_walk, list_keeps_ends, list_undone, undone}

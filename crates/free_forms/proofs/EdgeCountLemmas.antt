@@ -4,19 +4,19 @@ use Rattle.free_forms.specs.OpenSurfaces.{HasBoundary}
 use Rattle.free_forms.specs.OpenFaults.{IsFirstFault, IsFirstCrowded, IsLeastCrowdedEdge, IsBoundaryEdge}
 use Rattle.free_forms.specs.declared.fault.OpenFault.TheVariants.{EdgeSides}
 
-pub no_boundary_from_table : (mesh : FaceList) (table : List Edge) → IsTableOf mesh table
+pub no_boundary_from_table : {mesh : FaceList} {table : List Edge} → IsTableOf mesh table
     → ((k : ℕ) → k < length table → length (edge_in table k).sides ≢ 1) → HasBoundary mesh → ⊥
-no_boundary_from_table mesh table h none rim =
+no_boundary_from_table {mesh} {table} h none rim =
     between_by_table (λ n. n ≢ 1) mesh table h (λ same. absurd (omega arith)) none rim.0 rim.1 rim.2
 
-pub boundary_from_table : (mesh : FaceList) (table : List Edge) (k : ℕ) → IsTableOf mesh table → IsBoundaryEdge table k → HasBoundary mesh
-boundary_from_table mesh table k h rim =
+pub boundary_from_table : {mesh : FaceList} {table : List Edge} {k : ℕ} → IsTableOf mesh table → IsBoundaryEdge table k → HasBoundary mesh
+boundary_from_table {mesh} {table} {k} h rim =
     let edge : Edge = edge_in table k in
     (edge.low, edge.high, sym (sides_of_edge mesh edge (h.edges k _ rim.in_table)) ∙ rim.one_side)
 
-least_crowded : (mesh : FaceList) (table : List Edge) (k : ℕ) → IsTableOf mesh table → IsFirstCrowded table k
+least_crowded : {mesh : FaceList} {table : List Edge} {k : ℕ} → IsTableOf mesh table → IsFirstCrowded table k
     → IsLeastCrowdedEdge mesh (edge_in table k).low (edge_in table k).high (length (edge_in table k).sides)
-least_crowded mesh table k h first =
+least_crowded {mesh} {table} {k} h first =
     let edge : Edge = edge_in table k in
     let is : IsEdgeOf mesh edge = h.edges k _ first.in_table in
     record {
@@ -30,10 +30,10 @@ least_crowded mesh table k h first =
     }
 
 -- so it is the first fault, as it is read
-pub crowded_as_read : (mesh : FaceList) (table : List Edge) (k : ℕ) (low high : VertexName) (sides : ℕ) → 0 < length mesh.faces
+pub crowded_as_read : {mesh : FaceList} {table : List Edge} {k : ℕ} (low high : VertexName) (sides : ℕ) → 0 < length mesh.faces
     → IsTableOf mesh table → IsFirstCrowded table k → low.0 ≡ (edge_in table k).low → high.0 ≡ (edge_in table k).high
     → sides ≡ length (edge_in table k).sides → IsFirstFault mesh (EdgeSides low high sides)
-crowded_as_read mesh table k low high sides some h first is_low is_high is_sides = record {
+crowded_as_read low high sides some h first is_low is_high is_sides = record {
   some_face = some;
-  edge = rw (is_low, is_high, is_sides) (least_crowded mesh table k h first);
+  edge = rw (is_low, is_high, is_sides) (least_crowded h first);
 }

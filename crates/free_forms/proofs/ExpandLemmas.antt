@@ -18,22 +18,24 @@ pub record IsRead (side : Side) (u corner : ℕ) (forward : Bool) (pending more 
   pub pushed : numbers more
       ≡ numbers pending ++ beyond (face_at mesh side.face.0) forward corner (length (face_at mesh side.face.0) - 1)
 
-pub pushed_length : (side : Side) (u corner : ℕ) (forward : Bool) (pending more : List VertexName) (mesh : FaceList)
+pub pushed_length : {side : Side} {u corner : ℕ} {forward : Bool} {pending more : List VertexName} {mesh : FaceList}
     → IsRead side u corner forward pending more mesh → length more ≡ length pending + (length (face_at mesh side.face.0) - 1)
-pushed_length side u corner forward pending more mesh h =
+pushed_length {side} {corner} {forward} {pending} {more} {mesh} h =
     let ring : List ℕ = face_at mesh side.face.0 in
     sym (length_numbers more) ∙ ap (λ (l : List ℕ). length l) h.pushed
     ∙ length-append (numbers pending) (beyond ring forward corner (length ring - 1))
     ∙ omega (arith, length_numbers pending, length_beyond ring forward corner (length ring - 1))
 
-pub expands_made : (surface : OpenView) (mesh : FaceList) (side : Side) (earlier pending more : List VertexName) (u next corner at d : ℕ)
-    (forward : Bool) (old new : PeakedMoves) → HasParents surface → mesh ≡ surface.mesh → side.face.0 < length surface.mesh.faces
+pub expands_made : {surface : OpenView} {mesh : FaceList} {side : Side} (earlier : List VertexName) {pending more : List VertexName} {u : ℕ}
+    (next : ℕ) {corner : ℕ} (at d : ℕ)
+    {forward : Bool} (old new : PeakedMoves) → HasParents surface → mesh ≡ surface.mesh → side.face.0 < length surface.mesh.faces
     → side ≡ parent_of surface side.face.0 → Joins surface.mesh side u next → IsRead side u corner forward pending more mesh
     → at ≡ length earlier → d ≡ length earlier + length more
     → new ≡ record { moves = old.moves ++ Across at side.face corner forward 1 ∷ []; peak = max old.peak d }
     → Expands surface (record { front = numbers earlier; last = u; coming = reverse (numbers pending); list = old }) next
     (record { front = numbers earlier; last = u; coming = reverse (numbers more); list = new })
-expands_made surface mesh side earlier pending more u next corner at d forward old new has same l parent joined read is_at is_d noted =
+expands_made {surface} {side} earlier {pending} {more} {u} next {corner} at d {forward} old new has same l parent joined read is_at is_d
+    noted =
     let f : ℕ = side.face.0 in
     let here : IsRead side u corner forward pending more surface.mesh = subst (IsRead side u corner forward pending more) same read in
     let way : IsWayAlong surface side u corner forward = way_found surface side u corner forward here.forward_is here.corner_is in
@@ -52,13 +54,12 @@ expands_made surface mesh side earlier pending more u next corner at d forward o
       last = refl;
       coming =
           ap reverse here.pushed ∙ reverse-append (numbers pending) behind
-          ∙ ap (λ (w : List ℕ). w ++ reverse (numbers pending)) (expansion_read surface f u corner forward has l way_of);
+          ∙ ap (λ (w : List ℕ). w ++ reverse (numbers pending)) (expansion_read f u corner forward has l way_of);
       list =
           noted
           ∙ ap (λ (n : ℕ). record { moves = old.moves ++ Across n side.face corner forward 1 ∷ []; peak = max old.peak d })
           (is_at ∙ sym (length_numbers earlier))
-          ∙ ap (λ (n : ℕ). made n)
-          (is_d ∙ omega (arith, length_numbers earlier, length_coming more));
+          ∙ ap (λ (n : ℕ). made n) (is_d ∙ omega (arith, length_numbers earlier, length_coming more));
     }
   where
     made : ℕ → PeakedMoves

@@ -1,5 +1,5 @@
 -- How darts act where a dart along a parent edge acts as its expansion does: what holds of every base, by which the other darts act.
-use Rattle.free_forms.proofs.Common.{partners_swap, ◌≡◌, ◌≢◌, ◌⊎◌, inl, inr, ℕ, zero, suc, ◌+◌, ◌-◌, ◌<◌, ◌≤◌, Bool, true, false, not, List, [], ◌∷◌, length, get_or, refl, ap, sym, ◌∙◌, subst, arith, cases_eq, cases_lt, eq-eqb, both_ways, nat_tests, Option, Some, None, ◌==◌, cond, if◌then◌else◌, step_within, ends_differ, corner_after, rises, rises_past, falls, falls_past, meet, joins_swap, IsSide, tail_of, head_of, FaceSide, face_at, next_corner, joins, ArePartners, Side, acts_exactly, run_stays, next_back, after_within, after_more, after_back, after_add, corners_apart, end_from, end_beyond, each_dart, each_any, run-more, walked-round, run, beyond, EachDart, ActsAlong, FacesActAsNothing}
+use Rattle.free_forms.proofs.Common.{partners_swap, ◌≡◌, ◌≢◌, ◌⊎◌, inl, inr, ℕ, zero, suc, ◌+◌, ◌-◌, ◌<◌, ◌≤◌, Bool, true, false, not, List, [], ◌∷◌, length, get_or, refl, ap, sym, ◌∙◌, subst, arith, cases_eq, cases_lt, eq-eqb, both_ways, nat_tests, Option, Some, None, ◌==◌, cond, if◌then◌else◌, step_within, ends_differ, corner_after, meet, joins_swap, IsSide, tail_of, head_of, FaceSide, face_at, next_corner, joins, ArePartners, Side, acts_exactly, run_stays, next_back, after_within, after_more, after_back, after_add, corners_apart, end_from, end_beyond, each_dart, each_any, run-more, walked-round, run, beyond, EachDart, ActsAlong, FacesActAsNothing}
 use Rattle.free_forms.specs.Parents.{OpenView, HasParents, EndsOutside, Joins, IsParentEdge, parent_of, expansion}
 
 -- each pair of vertices acts, also in lists that are no walks; states are told apart by equality
@@ -93,9 +93,9 @@ face_swap surface (suc n) u v =
     ap (λ (b : Bool). cond b (Some n) (parent_face surface n u v)) (joins_swap u v (whole_parent surface n))
     ∙ ap (cond (joins v u (whole_parent surface n)) (Some n)) (face_swap surface n u v)
 
-pub parent_in_mesh : (surface : OpenView) (f : ℕ) → HasParents surface → f < length surface.mesh.faces
+pub parent_in_mesh : {surface : OpenView} (f : ℕ) → HasParents surface → f < length surface.mesh.faces
     → IsSide surface.mesh (parent_of surface f)
-parent_in_mesh surface f has l = record { face = l; place = has.within f l }
+parent_in_mesh f has l = record { face = l; place = has.within f l }
 
 pub ends_same : (t h u v low high : ℕ) → ((t ≡ low) × (h ≡ high)) ⊎ ((t ≡ high) × (h ≡ low))
     → ((u ≡ low) × (v ≡ high)) ⊎ ((u ≡ high) × (v ≡ low))
@@ -110,28 +110,25 @@ no_two_parents surface (suc n) f g partners h =
     no_two_parents surface n g f (partners_swap surface.mesh (parent_of surface f) (parent_of surface g) partners)
     (h (parent_of surface g) partners)
 
-one_face : (surface : OpenView) (u v f g : ℕ) → HasParents surface → IsFound surface u v f → IsFound surface u v g → f ≡ g
-one_face surface u v f g has one other =
+one_face : {surface : OpenView} {u v f g : ℕ} → HasParents surface → IsFound surface u v f → IsFound surface u v g → f ≡ g
+one_face {surface} {u} {v} {f} {g} has one other =
     elim (cases_eq f g) [
       | inl same ↦ same
       | inr apart ↦
-          absurd
-          (no_two_parents surface (length surface.mesh.faces) f g
-          (record {
-            first = parent_in_mesh surface f has one.within;
-            second = parent_in_mesh surface g has other.within;
+          absurd (no_two_parents surface (length surface.mesh.faces) f g (record {
+            first = parent_in_mesh f has one.within;
+            second = parent_in_mesh g has other.within;
             different = λ same. apart (ap (λ (s : Side). s.face.0) same);
             one_edge = ends_same _ _ _ _ u v one.joined other.joined;
-          })
-          (has.outside f one.within))
+          }) (has.outside f one.within))
     ]
 
-pub face_found : (surface : OpenView) (u v f : ℕ) → HasParents surface → IsFound surface u v f → parent_face_of surface u v ≡ Some f
-face_found surface u v f has found = go (parent_face_of surface u v) refl
+pub face_found : {surface : OpenView} {u v f : ℕ} → HasParents surface → IsFound surface u v f → parent_face_of surface u v ≡ Some f
+face_found {surface} {u} {v} {f} has found = go (parent_face_of surface u v) refl
   where
     go : (o : Option ℕ) → parent_face_of surface u v ≡ o → o ≡ Some f
     go None e = absurd (none_below surface (length surface.mesh.faces) u v f e found.within found.joined)
-    go (Some g) e = ap Some (one_face surface u v g f has (found_face surface u v g e) found)
+    go (Some g) e = ap Some (one_face has (found_face surface u v g e) found)
 
 pub no_face_found : (surface : OpenView) (u v : ℕ) → (IsParentEdge surface u v → ⊥) → parent_face_of surface u v ≡ None
 no_face_found surface u v none = go (parent_face_of surface u v) refl
@@ -199,15 +196,15 @@ expansion_size surface f u =
           ap (λ (w : List ℕ). length w) (from_head surface f u other) ∙ length_beyond ring true (next_corner true m t) (m - 1)
     ]
 
-pub ends_of : (surface : OpenView) (f u v : ℕ) → HasParents surface → IsFound surface u v f → Ends surface f u v
-ends_of surface f u v has found =
+pub ends_of : {surface : OpenView} {f u v : ℕ} → HasParents surface → IsFound surface u v f → Ends surface f u v
+ends_of {surface} {f} {u} {v} has found =
     let side : Side = parent_of surface f in
     let ring : List ℕ = face_at surface.mesh f in
     let m : ℕ = length ring in
     let next : ℕ = next_corner true m side.at in
     let within : side.at < m = has.within f found.within in
     let differ : tail_of surface.mesh side ≢ head_of surface.mesh side =
-    ends_differ surface.mesh side has.valid (parent_in_mesh surface f has found.within) in
+    ends_differ surface.mesh side has.valid (parent_in_mesh f has found.within) in
     elim found.joined [
       | inl e ↦ record {
         rising = false;
@@ -234,10 +231,10 @@ ends_of surface f u v has found =
     ]
 
 -- an expansion leads to the other end
-pub expansion_ends : (surface : OpenView) (f u v : ℕ) → HasParents surface → IsFound surface u v f
+pub expansion_ends : {surface : OpenView} {f u v : ℕ} → HasParents surface → IsFound surface u v f
     → end_from u (expansion surface.mesh (parent_of surface f) u) ≡ v
-expansion_ends surface f u v has found =
-    let e : Ends surface f u v = ends_of surface f u v has found in
+expansion_ends {surface} {f} {u} {v} has found =
+    let e : Ends surface f u v = ends_of has found in
     let ring : List ℕ = face_at surface.mesh f in
     let k : ℕ = length ring - 1 in
     ap (end_from u) e.way ∙ ap (λ (x : ℕ). end_from x (beyond ring e.rising e.from k)) (sym e.at_u)
@@ -271,7 +268,7 @@ pub expansion_back : {State : Type 0} (act : State → ℕ → ℕ → State) (A
     → (surface : OpenView) (f u v : ℕ) → HasParents surface → IsFound surface u v f → (s : State) → At u s
     → run act (run act s u (expansion surface.mesh (parent_of surface f) u)) v (expansion surface.mesh (parent_of surface f) v) ≡ s
 expansion_back {State} act At acts surface f u v has found s at =
-    let e : Ends surface f u v = ends_of surface f u v has found in
+    let e : Ends surface f u v = ends_of has found in
     let ring : List ℕ = face_at surface.mesh f in
     let k : ℕ = length ring - 1 in
     let there : State = run act s (get_or ring e.from 0) (beyond ring e.rising e.from k) in
@@ -284,20 +281,20 @@ expansion_back {State} act At acts surface f u v has found s at =
     ∙ round_and_back act At acts ring e.rising e.from k e.from_within s (subst (λ (x : ℕ). At x s) (sym e.at_u) at)
 
 -- where there and back changes nothing by the base, and inside expansions, so it is one level up
-level_stays : {State : Type 0} (surface : OpenView) (base inner : State → ℕ → ℕ → State) (At : ℕ → State → Type 0) → HasParents surface
+level_stays : {State : Type 0} {surface : OpenView} (base inner : State → ℕ → ℕ → State) (At : ℕ → State → Type 0) → HasParents surface
     → ActsAnywhere base At → ActsAnywhere inner At → (u v : ℕ) (o : Option ℕ) → parent_face_of surface u v ≡ o → (s : State) → At u s
     → At v (by_face surface base (λ f x. x) inner o s u v)
-level_stays surface base inner At has acts more u v None e s at = acts.stays u v s tt at
-level_stays surface base inner At has acts more u v (Some f) e s at =
+level_stays base inner At has acts more u v None e s at = acts.stays u v s tt at
+level_stays {surface} base inner At has acts more u v (Some f) e s at =
     let way : List ℕ = expansion surface.mesh (parent_of surface f) u in
-    subst (λ (x : ℕ). At x (run inner s u way)) (expansion_ends surface f u v has (found_face surface u v f e))
+    subst (λ (x : ℕ). At x (run inner s u way)) (expansion_ends has (found_face surface u v f e))
     (run_stays AnyDart Equal inner At more s u way (each_any u way) at)
 
-level_back : {State : Type 0} (surface : OpenView) (base inner : State → ℕ → ℕ → State) (At : ℕ → State → Type 0) → HasParents surface
+level_back : {State : Type 0} {surface : OpenView} (base inner : State → ℕ → ℕ → State) (At : ℕ → State → Type 0) → HasParents surface
     → ActsAnywhere base At → ActsAnywhere inner At → (u v : ℕ) (o : Option ℕ) → parent_face_of surface u v ≡ o → (s : State) → At u s
     → by_face surface base (λ f x. x) inner o (by_face surface base (λ f x. x) inner o s u v) v u ≡ s
-level_back surface base inner At has acts more u v None e s at = acts.back u v s tt at
-level_back surface base inner At has acts more u v (Some f) e s at =
+level_back base inner At has acts more u v None e s at = acts.back u v s tt at
+level_back {surface} base inner At has acts more u v (Some f) e s at =
     expansion_back inner At more surface f u v has (found_face surface u v f e) s at
 
 -- where there and back by the base changes nothing, so it is with expansions
@@ -308,11 +305,10 @@ acting_acts {State} surface base At has acts (suc n) =
     let inner : State → ℕ → ℕ → State = acting surface base (λ f x. x) n in
     let more : ActsAnywhere inner At = acting_acts surface base At has acts n in
     acts_exactly AnyDart (acting surface base (λ f x. x) (suc n)) At
-    (λ u v s dart at. level_stays surface base inner At has acts more u v (parent_face_of surface u v) refl s at)
-    (λ u v s dart at.
+    (λ u v s dart at. level_stays base inner At has acts more u v (parent_face_of surface u v) refl s at) (λ u v s dart at.
     ap (λ (o : Option ℕ). by_face surface base (λ f x. x) inner o (acting surface base (λ f x. x) (suc n) s u v) v u)
     (face_swap surface (length surface.mesh.faces) v u)
-    ∙ level_back surface base inner At has acts more u v (parent_face_of surface u v) refl s at)
+    ∙ level_back base inner At has acts more u v (parent_face_of surface u v) refl s at)
 
 pub run_agree : {State : Type 0} (act other : State → ℕ → ℕ → State) (u : ℕ) (vs : List ℕ)
     → EachDart (λ a b. (s : State) → act s a b ≡ other s a b) u vs → (s : State) → run act s u vs ≡ run other s u vs
@@ -353,22 +349,21 @@ elsewhere : (rising : Bool) (m t k : ℕ) → t < m → 0 < k → k < m → corn
 elsewhere rising m t k l some few same = corners_apart rising m t 0 k l some (omega arith) (omega arith) (sym same)
 
 -- no place comes twice
-pub places_differ : (surface : OpenView) (f : ℕ) (rising : Bool) (i j : ℕ) → HasParents surface → f < length surface.mesh.faces → i < j
+pub places_differ : {surface : OpenView} (f : ℕ) (rising : Bool) (i j : ℕ) → HasParents surface → f < length surface.mesh.faces → i < j
     → j + 1 < length (face_at surface.mesh f) → places_behind surface f rising j ≢ places_behind surface f rising i
-places_differ surface f rising i j has l less few same =
+places_differ {surface} f rising i j has l less few same =
     let m : ℕ = length (face_at surface.mesh f) in
     let t : ℕ = (parent_of surface f).at in
     let far : suc j ≡ suc i + (j - i) = omega arith in
     elsewhere rising m (corner_after rising m t (suc i)) (j - i) (after_within rising m t (suc i) (has.within f l)) (omega arith)
-    (omega arith)
-    (sym (ap (corner_after rising m t) far ∙ after_add rising m t (suc i) (j - i)) ∙ same)
+    (omega arith) (sym (ap (corner_after rising m t) far ∙ after_add rising m t (suc i) (j - i)) ∙ same)
 
 -- rising from the corner behind the parent
-along_rising : (surface : OpenView) (f j k c : ℕ) → HasParents surface → f < length surface.mesh.faces
+along_rising : {surface : OpenView} (f j k c : ℕ) → HasParents surface → f < length surface.mesh.faces
     → suc j + k ≤ length (face_at surface.mesh f) → c ≡ places_behind surface f true j
     → EachAlong surface f (places_behind surface f true) j (get_or (face_at surface.mesh f) c 0) (beyond (face_at surface.mesh f) true c k)
-along_rising surface f j zero c has l few is = tt
-along_rising surface f j (suc k) c has l few is =
+along_rising f j zero c has l few is = tt
+along_rising {surface} f j (suc k) c has l few is =
     let ring : List ℕ = face_at surface.mesh f in
     let m : ℕ = length ring in
     let t : ℕ = (parent_of surface f).at in
@@ -380,18 +375,17 @@ along_rising surface f j (suc k) c has l few is =
       joined = inl (refl, refl);
     } in (
       subst (λ (p : ℕ). IsAlong surface f p (get_or ring c 0) (get_or ring (next_corner true m c) 0)) is here,
-      along_rising surface f (suc j) k (next_corner true m c) has l (omega arith)
-          (ap (next_corner true m) is ∙ sym (after_more true m t (suc j))),
+      along_rising f (suc j) k (next_corner true m c) has l (omega arith) (ap (next_corner true m) is ∙ sym (after_more true m t (suc j))),
     )
 
 -- falling from the corner where the parent starts
-along_falling : (surface : OpenView) (f j k c : ℕ) → HasParents surface → f < length surface.mesh.faces
+along_falling : {surface : OpenView} (f j k c : ℕ) → HasParents surface → f < length surface.mesh.faces
     → suc j + k ≤ length (face_at surface.mesh f)
     → c ≡ corner_after false (length (face_at surface.mesh f)) (parent_of surface f).at j → c < length (face_at surface.mesh f)
     → EachAlong surface f (places_behind surface f false) j (get_or (face_at surface.mesh f) c 0)
     (beyond (face_at surface.mesh f) false c k)
-along_falling surface f j zero c has l few is c_within = tt
-along_falling surface f j (suc k) c has l few is c_within =
+along_falling f j zero c has l few is c_within = tt
+along_falling {surface} f j (suc k) c has l few is c_within =
     let ring : List ℕ = face_at surface.mesh f in
     let m : ℕ = length ring in
     let t : ℕ = (parent_of surface f).at in
@@ -405,46 +399,46 @@ along_falling surface f j (suc k) c has l few is c_within =
       joined = inr (refl, ap (λ (x : ℕ). get_or ring x 0) home);
     } in (
       subst (λ (p : ℕ). IsAlong surface f p (get_or ring c 0) (get_or ring next 0)) next_is here,
-      along_falling surface f (suc j) k next has l (omega arith) next_is within,
+      along_falling f (suc j) k next has l (omega arith) next_is within,
     )
 
 -- each dart of an expansion goes along another side of the face, one after the other
-pub expansion_places : (surface : OpenView) (f u v : ℕ) → HasParents surface → IsFound surface u v f
+pub expansion_places : {surface : OpenView} {f u v : ℕ} → HasParents surface → IsFound surface u v f
     → (rising : Bool) × EachAlong surface f (places_behind surface f rising) 0 u (expansion surface.mesh (parent_of surface f) u)
-expansion_places surface f u v has found =
+expansion_places {surface} {f} {u} has found =
     let side : Side = parent_of surface f in
     let ring : List ℕ = face_at surface.mesh f in
     let m : ℕ = length ring in
     let within : side.at < m = has.within f found.within in
     let differ : tail_of surface.mesh side ≢ head_of surface.mesh side =
-    ends_differ surface.mesh side has.valid (parent_in_mesh surface f has found.within) in
+    ends_differ surface.mesh side has.valid (parent_in_mesh f has found.within) in
     elim found.joined [
       | inl e ↦ (
         false,
         subst (EachAlong surface f (places_behind surface f false) 0 u) (sym (from_tail surface f u e.0))
             (subst (λ (x : ℕ). EachAlong surface f (places_behind surface f false) 0 x (beyond ring false side.at (m - 1))) e.0
-            (along_falling surface f 0 (m - 1) side.at has found.within (omega arith) refl within)),
+            (along_falling f 0 (m - 1) side.at has found.within (omega arith) refl within)),
       )
       | inr e ↦ (
         true,
         subst (EachAlong surface f (places_behind surface f true) 0 u) (sym (from_head surface f u (λ same. differ (same ∙ sym e.1))))
             (subst (λ (x : ℕ). EachAlong surface f (places_behind surface f true) 0 x
             (beyond ring true (next_corner true m side.at) (m - 1))) e.1
-            (along_rising surface f 0 (m - 1) (next_corner true m side.at) has found.within (omega arith) refl)),
+            (along_rising f 0 (m - 1) (next_corner true m side.at) has found.within (omega arith) refl)),
       )
     ]
 
-expansion_along : (surface : OpenView) (f u v : ℕ) → HasParents surface → IsFound surface u v f
+expansion_along : {surface : OpenView} {f u v : ℕ} → HasParents surface → IsFound surface u v f
     → EachDart (IsAlongOther surface f) u (expansion surface.mesh (parent_of surface f) u)
-expansion_along surface f u v has found =
-    let told = expansion_places surface f u v has found in
+expansion_along {surface} {f} {u} has found =
+    let told = expansion_places has found in
     along_any surface f (places_behind surface f told.0) 0 u (expansion surface.mesh (parent_of surface f) u) told.1
 
 -- across that side lies a face whose parent it is
-pub across : (surface : OpenView) (f g place a b : ℕ) → HasParents surface → f < length surface.mesh.faces → IsAlong surface f place a b
+pub across : {surface : OpenView} {f g place a b : ℕ} → HasParents surface → f < length surface.mesh.faces → IsAlong surface f place a b
     → IsFound surface a b g → ArePartners surface.mesh (parent_of surface g) (side_at f place)
-across surface f g place a b has l along found = record {
-  first = parent_in_mesh surface g has found.within;
+across {surface} {f} {g} {place} {a} {b} has l along found = record {
+  first = parent_in_mesh g has found.within;
   second = record { face = l; place = along.within };
   different = λ same.
       let face : g ≡ f = ap (λ (s : Side). s.face.0) same in
@@ -453,32 +447,31 @@ across surface f g place a b has l along found = record {
 }
 
 -- and it is further from the outside
-further : (surface : OpenView) (n f g a b : ℕ) → HasParents surface → f < length surface.mesh.faces → IsAlongOther surface f a b
+further : {surface : OpenView} (n f : ℕ) {g a b : ℕ} → HasParents surface → f < length surface.mesh.faces → IsAlongOther surface f a b
     → IsFound surface a b g → EndsOutside surface (suc n) g → EndsOutside surface n f
-further surface n f g a b has l along found outside =
-    outside (side_at f along.0) (across surface f g along.0 a b has l along.1 found)
+further n f has l along found outside = outside (side_at f along.0) (across has l along.1 found)
 
 -- n levels are enough for the edge of the two vertices: its face, if it has one, takes as many crossings as are left
 abbrev IsDeep : OpenView → ℕ → ℕ → ℕ → Type 0
 IsDeep surface n u v =
     (f : ℕ) → IsFound surface u v f → EndsOutside surface (length surface.mesh.faces - n) f → ⊥
 
-deep_on : (surface : OpenView) (n f a b : ℕ) → HasParents surface → f < length surface.mesh.faces
+deep_on : {surface : OpenView} (n f a b : ℕ) → HasParents surface → f < length surface.mesh.faces
     → (EndsOutside surface (length surface.mesh.faces - suc n) f → ⊥) → IsAlongOther surface f a b → IsDeep surface n a b
-deep_on surface n f a b has l deep along g found outside =
+deep_on {surface} n f a b has l deep along g found outside =
     let count : ℕ = length surface.mesh.faces in
     elim (cases_lt n count) [
       | inl less ↦
           (let up : count - n ≡ suc (count - suc n) = omega arith in
-          deep (further surface (count - suc n) f g a b has l along found (subst (λ (k : ℕ). EndsOutside surface k g) up outside)))
+          deep (further (count - suc n) f has l along found (subst (λ (k : ℕ). EndsOutside surface k g) up outside)))
       | inr more ↦ (let none : count - n ≡ 0 = omega arith in subst (λ (k : ℕ). EndsOutside surface k g) none outside)
     ]
 
-no_level : {State : Type 0} (surface : OpenView) (base inner : State → ℕ → ℕ → State) (enter : ℕ → State → State) → HasParents surface
+no_level : {State : Type 0} {surface : OpenView} (base inner : State → ℕ → ℕ → State) (enter : ℕ → State → State) → HasParents surface
     → (u v : ℕ) → IsDeep surface 0 u v → (s : State) → (o : Option ℕ) → parent_face_of surface u v ≡ o
     → base s u v ≡ by_face surface base enter inner o s u v
-no_level surface base inner enter has u v deep s None e = refl
-no_level surface base inner enter has u v deep s (Some f) e =
+no_level base inner enter has u v deep s None e = refl
+no_level {surface} base inner enter has u v deep s (Some f) e =
     let found = found_face surface u v f e in
     let all : length surface.mesh.faces - 0 ≡ length surface.mesh.faces = omega arith in
     absurd (deep f found (subst (λ (k : ℕ). EndsOutside surface k f) (sym all) (has.outside f found.within)))
@@ -496,47 +489,44 @@ levels_agree surface base inner other enter u v agree s (Some f) e = agree f (fo
 level_more : {State : Type 0} (surface : OpenView) (base : State → ℕ → ℕ → State) (enter : ℕ → State → State) → HasParents surface
     → (n u v : ℕ) → IsDeep surface n u v → (s : State) → acting surface base enter n s u v ≡ acting surface base enter (suc n) s u v
 level_more surface base enter has zero u v deep s =
-    no_level surface base (acting surface base enter 0) enter has u v deep s (parent_face_of surface u v) refl
+    no_level base (acting surface base enter 0) enter has u v deep s (parent_face_of surface u v) refl
 level_more {State} surface base enter has (suc n) u v deep s =
     let one : State → ℕ → ℕ → State = acting surface base enter n in
     let two : State → ℕ → ℕ → State = acting surface base enter (suc n) in
-    levels_agree surface base one two enter u v
-    (λ f found.
+    levels_agree surface base one two enter u v (λ f found.
     let way : List ℕ = expansion surface.mesh (parent_of surface f) u in
-    run_agree one two u way
-    (each_dart (IsAlongOther surface f) (λ a b. (x : State) → one x a b ≡ two x a b)
-    (λ a b along. level_more surface base enter has n a b (deep_on surface n f a b has found.within (deep f found) along)) u way
-    (expansion_along surface f u v has found)))
-    s (parent_face_of surface u v) refl
+    run_agree one two u way (each_dart (IsAlongOther surface f) (λ a b. (x : State) → one x a b ≡ two x a b)
+    (λ a b along. level_more surface base enter has n a b (deep_on n f a b has found.within (deep f found) along)) u way
+    (expansion_along has found))) s (parent_face_of surface u v) refl
 
 -- with as many levels as there are faces
 abbrev pub act_fully : {State : Type 0} → OpenView → (State → ℕ → ℕ → State) → (ℕ → State → State) → State → ℕ → ℕ → State
 act_fully surface base enter = acting surface base enter (length surface.mesh.faces)
 
-pub enough_levels : {State : Type 0} (surface : OpenView) (base : State → ℕ → ℕ → State) (enter : ℕ → State → State) → HasParents surface
+pub enough_levels : {State : Type 0} {surface : OpenView} (base : State → ℕ → ℕ → State) (enter : ℕ → State → State) → HasParents surface
     → (u v : ℕ) (s : State)
     → act_fully surface base enter s u v
     ≡ by_face surface base enter (act_fully surface base enter) (parent_face_of surface u v) s u v
-enough_levels surface base enter has u v s =
+enough_levels {surface} base enter has u v s =
     let none : length surface.mesh.faces - length surface.mesh.faces ≡ 0 = omega arith in
     level_more surface base enter has (length surface.mesh.faces) u v
     (λ f found outside. subst (λ (k : ℕ). EndsOutside surface k f) none outside) s
 
 -- a parent edge acts as its expansion
-pub acts_by_expansion : {State : Type 0} (surface : OpenView) (base : State → ℕ → ℕ → State) (enter : ℕ → State → State)
+pub acts_by_expansion : {State : Type 0} {surface : OpenView} (base : State → ℕ → ℕ → State) (enter : ℕ → State → State)
     → HasParents surface
-    → (u v f : ℕ) (s : State) → IsFound surface u v f
+    → {u v f : ℕ} (s : State) → IsFound surface u v f
     → act_fully surface base enter s u v
     ≡ run (act_fully surface base enter) (enter f s) u (expansion surface.mesh (parent_of surface f) u)
-acts_by_expansion surface base enter has u v f s found =
-    enough_levels surface base enter has u v s
-    ∙ ap (λ (o : Option ℕ). by_face surface base enter (act_fully surface base enter) o s u v) (face_found surface u v f has found)
+acts_by_expansion {surface} base enter has {u} {v} s found =
+    enough_levels base enter has u v s
+    ∙ ap (λ (o : Option ℕ). by_face surface base enter (act_fully surface base enter) o s u v) (face_found has found)
 
 -- and another edge by the base
-pub acts_by_base : {State : Type 0} (surface : OpenView) (base : State → ℕ → ℕ → State) (enter : ℕ → State → State) → HasParents surface
+pub acts_by_base : {State : Type 0} {surface : OpenView} (base : State → ℕ → ℕ → State) (enter : ℕ → State → State) → HasParents surface
     → (u v : ℕ) (s : State) → (IsParentEdge surface u v → ⊥) → act_fully surface base enter s u v ≡ base s u v
-acts_by_base surface base enter has u v s none =
-    enough_levels surface base enter has u v s
+acts_by_base {surface} base enter has u v s none =
+    enough_levels base enter has u v s
     ∙ ap (λ (o : Option ℕ). by_face surface base enter (act_fully surface base enter) o s u v) (no_face_found surface u v none)
 
 -- so once round each face from the corner behind its parent changes nothing
@@ -555,11 +545,11 @@ faces_nothing {State} surface base At has acts = record {
         let tail : ℕ = tail_of surface.mesh side in
         let head : ℕ = head_of surface.mesh side in
         let within : side.at < m = has.within f l in
-        let differ : tail ≢ head = ends_differ surface.mesh side has.valid (parent_in_mesh surface f has l) in
+        let differ : tail ≢ head = ends_differ surface.mesh side has.valid (parent_in_mesh f has l) in
         let found : IsFound surface head tail f = record { within = l; joined = inr (refl, refl) } in
         let around : State = run act s head (beyond ring true next (m - 1)) in
         let rest : around ≡ act s head tail =
-        sym (acts_by_expansion surface base (λ f x. x) has head tail f s found ∙ ap (run act s head) (from_head surface f head differ)) in
+        sym (acts_by_expansion base (λ f x. x) has s found ∙ ap (run act s head) (from_head surface f head differ)) in
         let whole : m ≡ suc (m - 1) = omega arith in
         let most : corner_after true m next (m - 1) ≡ side.at = most_rising m side.at within in
         walked-round act s ring true next m

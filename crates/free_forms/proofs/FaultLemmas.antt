@@ -5,20 +5,20 @@ use Rattle.free_forms.specs.OpenFaults.{IsFirstFault, IsLeastCrowdedEdge}
 use Rattle.free_forms.specs.declared.fault.OpenFault.{OpenFault}
 use Rattle.free_forms.specs.declared.fault.OpenFault.TheVariants.{NoFace, EdgeSides, NoBoundary, Pinched, Apart, OutOfMemory}
 
-not_few : (mesh : FaceList) (low high sides : ℕ) → IsLeastCrowdedEdge mesh low high sides → NoEdgeHasThreeSides mesh → ⊥
-not_few mesh low high sides h few = omega (arith, h.number, h.crowded, few low high)
+not_few : {mesh : FaceList} {low high sides : ℕ} → IsLeastCrowdedEdge mesh low high sides → NoEdgeHasThreeSides mesh → ⊥
+not_few {low} {high} h few = omega (arith, h.number, h.crowded, few low high)
 
-one_edge : (mesh : FaceList) (a b s c d t : ℕ) → IsLeastCrowdedEdge mesh a b s → IsLeastCrowdedEdge mesh c d t → (a ≡ c) × (b ≡ d) × (s ≡ t)
-one_edge mesh a b s c d t h k =
+one_edge : {mesh : FaceList} {a b s c d t : ℕ} → IsLeastCrowdedEdge mesh a b s → IsLeastCrowdedEdge mesh c d t → (a ≡ c) × (b ≡ d) × (s ≡ t)
+one_edge {mesh} {a} {b} {c} {d} h k =
     let same = equal_pairs a b c d (λ before. omega (arith, h.number, h.crowded, k.least a b h.ordered before))
     (λ after. omega (arith, k.number, k.crowded, h.least c d k.ordered after)) in
     (same.0, same.1, h.number ∙ ap (λ x. sides_between mesh x b) same.0 ∙ ap (sides_between mesh c) same.1 ∙ sym k.number)
 
-one_least : (mesh : FaceList) (v w : ℕ) → IsLeastUsed mesh v → IsLeastUsed mesh w → v ≡ w
-one_least mesh v w h k = equal v w (λ less. k.least v less h.used) (λ more. h.least w more k.used)
+one_least : {mesh : FaceList} {v w : ℕ} → IsLeastUsed mesh v → IsLeastUsed mesh w → v ≡ w
+one_least {v} {w} h k = equal v w (λ less. k.least v less h.used) (λ more. h.least w more k.used)
 
-one_apart : (mesh : FaceList) (u v w : ℕ) → AreLeastApart mesh u v → AreLeastApart mesh u w → v ≡ w
-one_apart mesh u v w h k = equal v w (λ less. h.apart (k.least v less h.used)) (λ more. k.apart (h.least w more k.used))
+one_apart : {mesh : FaceList} {u v w : ℕ} → AreLeastApart mesh u v → AreLeastApart mesh u w → v ≡ w
+one_apart {v} {w} h k = equal v w (λ less. h.apart (k.least v less h.used)) (λ more. k.apart (h.least w more k.used))
 
 -- there is at most one first fault
 pub one_fault : (mesh : FaceList) (fault other : OpenFault) → IsFirstFault mesh fault → IsFirstFault mesh other → fault ≡ other
@@ -31,35 +31,35 @@ one_fault mesh NoFace (Pinched vertex) h k = absurd (omega (arith, k.some_face))
 one_fault mesh NoFace (Apart vertex another) h k = absurd (omega (arith, k.some_face))
 one_fault mesh (EdgeSides low high sides) NoFace h k = absurd (omega (arith, h.some_face))
 one_fault mesh (EdgeSides a b s) (EdgeSides c d t) h k =
-    let same = one_edge mesh a.0 b.0 s c.0 d.0 t h.edge k.edge in
+    let same = one_edge h.edge k.edge in
     ap (λ x. EdgeSides x b s) (same_name a c same.0) ∙ ap (λ x. EdgeSides c x s) (same_name b d same.1) ∙ ap (EdgeSides c d) same.2
-one_fault mesh (EdgeSides low high sides) NoBoundary h k = absurd (not_few mesh low.0 high.0 sides h.edge k.few_sides)
-one_fault mesh (EdgeSides low high sides) (Pinched vertex) h k = absurd (not_few mesh low.0 high.0 sides h.edge k.few_sides)
-one_fault mesh (EdgeSides low high sides) (Apart vertex another) h k = absurd (not_few mesh low.0 high.0 sides h.edge k.few_sides)
+one_fault mesh (EdgeSides low high sides) NoBoundary h k = absurd (not_few h.edge k.few_sides)
+one_fault mesh (EdgeSides low high sides) (Pinched vertex) h k = absurd (not_few h.edge k.few_sides)
+one_fault mesh (EdgeSides low high sides) (Apart vertex another) h k = absurd (not_few h.edge k.few_sides)
 one_fault mesh NoBoundary NoFace h k = absurd (omega (arith, h.some_face))
-one_fault mesh NoBoundary (EdgeSides low high sides) h k = absurd (not_few mesh low.0 high.0 sides k.edge h.few_sides)
+one_fault mesh NoBoundary (EdgeSides low high sides) h k = absurd (not_few k.edge h.few_sides)
 one_fault mesh NoBoundary NoBoundary h k = refl
 one_fault mesh NoBoundary (Pinched vertex) h k = absurd (h.none k.boundary)
 one_fault mesh NoBoundary (Apart vertex another) h k = absurd (h.none k.boundary)
 one_fault mesh (Pinched vertex) NoFace h k = absurd (omega (arith, h.some_face))
-one_fault mesh (Pinched vertex) (EdgeSides low high sides) h k = absurd (not_few mesh low.0 high.0 sides k.edge h.few_sides)
+one_fault mesh (Pinched vertex) (EdgeSides low high sides) h k = absurd (not_few k.edge h.few_sides)
 one_fault mesh (Pinched vertex) NoBoundary h k = absurd (k.none h.boundary)
 one_fault mesh (Pinched vertex) (Pinched another) h k =
     ap Pinched (same_name vertex another (one_pinch mesh vertex.0 another.0 h.vertex k.vertex))
 one_fault mesh (Pinched vertex) (Apart first second) h k = absurd (h.vertex.pinched (k.one_fan vertex.0 h.vertex.used))
 one_fault mesh (Apart first second) NoFace h k = absurd (omega (arith, h.some_face))
-one_fault mesh (Apart first second) (EdgeSides low high sides) h k = absurd (not_few mesh low.0 high.0 sides k.edge h.few_sides)
+one_fault mesh (Apart first second) (EdgeSides low high sides) h k = absurd (not_few k.edge h.few_sides)
 one_fault mesh (Apart first second) NoBoundary h k = absurd (k.none h.boundary)
 one_fault mesh (Apart first second) (Pinched vertex) h k = absurd (k.vertex.pinched (h.one_fan vertex.0 k.vertex.used))
 one_fault mesh (Apart u v) (Apart x y) h k =
-    let first : u.0 ≡ x.0 = one_least mesh u.0 x.0 h.vertices.vertex k.vertices.vertex in
+    let first : u.0 ≡ x.0 = one_least h.vertices.vertex k.vertices.vertex in
     ap (λ w. Apart w v) (same_name u x first)
-    ∙ ap (Apart x) (same_name v y (one_apart mesh x.0 v.0 y.0 (subst (λ w. AreLeastApart mesh w v.0) first h.vertices) k.vertices))
+    ∙ ap (Apart x) (same_name v y (one_apart (subst (λ w. AreLeastApart mesh w v.0) first h.vertices) k.vertices))
 
 -- an open surface has none
 pub no_fault : (mesh : FaceList) (fault : OpenFault) → IsOpenSurface mesh → IsFirstFault mesh fault → ⊥
 no_fault mesh NoFace surface h = omega (arith, surface.some_face)
-no_fault mesh (EdgeSides low high sides) surface h = not_few mesh low.0 high.0 sides h.edge surface.few_sides
+no_fault mesh (EdgeSides low high sides) surface h = not_few h.edge surface.few_sides
 no_fault mesh NoBoundary surface h = h.none surface.boundary
 no_fault mesh (Pinched vertex) surface h = h.vertex.pinched (surface.one_fan vertex.0 h.vertex.used)
 no_fault mesh (Apart vertex other) surface h =

@@ -27,12 +27,12 @@ puts_act =
     subst (λ (x : List ℕ). put_on (put_on x v) u ≡ x) (sym at.top) (there_and_back u v at.below (subst HasNoSpur at.top at.no_spur)))
 
 -- off the parent edges each vertex is put on
-pub puts_all : (surface : OpenView) → HasParents surface → (s : List ℕ) (u : ℕ) (vs : List ℕ)
+pub puts_all : {surface : OpenView} → HasParents surface → (s : List ℕ) (u : ℕ) (vs : List ℕ)
     → EachDart (λ a b. IsParentEdge surface a b → ⊥) u vs → run (act_fully surface put (λ f x. x)) s u vs ≡ all_put s vs
-puts_all surface has s u [] h = refl
-puts_all surface has s u (v ∷ vs) h =
-    ap (λ (x : List ℕ). run (act_fully surface put (λ f y. y)) x v vs) (acts_by_base surface put (λ f y. y) has u v s h.0)
-    ∙ puts_all surface has (put_on s v) v vs h.1
+puts_all has s u [] h = refl
+puts_all {surface} has s u (v ∷ vs) h =
+    ap (λ (x : List ℕ). run (act_fully surface put (λ f y. y)) x v vs) (acts_by_base put (λ f y. y) has u v s h.0)
+    ∙ puts_all has (put_on s v) v vs h.1
 
 pub off_parents : (surface : OpenView) (u : ℕ) (vs : List ℕ)
     → ((k : ℕ) → k + 1 < length (u ∷ vs) → IsParentEdge surface (get_or (u ∷ vs) k 0) (get_or (u ∷ vs) (k + 1) 0) → ⊥)
@@ -46,11 +46,12 @@ off_parents surface u (v ∷ vs) h = (
 )
 
 -- what a walk makes of a stack is what is left where its normal walk is put on
-walk_puts : (surface : OpenView) (walk other stack : List ℕ) → HasParents surface → 0 < length walk → IsNormalWalkOf surface walk other
+walk_puts : {surface : OpenView} {walk : List ℕ} (other stack : List ℕ) → HasParents surface → 0 < length walk → IsNormalWalkOf surface walk
+    other
     → 0 < length other → HasNoSpur stack
     → walked (act_fully surface put (λ f s. s)) (put_on stack (get_or walk 0 0)) walk ≡ all_put stack other
-walk_puts surface walk [] stack has start h some clean = absurd (omega arith)
-walk_puts surface walk (u ∷ us) stack has start h some clean =
+walk_puts [] stack has start h some clean = absurd (omega arith)
+walk_puts {surface} {walk} (u ∷ us) stack has start h some clean =
     let act : List ℕ → ℕ → ℕ → List ℕ = act_fully surface put (λ f s. s) in
     let first : ℕ = get_or walk 0 0 in
     let same : first ≡ u = (list_keeps_ends surface.mesh h.homotopic.0 walk (u ∷ us) start h.homotopic.1).starts in
@@ -58,7 +59,7 @@ walk_puts surface walk (u ∷ us) stack has start h some clean =
     (any_darts surface.mesh) (λ f. Unit {0}) (faces_nothing surface put IsStackAt has puts_act) h.homotopic.0 walk (u ∷ us)
     (put_on stack first) start (each_any_of walk) (crosses_any h.homotopic.0) h.homotopic.1 (put_at stack first clean)
     ∙ ap (λ (v : ℕ). run act (put_on stack v) u us) same
-    ∙ puts_all surface has (put_on stack u) u us (off_parents surface u us h.normal.no_parent)
+    ∙ puts_all has (put_on stack u) u us (off_parents surface u us h.normal.no_parent)
 
 -- moves lead to no empty walk
 some_left : (mesh : FaceList) (moves : List Move) (walk next : List ℕ) → 0 < length walk → Leads mesh walk moves next → 0 < length next
@@ -76,7 +77,7 @@ one_normal surface walk first second has start one two =
     let some : 0 < length first = some_left surface.mesh one.homotopic.0 walk first start one.homotopic.1 in
     let any : 0 < length second = some_left surface.mesh two.homotopic.0 walk second start two.homotopic.1 in
     same_equal first second one.normal.no_spur two.normal.no_spur (λ stack clean.
-    sym (walk_puts surface walk first stack has start one some clean) ∙ walk_puts surface walk second stack has start two any clean)
+    sym (walk_puts first stack has start one some clean) ∙ walk_puts second stack has start two any clean)
 
 -- two walks are homotopic exactly where their normal walks are equal
 pub by_normal_walks : (surface : OpenView) (walk other first second : List ℕ) → HasParents surface → IsWalk surface.mesh walk

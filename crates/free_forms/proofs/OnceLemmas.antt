@@ -35,9 +35,9 @@ joins_other : (u v : ℕ) (s t : FaceSide) → joins u v s ≡ true
     → ((s.tail ≡ t.tail) × (s.head ≡ t.head)) ⊎ ((s.tail ≡ t.head) × (s.head ≡ t.tail)) → joins u v t ≡ true
 joins_other u v s t h e = grind (arith, nat_tests)
 
-pub one_partner : (mesh : FaceList) (side other third : Side) → NoEdgeHasThreeSides mesh → ArePartners mesh side other
+pub one_partner : {mesh : FaceList} {side other third : Side} → NoEdgeHasThreeSides mesh → ArePartners mesh side other
     → ArePartners mesh side third → other ≡ third
-one_partner mesh side other third few h k =
+one_partner {mesh} {side} {other} {third} few h k =
     let u : ℕ = tail_of mesh side in
     let v : ℕ = head_of mesh side in
     let own : joins u v (entry_of mesh side) ≡ true = grind (arith, nat_tests) in
@@ -47,8 +47,7 @@ one_partner mesh side other third few h k =
     Contains-filter (joins u v) (all_sides mesh) (entry_of mesh s) joined (face_side_in mesh s.face.0 s.at is.face is.place) in
     let same : entry_of mesh other ≡ entry_of mesh third =
     two_same (filter (joins u v) (all_sides mesh)) (entry_of mesh side) (entry_of mesh other) (entry_of mesh third) (few u v)
-    (listed side h.first own)
-    (listed other h.second (joins_other u v (entry_of mesh side) (entry_of mesh other) own h.one_edge))
+    (listed side h.first own) (listed other h.second (joins_other u v (entry_of mesh side) (entry_of mesh other) own h.one_edge))
     (listed third k.second (joins_other u v (entry_of mesh side) (entry_of mesh third) own k.one_edge))
     (λ e. h.different (ap name_of e)) (λ e. k.different (ap name_of e)) in
     ap name_of same
@@ -61,10 +60,10 @@ CrossesTo surface zero g side = ArePartners surface.mesh (parent_of surface g) s
 CrossesTo surface (suc k) g side =
     (other : Side) × ArePartners surface.mesh (parent_of surface g) other × CrossesTo surface k other.face.0 side
 
-crosses_more : (surface : OpenView) (k g : ℕ) (side next : Side) → CrossesTo surface k g side
+crosses_more : (surface : OpenView) (k g : ℕ) (side : Side) {next : Side} → CrossesTo surface k g side
     → ArePartners surface.mesh (parent_of surface side.face.0) next → CrossesTo surface (suc k) g next
-crosses_more surface zero g side next h more = (side, h, more)
-crosses_more surface (suc k) g side next h more = (h.0, h.1, crosses_more surface k h.0.face.0 side next h.2 more)
+crosses_more surface zero g side h more = (side, h, more)
+crosses_more surface (suc k) g side h more = (h.0, h.1, crosses_more surface k h.0.face.0 side h.2 more)
 
 -- fewer crossings are left then
 nearer : (surface : OpenView) (k n g : ℕ) (side : Side) → EndsOutside surface n g → CrossesTo surface k g side
@@ -84,29 +83,27 @@ none_again surface (suc most) k n f side few h crosses same =
     none_again surface most k next.0 f side (omega (arith, next.1, few)) (subst (λ (g : ℕ). EndsOutside surface next.0 g) same next.2)
     crosses same
 
-not_again : (surface : OpenView) (k f : ℕ) (side : Side) → HasParents surface → f < length surface.mesh.faces → CrossesTo surface k f side
+not_again : {surface : OpenView} (k f : ℕ) (side : Side) → HasParents surface → f < length surface.mesh.faces → CrossesTo surface k f side
     → side.face.0 ≡ f → ⊥
-not_again surface k f side has l =
+not_again {surface} k f side has l =
     let n : ℕ = length surface.mesh.faces in
     none_again surface n k n f side (omega arith) (has.outside f l)
 
 -- a face is come to by one of its sides alone
-one_way : (surface : OpenView) (j k g : ℕ) (side other : Side) → HasParents surface → CrossesTo surface j g side
+one_way : {surface : OpenView} (j k g : ℕ) (side other : Side) → HasParents surface → CrossesTo surface j g side
     → CrossesTo surface k g other → side.face.0 ≡ other.face.0 → side ≡ other
-one_way surface zero zero g side other has first second same =
-    one_partner surface.mesh (parent_of surface g) side other has.few_sides first second
-one_way surface zero (suc k) g side other has first second same =
-    let met : side ≡ second.0 = one_partner surface.mesh (parent_of surface g) side second.0 has.few_sides first second.1 in
+one_way zero zero g side other has first second same = one_partner has.few_sides first second
+one_way zero (suc k) g side other has first second same =
+    let met : side ≡ second.0 = one_partner has.few_sides first second.1 in
     let face : second.0.face.0 ≡ other.face.0 = ap (λ (s : Side). s.face.0) (sym met) ∙ same in
-    absurd (not_again surface k second.0.face.0 other has second.1.second.face second.2 (sym face))
-one_way surface (suc j) zero g side other has first second same =
-    let met : first.0 ≡ other = one_partner surface.mesh (parent_of surface g) first.0 other has.few_sides first.1 second in
+    absurd (not_again k second.0.face.0 other has second.1.second.face second.2 (sym face))
+one_way (suc j) zero g side other has first second same =
+    let met : first.0 ≡ other = one_partner has.few_sides first.1 second in
     let face : first.0.face.0 ≡ side.face.0 = ap (λ (s : Side). s.face.0) met ∙ sym same in
-    absurd (not_again surface j first.0.face.0 side has first.1.second.face first.2 (sym face))
-one_way surface (suc j) (suc k) g side other has first second same =
-    let met : second.0 ≡ first.0 = one_partner surface.mesh (parent_of surface g) second.0 first.0 has.few_sides second.1 first.1 in
-    one_way surface j k first.0.face.0 side other has first.2
-    (subst (λ (s : Side). CrossesTo surface k s.face.0 other) met second.2) same
+    absurd (not_again j first.0.face.0 side has first.1.second.face first.2 (sym face))
+one_way {surface} (suc j) (suc k) g side other has first second same =
+    let met : second.0 ≡ first.0 = one_partner has.few_sides second.1 first.1 in
+    one_way j k first.0.face.0 side other has first.2 (subst (λ (s : Side). CrossesTo surface k s.face.0 other) met second.2) same
 
 -- ---- the faces that are expanded below a dart
 
@@ -143,32 +140,30 @@ record ComesTo (surface : OpenView) (g f : ℕ) (places : ℕ → ℕ) (i n : �
   count : ℕ
   crosses : CrossesTo surface count g (side_at f (places at))
 
-comes_to : (surface : OpenView) (g f place u v : ℕ) → HasParents surface → f < length surface.mesh.faces → IsAlong surface f place u v
+comes_to : {surface : OpenView} {g f place u v : ℕ} → HasParents surface → f < length surface.mesh.faces → IsAlong surface f place u v
     → IsBelow surface g u v → (k : ℕ) × CrossesTo surface k g (side_at f place)
-comes_to surface g f place u v has l along below =
-    let step : ArePartners surface.mesh (parent_of surface below.face) (side_at f place) =
-    across surface f below.face place u v has l along below.found in
+comes_to {surface} {g} {f} {place} has l along below =
+    let step : ArePartners surface.mesh (parent_of surface below.face) (side_at f place) = across has l along below.found in
     elim below.ways [
       | inl same ↦ (0, subst (λ (h : ℕ). ArePartners surface.mesh (parent_of surface h) (side_at f place)) (sym same) step)
       | inr way ↦ (
         suc way.0,
-        crosses_more surface way.0 g way.1 (side_at f place) way.2
+        crosses_more surface way.0 g way.1 way.2
             (subst (λ (h : ℕ). ArePartners surface.mesh (parent_of surface h) (side_at f place)) (sym way.3) step),
       )
     ]
 
 -- along different sides of a face, if so below each of them
-once_along : (surface : OpenView) (g f n : ℕ) (places : ℕ → ℕ) (i : ℕ) (u : ℕ) (vs : List ℕ) (most : ℕ) → HasParents surface
+once_along : {surface : OpenView} (g f n : ℕ) (places : ℕ → ℕ) (i : ℕ) (u : ℕ) (vs : List ℕ) (most : ℕ) → HasParents surface
     → f < length surface.mesh.faces → ((a b : ℕ) → a < b → b < most → places b ≢ places a)
     → ((a b : ℕ) (old : List ℕ) → OnceMore g old (listed surface n old a b) (IsBelow surface g a b))
     → EachAlong surface f places i u vs → i + length vs ≤ most → (old : List ℕ)
     → OnceMore g old (run (listed surface n) old u vs) (ComesTo surface g f places i (length vs))
-once_along surface g f n places i u [] most has l differ each along few old = inl refl
-once_along surface g f n places i u (v ∷ vs) most has l differ each along few old =
+once_along g f n places i u [] most has l differ each along few old = inl refl
+once_along {surface} g f n places i u (v ∷ vs) most has l differ each along few old =
     let next : List ℕ = listed surface n old u v in
-    let here : IsBelow surface g u v → (k : ℕ) × CrossesTo surface k g (side_at f (places i)) =
-    comes_to surface g f (places i) u v has l along.0 in
-    elim (once_along surface g f n places (suc i) v vs most has l differ each along.1 (omega arith) next) [
+    let here : IsBelow surface g u v → (k : ℕ) × CrossesTo surface k g (side_at f (places i)) = comes_to has l along.0 in
+    elim (once_along g f n places (suc i) v vs most has l differ each along.1 (omega arith) next) [
       | inl rest ↦ elim (each u v old) [
         | inl first ↦ inl (rest ∙ first)
         | inr first ↦ inr (
@@ -195,10 +190,8 @@ once_along surface g f n places i u (v ∷ vs) most has l differ each along few 
         )
         | inr first ↦
             (let way = here first.1 in
-            absurd
-            (differ i rest.1.at (omega (arith, rest.1.from)) (omega (arith, rest.1.below))
-            (ap (λ (s : Side). s.at)
-            (one_way surface rest.1.count way.0 g (side_at f (places rest.1.at)) (side_at f (places i)) has rest.1.crosses way.1 refl))))
+            absurd (differ i rest.1.at (omega (arith, rest.1.from)) (omega (arith, rest.1.below)) (ap (λ (s : Side). s.at)
+            (one_way rest.1.count way.0 g (side_at f (places rest.1.at)) (side_at f (places i)) has rest.1.crosses way.1 refl))))
       ]
     ]
 
@@ -208,24 +201,23 @@ times_more g f faces same = rw (eq-eqb f g same) refl
 times_other : (g f : ℕ) (faces : List ℕ) → f ≢ g → times g (f ∷ faces) ≡ times g faces
 times_other g f faces other = grind (arith, nat_tests)
 
-once_entered : (surface : OpenView) (g n u v f : ℕ) → HasParents surface
+once_entered : {surface : OpenView} (g n : ℕ) {u v f : ℕ} → HasParents surface
     → ((a b : ℕ) (old : List ℕ) → OnceMore g old (listed surface n old a b) (IsBelow surface g a b))
     → (old : List ℕ) → IsFound surface u v f
     → OnceMore g old (run (listed surface n) (f ∷ old) u (expansion surface.mesh (parent_of surface f) u)) (IsBelow surface g u v)
-once_entered surface g n u v f has each old found =
+once_entered {surface} g n {u} {f} has each old found =
     let way : List ℕ = expansion surface.mesh (parent_of surface f) u in
-    let told = expansion_places surface f u v has found in
+    let told = expansion_places has found in
     let places : ℕ → ℕ = places_behind surface f told.0 in
     let most : ℕ = length (face_at surface.mesh f) - 1 in
     let size : length way ≡ most = expansion_size surface f u in
-    let rest = once_along surface g f n places 0 u way most has found.within
-    (λ a b less few. places_differ surface f told.0 a b has found.within less (omega arith)) each told.1 (omega (arith, size)) (f ∷ old) in
+    let rest = once_along g f n places 0 u way most has found.within
+    (λ a b less few. places_differ f told.0 a b has found.within less (omega arith)) each told.1 (omega (arith, size)) (f ∷ old) in
     elim (cases_eq f g) [
       | inl same ↦ elim rest [
         | inl none ↦ inr (none ∙ times_more g f old same, record { face = f; found = found; ways = inl (sym same) })
         | inr more ↦
-            absurd
-            (not_again surface more.1.count f (side_at f (places more.1.at)) has found.within
+            absurd (not_again more.1.count f (side_at f (places more.1.at)) has found.within
             (subst (λ (h : ℕ). CrossesTo surface more.1.count h (side_at f (places more.1.at))) (sym same) more.1.crosses) refl)
       ]
       | inr other ↦ elim rest [
@@ -241,20 +233,19 @@ once_entered surface g n u v f has each old found =
       ]
     ]
 
-once_by_face : (surface : OpenView) (g n u v : ℕ) → HasParents surface
+once_by_face : {surface : OpenView} (g n u v : ℕ) → HasParents surface
     → ((a b : ℕ) (old : List ℕ) → OnceMore g old (listed surface n old a b) (IsBelow surface g a b))
     → (old : List ℕ) (o : Option ℕ) → parent_face_of surface u v ≡ o
     → OnceMore g old (by_face surface list_on list_in (listed surface n) o old u v) (IsBelow surface g u v)
-once_by_face surface g n u v has each old None e = inl refl
-once_by_face surface g n u v has each old (Some f) e = once_entered surface g n u v f has each old (found_face surface u v f e)
+once_by_face g n u v has each old None e = inl refl
+once_by_face {surface} g n u v has each old (Some f) e = once_entered g n has each old (found_face surface u v f e)
 
-once_below : (surface : OpenView) (g n : ℕ) → HasParents surface → (u v : ℕ) (old : List ℕ)
+once_below : {surface : OpenView} (g n : ℕ) → HasParents surface → (u v : ℕ) (old : List ℕ)
     → OnceMore g old (listed surface n old u v) (IsBelow surface g u v)
-once_below surface g zero has u v old = inl refl
-once_below surface g (suc n) has u v old =
-    once_by_face surface g n u v has (once_below surface g n has) old (parent_face_of surface u v) refl
+once_below g zero has u v old = inl refl
+once_below {surface} g (suc n) has u v old = once_by_face g n u v has (once_below g n has) old (parent_face_of surface u v) refl
 
 -- no face stands twice in the list
-pub listed_once : (surface : OpenView) (g n u v : ℕ) → HasParents surface → times g (listed surface n [] u v) ≤ 1
-listed_once surface g n u v has =
-    elim (once_below surface g n has u v []) [ inl none ↦ omega (arith, none) | inr one ↦ omega (arith, one.0) ]
+pub listed_once : {surface : OpenView} (g n u v : ℕ) → HasParents surface → times g (listed surface n [] u v) ≤ 1
+listed_once g n u v has =
+    elim (once_below g n has u v []) [ inl none ↦ omega (arith, none) | inr one ↦ omega (arith, one.0) ]

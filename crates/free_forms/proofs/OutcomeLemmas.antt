@@ -29,8 +29,8 @@ few_up mesh some none =
           }))
     ])
 
-few_sides : (mesh : FaceList) → IsFaceList mesh → 0 < length mesh.faces → HasNoFault mesh → NoEdgeHasThreeSides mesh
-few_sides mesh valid some none u v =
+few_sides : {mesh : FaceList} → IsFaceList mesh → 0 < length mesh.faces → HasNoFault mesh → NoEdgeHasThreeSides mesh
+few_sides {mesh} valid some none u v =
     elim (cases_lt u v) [
       | inl less ↦ few_up mesh some none u v less
       | inr more ↦ elim (cases_eq u v) [
@@ -56,35 +56,29 @@ least_below mesh (suc n) =
     ]
 
 -- with a boundary, and with few sides at each edge
-with_boundary : (mesh : FaceList) → IsFaceList mesh → 0 < length mesh.faces → NoEdgeHasThreeSides mesh → HasNoFault mesh
+with_boundary : {mesh : FaceList} → IsFaceList mesh → 0 < length mesh.faces → NoEdgeHasThreeSides mesh → HasNoFault mesh
     → (IsOpenSurface mesh → ⊥) → HasBoundary mesh → ⊥
-with_boundary mesh valid some few none no_surface rim =
-    no_first_used (is_used mesh) (HasOneRing mesh)
-    (λ n used pinched below.
-    none (Pinched (record { 0 = n })) (record {
+with_boundary {mesh} valid some few none no_surface rim =
+    no_first_used (is_used mesh) (HasOneRing mesh) (λ n used pinched below. none (Pinched (record { 0 = n })) (record {
       some_face = some;
       few_sides = few;
       boundary = rim;
       vertex = record { used = used; pinched = pinched; least = below };
-    })) mesh.count
-    (λ rings.
+    })) mesh.count (λ rings.
     let ring : EachVertexHasOneRing mesh = λ w used. rings w (used_below mesh w valid used) used in
     let apart : EachTwoAreJoined mesh → ⊥ = λ joined. no_surface
     (record { some_face = some; few_sides = few; boundary = rim; one_fan = ring; connected = joined }) in
     elim (least_below mesh mesh.count) [
       | inl unused ↦ apart (λ u v used_u used_v. absurd (unused u (used_below mesh u valid used_u) used_u))
       | inr found ↦
-          no_first_used (is_used mesh) (AreJoinedByWalk mesh found.0)
-          (λ n used no_walk below.
+          no_first_used (is_used mesh) (AreJoinedByWalk mesh found.0) (λ n used no_walk below.
           none (Apart (record { 0 = found.0 }) (record { 0 = n })) (record {
             some_face = some;
             few_sides = few;
             boundary = rim;
             one_fan = ring;
             vertices = record { vertex = found.1; used = used; apart = no_walk; least = below };
-          })) mesh.count
-          (λ walks.
-          apart (λ v w used_v used_w.
+          })) mesh.count (λ walks. apart (λ v w used_v used_w.
           walk_between_ends mesh found.0 v w used_v (walks v (used_below mesh v valid used_v) used_v)
           (walks w (used_below mesh w valid used_w) used_w)))
     ])
@@ -97,10 +91,10 @@ open_or_fault mesh valid no_surface none =
       | inl empty ↦ none NoFace empty
       | inr other ↦
           (let some : 0 < length mesh.faces = omega arith in
-          let few : NoEdgeHasThreeSides mesh = few_sides mesh valid some none in
+          let few : NoEdgeHasThreeSides mesh = few_sides valid some none in
           none NoBoundary (record {
             some_face = some;
             few_sides = few;
-            none = with_boundary mesh valid some few none no_surface;
+            none = with_boundary valid some few none no_surface;
           }))
     ]

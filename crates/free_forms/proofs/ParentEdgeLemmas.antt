@@ -14,10 +14,10 @@ pub record IsSideBetween (mesh : FaceList) (u v : ℕ) (side : Side) : Type 0 wh
   pub side_of : IsSide mesh side
   pub joined : Joins mesh side u v
 
-pub side_of_found : (mesh : FaceList) (table : List Edge) (k j u v : ℕ) (side : Side) → IsTableOf mesh table → k < length table
+pub side_of_found : {mesh : FaceList} {table : List Edge} (k j u v : ℕ) (side : Side) → IsTableOf mesh table → k < length table
     → HasEnds u v (edge_in table k) → j < length (edge_in table k).sides → slice_get (edge_in table k).sides j ≡ Some side
     → IsSideBetween mesh u v side
-side_of_found mesh table k j u v side h l ends few is =
+side_of_found {mesh} {table} k j u v side h l ends few is =
     let edge : Edge = edge_in table k in
     let here : get_or edge.sides j side ≡ side = get_or_from_slice_get edge.sides j side side is in
     let stands : IsSideOfEdge mesh edge side =
@@ -28,27 +28,25 @@ side_of_found mesh table k j u v side h l ends few is =
     }
 
 -- vertices without an edge have no parent edge
-pub no_edge_no_parent : (surface : OpenView) (table : List Edge) (u v : ℕ) → HasParents surface → IsTableOf surface.mesh table
+pub no_edge_no_parent : {surface : OpenView} {table : List Edge} (u v : ℕ) → HasParents surface → IsTableOf surface.mesh table
     → All (λ (edge : Edge). HasEnds u v edge → ⊥) table → IsParentEdge surface u v → ⊥
-no_edge_no_parent surface table u v has h none parent =
+no_edge_no_parent {surface} {table} u v has h none parent =
     let side : Side = parent_of surface parent.0 in
-    let found : IsEdgeOfSide surface.mesh table side =
-    edge_of_side surface.mesh table side h (parent_in_mesh surface parent.0 has parent.1) in
+    let found : IsEdgeOfSide surface.mesh table side = edge_of_side surface.mesh table side h (parent_in_mesh parent.0 has parent.1) in
     none found.edge _ found.in_table (ends_agree _ _ _ _ u v parent.2 found.ends)
 
 -- nor do those whose edge has no parent among its sides
-pub no_side_no_parent : (surface : OpenView) (table : List Edge) (k u v : ℕ) → HasParents surface → IsTableOf surface.mesh table
+pub no_side_no_parent : {surface : OpenView} {table : List Edge} (k u v : ℕ) → HasParents surface → IsTableOf surface.mesh table
     → k < length table → HasEnds u v (edge_in table k)
     → ((j : ℕ) (d : Side) → j < length (edge_in table k).sides
     → get_or surface.places (get_or (edge_in table k).sides j d).face.0 0 ≡ (get_or (edge_in table k).sides j d).at → ⊥)
     → IsParentEdge surface u v → ⊥
-no_side_no_parent surface table k u v has h l ends none parent =
+no_side_no_parent {surface} {table} k u v has h l ends none parent =
     let edge : Edge = edge_in table k in
     let side : Side = parent_of surface parent.0 in
-    let found = edge_has_side surface.mesh edge side (table_edge surface.mesh table k h l) (parent_in_mesh surface parent.0 has parent.1)
+    let found = edge_has_side surface.mesh edge side (table_edge surface.mesh table k h l) (parent_in_mesh parent.0 has parent.1)
     (ends_same _ _ edge.low edge.high u v parent.2 ends) in
-    none found.0 side found.1
-    (ap (λ (s : Side). get_or surface.places s.face.0 0) found.2 ∙ sym (ap (λ (s : Side). s.at) found.2))
+    none found.0 side found.1 (ap (λ (s : Side). get_or surface.places s.face.0 0) found.2 ∙ sym (ap (λ (s : Side). s.at) found.2))
 
 -- a side at the place of its face's parent is the parent
 pub is_parent : (surface : OpenView) (side : Side) → get_or surface.places side.face.0 0 ≡ side.at → side ≡ parent_of surface side.face.0
@@ -100,11 +98,11 @@ way_found surface side u corner false e is =
     inr (λ same. both_ways _ (sym e) (eq-eqb (tail_of surface.mesh side) u same), is, refl)
 
 -- the vertices of the face but one, read backwards, are the expansion
-pub expansion_read : (surface : OpenView) (f u corner : ℕ) (forward : Bool) → HasParents surface → f < length surface.mesh.faces
+pub expansion_read : {surface : OpenView} (f u corner : ℕ) (forward : Bool) → HasParents surface → f < length surface.mesh.faces
     → IsWayAlong surface (parent_of surface f) u corner forward
     → reverse (beyond (face_at surface.mesh f) forward corner (length (face_at surface.mesh f) - 1))
     ≡ expansion surface.mesh (parent_of surface f) u
-expansion_read surface f u corner forward has l way =
+expansion_read {surface} f u corner forward has l way =
     let ring : List ℕ = face_at surface.mesh f in
     let m : ℕ = length ring in
     let t : ℕ = (parent_of surface f).at in

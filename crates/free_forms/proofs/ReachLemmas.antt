@@ -34,17 +34,18 @@ record IsCovered (mesh : FaceList) (In : ℕ → Type 0) (v : ℕ) : Type 0 wher
   within : In corner.face.0
 
 -- so each face with a corner there is in the set
-all_corners : (mesh : FaceList) (In : ℕ → Type 0) (v : ℕ) → IsOpenSurface mesh → IsClosedUnderSteps mesh In → IsCovered mesh In v
-    → (other : Side) → IsCornerAt mesh v other → In other.face.0
-all_corners mesh In v surface closed covered other is_other =
+all_corners : {mesh : FaceList} {In : ℕ → Type 0} {v : ℕ} → IsOpenSurface mesh → IsClosedUnderSteps mesh In → IsCovered mesh In v
+    → {other : Side} → IsCornerAt mesh v other → In other.face.0
+all_corners {mesh} {In} {v} surface closed covered {other} is_other =
     let joined : AreJoined (IsStepAround mesh v) covered.corner other =
     surface.one_fan v (corner_used mesh v covered.corner covered.is_corner) covered.corner other covered.is_corner is_other in
     round_stays mesh In v closed covered.corner joined.0 other joined.1 covered.within
 
 -- along an edge
-edge_covers : (mesh : FaceList) (In : ℕ → Type 0) (u v : ℕ) → IsOpenSurface mesh → IsClosedUnderSteps mesh In → is_edge mesh u v ≡ true
+edge_covers : {mesh : FaceList} {In : ℕ → Type 0} {u : ℕ} (v : ℕ) → IsOpenSurface mesh → IsClosedUnderSteps mesh In → is_edge mesh u v ≡
+    true
     → IsCovered mesh In u → IsCovered mesh In v
-edge_covers mesh In u v surface closed is covered =
+edge_covers {mesh} {u} v surface closed is covered =
     let found : HasSideBetween mesh u v = side_between mesh u v is in
     let side : Side = found.side in
     let after : IsSide mesh (side_after mesh side) = after_in_mesh mesh side found.in_mesh in
@@ -52,68 +53,63 @@ edge_covers mesh In u v surface closed is covered =
       | inl e ↦ record {
         corner = side_after mesh side;
         is_corner = record { side = after; vertex = e.1 };
-        within = all_corners mesh In u surface closed covered side (record { side = found.in_mesh; vertex = e.0 });
+        within = all_corners surface closed covered (record { side = found.in_mesh; vertex = e.0 });
       }
       | inr e ↦ record {
         corner = side;
         is_corner = record { side = found.in_mesh; vertex = e.0 };
-        within = all_corners mesh In u surface closed covered (side_after mesh side) (record { side = after; vertex = e.1 });
+        within = all_corners surface closed covered (record { side = after; vertex = e.1 });
       }
     ]
 
 -- along a walk
-walk_covers : (mesh : FaceList) (In : ℕ → Type 0) (walk : List ℕ) → IsOpenSurface mesh → IsClosedUnderSteps mesh In
+walk_covers : {mesh : FaceList} {In : ℕ → Type 0} (walk : List ℕ) → IsOpenSurface mesh → IsClosedUnderSteps mesh In
     → ((k : ℕ) → k < darts walk → is_edge mesh (get_or walk k 0) (get_or walk (k + 1) 0) ≡ true)
     → IsCovered mesh In (get_or walk 0 0) → (k : ℕ) → k ≤ darts walk → IsCovered mesh In (get_or walk k 0)
-walk_covers mesh In walk surface closed edges first zero l = first
-walk_covers mesh In walk surface closed edges first (suc k) l =
+walk_covers walk surface closed edges first zero l = first
+walk_covers {mesh} {In} walk surface closed edges first (suc k) l =
     let next : k + 1 ≡ suc k = omega arith in
-    subst (λ (n : ℕ). IsCovered mesh In (get_or walk n 0)) next
-    (edge_covers mesh In (get_or walk k 0) (get_or walk (k + 1) 0) surface closed (edges k (omega arith))
-    (walk_covers mesh In walk surface closed edges first k (omega arith)))
+    subst (λ (n : ℕ). IsCovered mesh In (get_or walk n 0)) next (edge_covers (get_or walk (k + 1) 0) surface closed (edges k (omega arith))
+    (walk_covers walk surface closed edges first k (omega arith)))
 
 -- the first corner of a face
-first_corner_of : (mesh : FaceList) (f : ℕ) → IsFaceList mesh → f < length mesh.faces
+first_corner_of : {mesh : FaceList} (f : ℕ) → IsFaceList mesh → f < length mesh.faces
     → IsCornerAt mesh (get_or (face_at mesh f) 0 0) (record { face = record { 0 = f }; at = 0 })
-first_corner_of mesh f valid l =
+first_corner_of {mesh} f valid l =
     let polygon : 3 ≤ length (face_at mesh f) = (valid.faces f [] l).polygon in
     record { side = record { face = l; place = omega arith }; vertex = refl }
 
 -- a set with a face that steps do not lead out of has each face
-pub all_in_set : (mesh : FaceList) (In : ℕ → Type 0) (f g : ℕ) → IsFaceList mesh → IsOpenSurface mesh → IsClosedUnderSteps mesh In
+pub all_in_set : {mesh : FaceList} (In : ℕ → Type 0) (f g : ℕ) → IsFaceList mesh → IsOpenSurface mesh → IsClosedUnderSteps mesh In
     → f < length mesh.faces → In f → g < length mesh.faces → In g
-all_in_set mesh In f g valid surface closed l is few =
-    let from : IsCornerAt mesh (get_or (face_at mesh f) 0 0) (record { face = record { 0 = f }; at = 0 }) =
-    first_corner_of mesh f valid l in
-    let to : IsCornerAt mesh (get_or (face_at mesh g) 0 0) (record { face = record { 0 = g }; at = 0 }) =
-    first_corner_of mesh g valid few in
+all_in_set {mesh} In f g valid surface closed l is few =
+    let from : IsCornerAt mesh (get_or (face_at mesh f) 0 0) (record { face = record { 0 = f }; at = 0 }) = first_corner_of f valid l in
+    let to : IsCornerAt mesh (get_or (face_at mesh g) 0 0) (record { face = record { 0 = g }; at = 0 }) = first_corner_of g valid few in
     let u : ℕ = get_or (face_at mesh f) 0 0 in
     let v : ℕ = get_or (face_at mesh g) 0 0 in
     let walk = surface.connected u v (corner_used mesh u _ from) (corner_used mesh v _ to) in
     let start : IsCovered mesh In (get_or walk.0 0 0) =
     subst (IsCovered mesh In) (sym walk.1.starts) (record { corner = _; is_corner = from; within = is }) in
-    let end : IsCovered mesh In v =
-    subst (IsCovered mesh In) walk.1.ends
-    (walk_covers mesh In walk.0 surface closed walk.1.walk_of.edges start (darts walk.0) (omega arith)) in
-    all_corners mesh In v surface closed end _ to
+    let end : IsCovered mesh In v = subst (IsCovered mesh In) walk.1.ends
+    (walk_covers walk.0 surface closed walk.1.walk_of.edges start (darts walk.0) (omega arith)) in
+    all_corners surface closed end to
 
 -- what the search reaches, once it has spread from each face that it reached
-closed_reached : (mesh : FaceList) (search : SearchView) → IsSearch mesh search → IsClosedUpTo mesh search (length search.order)
+closed_reached : {mesh : FaceList} {search : SearchView} → IsSearch mesh search → IsClosedUpTo mesh search (length search.order)
     → IsClosedUnderSteps mesh (IsReached search)
-closed_reached mesh search h closed side other partners is =
+closed_reached {mesh} {search} h closed side other partners is =
     let at = h.in_order side.face.0 is in
     let there = closed at.0 at.1 at.1 in
     let here : (t : ℕ) (s : Side) → t < length (face_at mesh side.face.0) → t < length (face_at mesh side.face.0)
     → ArePartners mesh (record { face = record { 0 = side.face.0 }; at = t }) s → IsReached search s.face.0 =
-    subst
-    (λ (f : ℕ). (t : ℕ) (s : Side) → t < length (face_at mesh f) → t < length (face_at mesh f)
+    subst (λ (f : ℕ). (t : ℕ) (s : Side) → t < length (face_at mesh f) → t < length (face_at mesh f)
     → ArePartners mesh (record { face = record { 0 = f }; at = t }) s → IsReached search s.face.0) at.2 there in
     here side.at other partners.first.place partners.first.place partners
 
 -- a search that has started on the boundary reaches some face
-some_reached : (mesh : FaceList) (table : List Edge) (search : SearchView) → IsTableOf mesh table → IsOpenSurface mesh
+some_reached : {mesh : FaceList} {table : List Edge} (search : SearchView) → IsTableOf mesh table → IsOpenSurface mesh
     → IsStartedUpTo table search (length table) → (f : ℕ) × IsReached search f
-some_reached mesh table search h surface started =
+some_reached {mesh} {table} search h surface started =
     let u : ℕ = surface.boundary.0 in
     let v : ℕ = surface.boundary.1 in
     let no_side : Side = record { face = record { 0 = 0 }; at = 0 } in
@@ -126,18 +122,17 @@ some_reached mesh table search h surface started =
     ]
 
 -- so at the end each face has a parent
-pub parents_found : (mesh : FaceList) (table : List Edge) (search : SearchView) → IsFaceList mesh → IsTableOf mesh table
+pub parents_found : {mesh : FaceList} {table : List Edge} {search : SearchView} → IsFaceList mesh → IsTableOf mesh table
     → IsOpenSurface mesh → IsSearch mesh search → IsStartedUpTo table search (length table)
     → IsClosedUpTo mesh search (length search.order) → HasParents (record { mesh = mesh; places = search.places })
-parents_found mesh table search valid h surface is started closed =
-    let first = some_reached mesh table search h surface started in
+parents_found {mesh} {search} valid h surface is started closed =
+    let first = some_reached search h surface started in
     let each : (f : ℕ) → f < length mesh.faces → IsReached search f =
-    λ f l. all_in_set mesh (IsReached search) first.0 f valid surface (closed_reached mesh search is closed)
-    (reached_below mesh search first.0 is first.1) first.1 l in
+    λ f l. all_in_set (IsReached search) first.0 f valid surface (closed_reached is closed) (reached_below first.0 is first.1) first.1 l in
     record {
       valid = valid;
       few_sides = surface.few_sides;
       each_face = is.each_place;
       within = λ f l. is.within f (each f l);
-      outside = λ f l. all_end_outside mesh search f is (each f l);
+      outside = λ f l. all_end_outside f is (each f l);
     }

@@ -5,8 +5,8 @@ use Rattle.free_forms.specs.Parents.{EndsOutside}
 use Rattle.free_forms.specs.Searches.{SearchView, IsReached, IsSearch, Grows, NeighboursReached, IsClosedUpTo, IsStartedUpTo, with_side, parent_in, bit}
 
 -- only faces of the mesh are reached
-pub reached_below : (mesh : FaceList) (search : SearchView) (f : ℕ) → IsSearch mesh search → IsReached search f → f < length mesh.faces
-reached_below mesh search f h is =
+pub reached_below : {mesh : FaceList} {search : SearchView} (f : ℕ) → IsSearch mesh search → IsReached search f → f < length mesh.faces
+reached_below {search} f h is =
     elim (cases_lt f (length search.reached)) [
       | inl less ↦ omega (arith, less, h.each_mark)
       | inr more ↦ (let past : get_or search.reached f false ≡ false = get_or_past search.reached f false more in cc)
@@ -18,14 +18,14 @@ few_bits (true ∷ marks) = omega (arith, few_bits marks, sum_by-cons bit true m
 few_bits (false ∷ marks) = omega (arith, few_bits marks, sum_by-cons bit false marks)
 
 -- no more faces are reached than there are
-pub few_reached : (mesh : FaceList) (search : SearchView) → IsSearch mesh search → length search.order ≤ length mesh.faces
-few_reached mesh search h = omega (arith, h.counted, h.each_mark, few_bits search.reached)
+pub few_reached : {mesh : FaceList} {search : SearchView} → IsSearch mesh search → length search.order ≤ length mesh.faces
+few_reached {search} h = omega (arith, h.counted, h.each_mark, few_bits search.reached)
 
 pub grows_refl : (search : SearchView) → Grows search search
 grows_refl search = record { more = omega arith; order = λ j l. refl; reached = λ f is. is }
 
-pub grows_trans : (one two three : SearchView) → Grows one two → Grows two three → Grows one three
-grows_trans one two three h k = record {
+pub grows_trans : {one two three : SearchView} → Grows one two → Grows two three → Grows one three
+grows_trans h k = record {
   more = omega (arith, h.more, k.more);
   order = λ j l. k.order j (omega (arith, l, h.more)) ∙ h.order j l;
   reached = λ f is. k.reached f (h.reached f is);
@@ -55,9 +55,9 @@ last_entry xs x =
     let none : length xs ≡ length xs + 0 = omega arith in
     ap (λ (n : ℕ). get_or (xs ++ x ∷ []) n 0) none ∙ get_or-append-add xs (x ∷ []) 0 0
 
-new_reached : (mesh : FaceList) (old : SearchView) (side : Side) → IsSearch mesh old → side.face.0 < length mesh.faces
+new_reached : {mesh : FaceList} {old : SearchView} (side : Side) → IsSearch mesh old → side.face.0 < length mesh.faces
     → IsReached (with_new old side) side.face.0
-new_reached mesh old side h l = get_or-set_same old.reached side.face.0 true false (omega (arith, h.each_mark, l))
+new_reached {old} side h l = get_or-set_same old.reached side.face.0 true false (omega (arith, h.each_mark, l))
 
 stays_reached : (old : SearchView) (side : Side) (f : ℕ) → IsReached old f → get_or old.reached side.face.0 false ≡ false
     → IsReached (with_new old side) f
@@ -80,17 +80,16 @@ new_grows old side not = record {
   reached = λ f is. stays_reached old side f is not;
 }
 
-new_search : (mesh : FaceList) (old : SearchView) (side : Side) → IsSearch mesh old → IsSide mesh side
+new_search : {mesh : FaceList} {old : SearchView} {side : Side} → IsSearch mesh old → IsSide mesh side
     → ((other : Side) → ArePartners mesh side other → IsReached old other.face.0) → get_or old.reached side.face.0 false ≡ false
     → IsSearch mesh (with_new old side)
-new_search mesh old side h is before not =
+new_search {mesh} {old} {side} h is before not =
     let f : ℕ = side.face.0 in
     let new : SearchView = with_new old side in
     let n : ℕ = length old.order in
     let long : length new.order ≡ n + 1 = length-append old.order (f ∷ []) in
     let grows : Grows old new = new_grows old side not in
-    let apart : (g : ℕ) → IsReached old g → g ≢ f =
-    λ g reached same.
+    let apart : (g : ℕ) → IsReached old g → g ≢ f = λ g reached same.
     (let this : get_or old.reached f false ≡ true = ap (λ (x : ℕ). get_or old.reached x false) (sym same) ∙ reached in
     cc) in
     let place : (g : ℕ) → g ≢ f → get_or new.places g 0 ≡ get_or old.places g 0 =
@@ -115,7 +114,7 @@ new_search mesh old side h is before not =
         | inr more ↦
             (let last : n ≡ j = omega (arith, l, more, long) in
             subst (λ (k : ℕ). IsReached new (get_or new.order k 0)) last
-            (subst (IsReached new) (sym (last_entry old.order f)) (new_reached mesh old side h is.face)))
+            (subst (IsReached new) (sym (last_entry old.order f)) (new_reached side h is.face)))
       ];
       within = λ g reached. elim (cases_eq g f) [
         | inl same ↦
@@ -134,8 +133,7 @@ new_search mesh old side h is before not =
             (at.0, at.1, grows.order at.0 (omega (arith, at.1, less)) ∙ at.2))
         | inr more ↦
             (let last : j ≡ n = omega (arith, l, more, long) in
-            let same : parent_in mesh new (get_or new.order j 0) ≡ side =
-            ap (λ (x : ℕ). parent_in mesh new (get_or new.order x 0)) last
+            let same : parent_in mesh new (get_or new.order j 0) ≡ side = ap (λ (x : ℕ). parent_in mesh new (get_or new.order x 0)) last
             ∙ ap (λ (x : ℕ). parent_in mesh new x) (last_entry old.order f) ∙ ap (λ (x : ℕ). named f x) here in
             let at = h.in_order other.face.0 (before other (subst (λ (s : Side). ArePartners mesh s other) same partners)) in
             (at.0, omega (arith, at.1, last), grows.order at.0 at.1 ∙ at.2))
@@ -146,55 +144,53 @@ new_search mesh old side h is before not =
     named f t = record { face = record { 0 = f }; at = t }
 
 -- a side is reached whose partners lie in faces that were reached before
-pub search_more : (mesh : FaceList) (old new : SearchView) (side : Side) → IsSearch mesh old → IsSide mesh side
+pub search_more : {mesh : FaceList} {old : SearchView} (new : SearchView) {side : Side} → IsSearch mesh old → IsSide mesh side
     → ((other : Side) → ArePartners mesh side other → IsReached old other.face.0) → new ≡ with_side old side → IsMoreBy mesh old new side
-search_more mesh old new side h is before new_is =
-    subst (λ (s : SearchView). IsMoreBy mesh old s side) (sym new_is)
-    (elim (cases_Bool (get_or old.reached side.face.0 false)) [
+search_more {mesh} {old} new {side} h is before new_is =
+    subst (λ (s : SearchView). IsMoreBy mesh old s side) (sym new_is) (elim (cases_Bool (get_or old.reached side.face.0 false)) [
       | inl marked ↦
           subst (λ (s : SearchView). IsMoreBy mesh old s side) (sym (by_mark old side true marked))
           (record { search = h; grows = grows_refl old; reached = marked })
       | inr not ↦
-          subst (λ (s : SearchView). IsMoreBy mesh old s side) (sym (by_mark old side false not))
-          (record {
-            search = new_search mesh old side h is before not;
+          subst (λ (s : SearchView). IsMoreBy mesh old s side) (sym (by_mark old side false not)) (record {
+            search = new_search h is before not;
             grows = new_grows old side not;
-            reached = new_reached mesh old side h is.face;
+            reached = new_reached side h is.face;
           })
     ])
 
-pub neighbours_stay : (mesh : FaceList) (old new : SearchView) (f n : ℕ) → Grows old new → NeighboursReached mesh old f n
+pub neighbours_stay : (mesh : FaceList) {old new : SearchView} (f n : ℕ) → Grows old new → NeighboursReached mesh old f n
     → NeighboursReached mesh new f n
-neighbours_stay mesh old new f n grows h t other l few partners = grows.reached other.face.0 (h t other l few partners)
+neighbours_stay mesh f n grows h t other l few partners = grows.reached other.face.0 (h t other l few partners)
 
-pub started_stay : (table : List Edge) (old new : SearchView) (n : ℕ) → Grows old new → IsStartedUpTo table old n
+pub started_stay : (table : List Edge) {old new : SearchView} (n : ℕ) → Grows old new → IsStartedUpTo table old n
     → IsStartedUpTo table new n
-started_stay table old new n grows h k d l few one = grows.reached _ (h k d l few one)
+started_stay table n grows h k d l few one = grows.reached _ (h k d l few one)
 
 -- crossing parents goes down the order, so it ends
-ends_outside : (mesh : FaceList) (search : SearchView) (n j : ℕ) → IsSearch mesh search → j < n → j < length search.order
+ends_outside : {mesh : FaceList} {search : SearchView} (n j : ℕ) → IsSearch mesh search → j < n → j < length search.order
     → EndsOutside (record { mesh = mesh; places = search.places }) n (get_or search.order j 0)
-ends_outside mesh search zero j h l few = absurd (omega arith)
-ends_outside mesh search (suc n) j h l few = λ other partners.
+ends_outside zero j h l few = absurd (omega arith)
+ends_outside {mesh} {search} (suc n) j h l few = λ other partners.
     let at = h.falls j other few partners in
     subst (EndsOutside (record { mesh = mesh; places = search.places }) n) at.2
-    (ends_outside mesh search n at.0 h (omega (arith, l, at.1)) (omega (arith, few, at.1)))
+    (ends_outside n at.0 h (omega (arith, l, at.1)) (omega (arith, few, at.1)))
 
-pub all_end_outside : (mesh : FaceList) (search : SearchView) (f : ℕ) → IsSearch mesh search → IsReached search f
+pub all_end_outside : {mesh : FaceList} {search : SearchView} (f : ℕ) → IsSearch mesh search → IsReached search f
     → EndsOutside (record { mesh = mesh; places = search.places }) (length mesh.faces) f
-all_end_outside mesh search f h is =
+all_end_outside {mesh} {search} f h is =
     let at = h.in_order f is in
     subst (EndsOutside (record { mesh = mesh; places = search.places }) (length mesh.faces)) at.2
-    (ends_outside mesh search (length mesh.faces) at.0 h (omega (arith, at.1, few_reached mesh search h)) at.1)
+    (ends_outside (length mesh.faces) at.0 h (omega (arith, at.1, few_reached h)) at.1)
 
 -- the first side of an edge of the table that has one is alone, and of the mesh
 record IsFirstSide (mesh : FaceList) (table : List Edge) (k : ℕ) (side : Side) : Type 0 where
   side_of : IsSide mesh side
   alone : IsAlone mesh side
 
-first_side : (mesh : FaceList) (table : List Edge) (k : ℕ) (side : Side) → IsTableOf mesh table → k < length table
+first_side : {mesh : FaceList} {table : List Edge} (k : ℕ) (side : Side) → IsTableOf mesh table → k < length table
     → length (edge_in table k).sides ≡ 1 → slice_get (edge_in table k).sides 0 ≡ Some side → IsFirstSide mesh table k side
-first_side mesh table k side h l one is =
+first_side {mesh} {table} k side h l one is =
     let edge : Edge = edge_in table k in
     let here : get_or edge.sides 0 side ≡ side = get_or_from_slice_get edge.sides 0 side side is in
     let stands : IsSideOfEdge mesh edge (get_or edge.sides 0 side) =
@@ -204,9 +200,9 @@ first_side mesh table k side h l one is =
       alone = alone_in_edge mesh table k side h l one here;
     }
 
-pub side_of_one : (mesh : FaceList) (table : List Edge) (k : ℕ) (side : Side) → IsTableOf mesh table → k < length table
+pub side_of_one : {mesh : FaceList} {table : List Edge} (k : ℕ) (side : Side) → IsTableOf mesh table → k < length table
     → length (edge_in table k).sides ≡ 1 → slice_get (edge_in table k).sides 0 ≡ Some side → IsSide mesh side
-side_of_one mesh table k side h l one is = (first_side mesh table k side h l one is).side_of
+side_of_one k side h l one is = (first_side k side h l one is).side_of
 
 -- the search that has started on the boundary edges up to edge n
 pub record HasStarted (mesh : FaceList) (table : List Edge) (search : SearchView) (n : ℕ) : Type 0 where
@@ -225,25 +221,24 @@ started_more table search k here h j d l few one =
       | inr other ↦ h j d (omega (arith, l, other)) few one
     ]
 
-pub start_more : (mesh : FaceList) (table : List Edge) (old new : SearchView) (k : ℕ) (side : Side) → IsTableOf mesh table
+pub start_more : {mesh : FaceList} {table : List Edge} {old : SearchView} (new : SearchView) {k : ℕ} (side : Side) → IsTableOf mesh table
     → k < length table → length (edge_in table k).sides ≡ 1 → slice_get (edge_in table k).sides 0 ≡ Some side
     → HasStarted mesh table old k → new ≡ with_side old side → HasStarted mesh table new (k + 1)
-start_more mesh table old new k side h l one is from new_is =
-    let first : IsFirstSide mesh table k side = first_side mesh table k side h l one is in
+start_more {mesh} {table} {old} new {k} side h l one is from new_is =
+    let first : IsFirstSide mesh table k side = first_side k side h l one is in
     let more : IsMoreBy mesh old new side =
-    search_more mesh old new side from.search_of first.side_of (λ other partners. absurd (first.alone other partners)) new_is in
+    search_more new from.search_of first.side_of (λ other partners. absurd (first.alone other partners)) new_is in
     record {
       search_of = more.search;
       started =
-          started_more table new k
-          (λ d few last.
+          started_more table new k (λ d few last.
           subst (λ (s : Side). IsReached new s.face.0) (sym (get_or_from_slice_get (edge_in table k).sides 0 side d is)) more.reached)
-          (started_stay table old new k more.grows from.started);
+          (started_stay table k more.grows from.started);
     }
 
-pub start_other : (mesh : FaceList) (table : List Edge) (search : SearchView) (k : ℕ) → length (edge_in table k).sides ≢ 1
+pub start_other : {mesh : FaceList} {table : List Edge} {search : SearchView} {k : ℕ} → length (edge_in table k).sides ≢ 1
     → HasStarted mesh table search k → HasStarted mesh table search (k + 1)
-start_other mesh table search k other from = record {
+start_other {table} {search} {k} other from = record {
   search_of = from.search_of;
   started = started_more table search k (λ d l one. absurd (other one)) from.started;
 }
@@ -254,26 +249,24 @@ pub record HasSpread (mesh : FaceList) (first search : SearchView) (f n : ℕ) :
   pub grows : Grows first search
   pub reached : NeighboursReached mesh search f n
 
-pub spread_more : (mesh : FaceList) (table : List Edge) (first old new : SearchView) (f t dart next : ℕ) (other : Side)
+pub spread_more : {mesh : FaceList} {table : List Edge} {first old : SearchView} (new : SearchView) {f t dart next : ℕ} {other : Side}
     → IsTableOf mesh table → NoEdgeHasThreeSides mesh → f < length mesh.faces → t < length (face_at mesh f) → IsReached first f
     → dart ≡ side_number mesh (record { face = record { 0 = f }; at = t }) → IsNextInEdge mesh table dart next
     → IsSide mesh other → side_number mesh other ≡ next
     → HasSpread mesh first old f t → new ≡ with_side old other → HasSpread mesh first new f (t + 1)
-spread_more mesh table first old new f t dart next other h few l place reached number follows is other_is from new_is =
+spread_more {mesh} {table} {old} new {f} {t} {dart} {next} {other} h few l place reached number follows is other_is from new_is =
     let side : Side = record { face = record { 0 = f }; at = t } in
     let is_side : IsSide mesh side = record { face = l; place = place } in
     let found : HasPartner mesh side next ⊎ ((next ≡ dart) × IsAlone mesh side) =
     partner_or_alone mesh table side dart next h few is_side number follows in
     let more : IsMoreBy mesh old new other = elim found [
       | inl partner ↦
-          search_more mesh old new other from.search_of is
-          (λ back partners.
-          subst (λ (s : Side). IsReached old s.face.0)
+          search_more new from.search_of is (λ back partners. subst (λ (s : Side). IsReached old s.face.0)
           (sym (partner_back mesh side other back next partner (partners_by_number mesh side other next partner is other_is) partners))
           (from.grows.reached f reached)) new_is
       | inr alone ↦
           (let same : other ≡ side = number_once mesh other side is is_side (other_is ∙ alone.0 ∙ number) in
-          search_more mesh old new other from.search_of is
+          search_more new from.search_of is
           (λ back partners. absurd (alone.1 back (subst (λ (s : Side). ArePartners mesh s back) same partners))) new_is)
     ] in
     let here : (partner : Side) → ArePartners mesh side partner → IsReached new partner.face.0 = λ partner partners. elim found [
@@ -285,7 +278,7 @@ spread_more mesh table first old new f t dart next other h few l place reached n
     ] in
     record {
       search_of = more.search;
-      grows = grows_trans first old new from.grows more.grows;
+      grows = grows_trans from.grows more.grows;
       reached = λ s partner less within partners. elim (cases_eq s t) [
         | inl same ↦
             here partner (subst (λ (x : ℕ). ArePartners mesh (record { face = record { 0 = f }; at = x }) partner) same partners)
@@ -294,10 +287,10 @@ spread_more mesh table first old new f t dart next other h few l place reached n
     }
 
 -- the faces that have been gone on from are one more
-pub closed_more : (mesh : FaceList) (old new : SearchView) (at : ℕ) → at < length old.order → Grows old new
+pub closed_more : (mesh : FaceList) {old new : SearchView} (at : ℕ) → at < length old.order → Grows old new
     → NeighboursReached mesh new (get_or old.order at 0) (length (face_at mesh (get_or old.order at 0)))
     → IsClosedUpTo mesh old at → IsClosedUpTo mesh new (at + 1)
-closed_more mesh old new at l grows here closed j less few =
+closed_more mesh {old} {new} at l grows here closed j less few =
     elim (cases_eq j at) [
       | inl same ↦
           subst (λ (f : ℕ). NeighboursReached mesh new f (length (face_at mesh f)))
@@ -306,6 +299,5 @@ closed_more mesh old new at l grows here closed j less few =
           (let before : j < at = omega (arith, less, other) in
           let there : j < length old.order = omega (arith, before, l) in
           subst (λ (f : ℕ). NeighboursReached mesh new f (length (face_at mesh f))) (sym (grows.order j there))
-          (neighbours_stay mesh old new (get_or old.order j 0) (length (face_at mesh (get_or old.order j 0))) grows
-          (closed j before there)))
+          (neighbours_stay mesh (get_or old.order j 0) (length (face_at mesh (get_or old.order j 0))) grows (closed j before there)))
     ]

@@ -48,36 +48,34 @@ level_counts surface (suc n) s u v =
     face_counts surface (acting surface count_on count_in n) (level_counts surface n) (parent_face_of surface u v) s u v
 
 -- a dart off the parent edges counts one
-weight_free : (surface : OpenView) (u v : ℕ) (vs : List ℕ) → HasParents surface → (IsParentEdge surface u v → ⊥)
+weight_free : {surface : OpenView} (u v : ℕ) (vs : List ℕ) → HasParents surface → (IsParentEdge surface u v → ⊥)
     → weight surface u (v ∷ vs) ≡ suc (weight surface v vs)
-weight_free surface u v vs has free =
+weight_free {surface} u v vs has free =
     let act : ℕ → ℕ → ℕ → ℕ = act_fully surface count_on count_in in
-    ap (λ (x : ℕ). run act x v vs) (acts_by_base surface count_on count_in has u v zero free)
+    ap (λ (x : ℕ). run act x v vs) (acts_by_base count_on count_in has u v zero free)
     ∙ run_from act (count_from surface (length surface.mesh.faces)) zero v vs
 
 -- a dart along a parent edge counts one more than its expansion
-pub weight_parent : (surface : OpenView) (f u v : ℕ) (vs : List ℕ) → HasParents surface → IsFound surface u v f
+pub weight_parent : {surface : OpenView} {f u v : ℕ} (vs : List ℕ) → HasParents surface → IsFound surface u v f
     → weight surface u (v ∷ vs) ≡ suc (weight surface u (expansion surface.mesh (parent_of surface f) u ++ vs))
-weight_parent surface f u v vs has found =
+weight_parent {surface} {f} {u} {v} vs has found =
     let act : ℕ → ℕ → ℕ → ℕ = act_fully surface count_on count_in in
     let way : List ℕ = expansion surface.mesh (parent_of surface f) u in
     let one : (s a b : ℕ) → act (suc s) a b ≡ suc (act s a b) = count_from surface (length surface.mesh.faces) in
-    ap (λ (x : ℕ). run act x v vs) (acts_by_expansion surface count_on count_in has u v f zero found)
+    ap (λ (x : ℕ). run act x v vs) (acts_by_expansion count_on count_in has zero found)
     ∙ ap (λ (x : ℕ). run act x v vs) (run_from act one zero u way)
     ∙ run_from act one (run act zero u way) v vs
-    ∙ ap (λ (x : ℕ). suc (run act (run act zero u way) x vs)) (sym (expansion_ends surface f u v has found))
+    ∙ ap (λ (x : ℕ). suc (run act (run act zero u way) x vs)) (sym (expansion_ends has found))
     ∙ ap suc (sym (run-append act zero u way vs))
 
 -- a part of a normal walk, and one vertex more
-normal_front : (surface : OpenView) (front rest : List ℕ) → IsNormal surface (front ++ rest) → IsNormal surface front
-normal_front surface front rest h =
+normal_front : {surface : OpenView} (front rest : List ℕ) → IsNormal surface (front ++ rest) → IsNormal surface front
+normal_front {surface} front rest h =
     let long : length (front ++ rest) ≡ length front + length rest = length-append front rest in
     let same : (k : ℕ) → k < length front → get_or (front ++ rest) k 0 ≡ get_or front k 0 = λ k l. get_or_append_left front rest 0 k l in
     record {
-      no_spur = λ k l back.
-          h.no_spur k (omega (arith, l, long)) (same k (omega arith) ∙ back ∙ sym (same (k + 2) l));
-      no_parent = λ k l.
-          subst (λ (a : ℕ). IsParentEdge surface a (get_or front (k + 1) 0) → ⊥) (same k (omega arith))
+      no_spur = λ k l back. h.no_spur k (omega (arith, l, long)) (same k (omega arith) ∙ back ∙ sym (same (k + 2) l));
+      no_parent = λ k l. subst (λ (a : ℕ). IsParentEdge surface a (get_or front (k + 1) 0) → ⊥) (same k (omega arith))
           (subst (λ (b : ℕ). IsParentEdge surface (get_or (front ++ rest) k 0) b → ⊥) (same (k + 1) l)
           (h.no_parent k (omega (arith, l, long))));
     }
@@ -87,17 +85,16 @@ seam front x rest =
     let none : length front ≡ length front + 0 = omega arith in
     ap (λ (n : ℕ). get_or (front ++ x ∷ rest) n 0) none ∙ get_or-append-add front (x ∷ rest) 0 0
 
-normal_more : (surface : OpenView) (front : List ℕ) (u v : ℕ) → IsNormal surface (front ++ u ∷ []) → (IsParentEdge surface u v → ⊥)
+normal_more : {surface : OpenView} (front : List ℕ) (u v : ℕ) → IsNormal surface (front ++ u ∷ []) → (IsParentEdge surface u v → ⊥)
     → (0 < length front → get_or front (length front - 1) 0 ≢ v) → IsNormal surface ((front ++ u ∷ []) ++ v ∷ [])
-normal_more surface front u v h free other =
+normal_more {surface} front u v h free other =
     let old : List ℕ = front ++ u ∷ [] in
     let new : List ℕ = old ++ v ∷ [] in
     let n : ℕ = length front in
     let old_long : length old ≡ n + 1 = length-append front (u ∷ []) in
     let long : length new ≡ n + 2 = length-append old (v ∷ []) ∙ omega (arith, old_long) in
     let same : (k : ℕ) → k < length old → get_or new k 0 ≡ get_or old k 0 = λ k l. get_or_append_left old (v ∷ []) 0 k l in
-    let last : (k : ℕ) → k ≡ n + 1 → get_or new k 0 ≡ v =
-    λ k is. ap (λ (j : ℕ). get_or new j 0) (is ∙ sym old_long) ∙ seam old v [] in
+    let last : (k : ℕ) → k ≡ n + 1 → get_or new k 0 ≡ v = λ k is. ap (λ (j : ℕ). get_or new j 0) (is ∙ sym old_long) ∙ seam old v [] in
     let before : (k : ℕ) → k ≡ n → get_or new k 0 ≡ u =
     λ k is. same k (omega (arith, is, old_long)) ∙ ap (λ (j : ℕ). get_or old j 0) is ∙ seam front u [] in
     record {
@@ -109,8 +106,7 @@ normal_more surface front u v h free other =
             (let at : k + 2 ≡ n + 1 = omega (arith, l, more, long) in
             let place : k ≡ n - 1 = omega (arith, at) in
             let some : 0 < n = omega (arith, at) in
-            other some
-            (sym (get_or_append_left front (u ∷ []) 0 (n - 1) (omega arith)) ∙ sym (same (n - 1) (omega (arith, old_long)))
+            other some (sym (get_or_append_left front (u ∷ []) 0 (n - 1) (omega arith)) ∙ sym (same (n - 1) (omega (arith, old_long)))
             ∙ ap (λ (j : ℕ). get_or new j 0) (sym place) ∙ back ∙ last (k + 2) at))
       ];
       no_parent = λ k l. elim (cases_lt (k + 1) (n + 1)) [
@@ -161,10 +157,10 @@ spur_goes mesh front rest here via =
       replaces = (here, refl, refl);
     })
 
-stepped_back : (surface : OpenView) (first : List ℕ) (old : ReductionView) (next : ℕ) (new : ReductionView) → HasParents surface
+stepped_back : {surface : OpenView} {first : List ℕ} {old : ReductionView} {next : ℕ} {new : ReductionView} → HasParents surface
     → LeadsAtPeak surface.mesh first old.list (old.front ++ old.last ∷ next ∷ old.coming) → IsNormal surface (settled old)
     → StepsBack old next new → HasStepped surface first old next new
-stepped_back surface first old next new has leads normal step =
+stepped_back {surface} {first} {old} {next} {new} has leads normal step =
     let mesh : FaceList = surface.mesh in
     let from : old.front ++ old.last ∷ next ∷ old.coming ≡ new.front ++ next ∷ old.last ∷ next ∷ new.coming =
     ap (λ (l : List ℕ). l ++ old.last ∷ next ∷ old.coming) step.front ∙ append_assoc new.front (next ∷ []) (old.last ∷ next ∷ old.coming)
@@ -180,8 +176,7 @@ stepped_back surface first old next new has leads normal step =
     get_or_append_left (new.front ++ next ∷ []) (old.last ∷ []) 0 n (omega (arith, long)) ∙ seam new.front next [] in
     let there : get_or ((new.front ++ next ∷ []) ++ old.last ∷ []) (n + 1) 0 ≡ old.last =
     ap (λ (j : ℕ). get_or ((new.front ++ next ∷ []) ++ old.last ∷ []) j 0) (sym long) ∙ seam (new.front ++ next ∷ []) old.last [] in
-    let free : IsParentEdge surface next old.last → ⊥ =
-    subst (λ (a : ℕ). IsParentEdge surface a old.last → ⊥) here
+    let free : IsParentEdge surface next old.last → ⊥ = subst (λ (a : ℕ). IsParentEdge surface a old.last → ⊥) here
     (subst (λ (b : ℕ). IsParentEdge surface (get_or ((new.front ++ next ∷ []) ++ old.last ∷ []) n 0) b → ⊥) there
     (parts.no_parent n (omega (arith, long, length-append (new.front ++ next ∷ []) (old.last ∷ []))))) in
     let free_back : IsParentEdge surface old.last next → ⊥ =
@@ -195,26 +190,25 @@ stepped_back surface first old next new has leads normal step =
           (step.list ∙ ap (λ (d : ℕ). noted old.list (Remove n (record { 0 = old.last })) d) count));
       normal =
           subst (λ (x : ℕ). IsNormal surface (new.front ++ x ∷ [])) (sym step.last)
-          (normal_front surface (new.front ++ next ∷ []) (old.last ∷ []) parts);
+          (normal_front (new.front ++ next ∷ []) (old.last ∷ []) parts);
       falls =
           (let fewer : weight surface old.last (next ∷ old.coming) ≡ suc (weight surface next old.coming) =
-          weight_free surface old.last next old.coming has free_back in
+          weight_free old.last next old.coming has free_back in
           let same : weight surface new.last new.coming ≡ weight surface next old.coming =
           ap (λ (x : ℕ). weight surface x new.coming) step.last ∙ ap (weight surface next) step.coming in
           omega (arith, fewer, same));
     }
 
-stepped_on : (surface : OpenView) (first : List ℕ) (old : ReductionView) (next : ℕ) (new : ReductionView) → HasParents surface
+stepped_on : {surface : OpenView} {first : List ℕ} {old : ReductionView} {next : ℕ} {new : ReductionView} → HasParents surface
     → LeadsAtPeak surface.mesh first old.list (old.front ++ old.last ∷ next ∷ old.coming) → IsNormal surface (settled old)
     → StepsOn surface old next new → HasStepped surface first old next new
-stepped_on surface first old next new has leads normal step =
-    subst (HasStepped surface first old next) (sym step.new_is)
-    (record {
+stepped_on {surface} {first} {old} {next} has leads normal step =
+    subst (HasStepped surface first old next) (sym step.new_is) (record {
       leads = subst (LeadsAtPeak surface.mesh first old.list) (sym (append_assoc old.front (old.last ∷ []) (next ∷ old.coming))) leads;
-      normal = normal_more surface old.front old.last next normal step.no_parent step.no_spur;
+      normal = normal_more old.front old.last next normal step.no_parent step.no_spur;
       falls =
           (let fewer : weight surface old.last (next ∷ old.coming) ≡ suc (weight surface next old.coming) =
-          weight_free surface old.last next old.coming has step.no_parent in
+          weight_free old.last next old.coming has step.no_parent in
           omega (arith, fewer));
     })
 
@@ -225,16 +219,16 @@ record IsWay (surface : OpenView) (f u v corner : ℕ) (forward : Bool) : Type 0
   around : corners_from (face_at surface.mesh f) (not forward) corner (length (face_at surface.mesh f) - 1)
       ≡ u ∷ expansion surface.mesh (parent_of surface f) u
 
-way_along : (surface : OpenView) (f u v corner : ℕ) (forward : Bool) → HasParents surface → IsFound surface u v f
+way_along : {surface : OpenView} {f u v : ℕ} (corner : ℕ) (forward : Bool) → HasParents surface → IsFound surface u v f
     → IsWayAlong surface (parent_of surface f) u corner forward → IsWay surface f u v corner forward
-way_along surface f u v corner forward has found way =
+way_along {surface} {f} {u} {v} corner forward has found way =
     let mesh : FaceList = surface.mesh in
     let side : Side = parent_of surface f in
     let ring : List ℕ = face_at mesh f in
     let m : ℕ = length ring in
     let next : ℕ = next_corner true m side.at in
     let within : side.at < m = has.within f found.within in
-    let differ : tail_of mesh side ≢ head_of mesh side = ends_differ mesh side has.valid (parent_in_mesh surface f has found.within) in
+    let differ : tail_of mesh side ≢ head_of mesh side = ends_differ mesh side has.valid (parent_in_mesh f has found.within) in
     elim way [
       | inl e ↦
           (let head : head_of mesh side ≡ v = elim found.joined [
@@ -267,18 +261,16 @@ way_along surface f u v corner forward has found way =
           subst (λ (c : ℕ). IsWay surface f u v c forward) (sym e.1) (subst (IsWay surface f u v next) (sym e.2) this))
     ]
 
-face_crossed : (surface : OpenView) (f u v corner : ℕ) (forward : Bool) (front rest : List ℕ) → HasParents surface
+face_crossed : {surface : OpenView} {f u v : ℕ} (corner : ℕ) (forward : Bool) (front rest : List ℕ) → HasParents surface
     → IsFound surface u v f → IsWayAlong surface (parent_of surface f) u corner forward
     → apply surface.mesh (front ++ u ∷ v ∷ rest) (Across (length front) (record { 0 = f }) corner forward 1)
     ≡ Some (front ++ u ∷ (expansion surface.mesh (parent_of surface f) u ++ rest))
-face_crossed surface f u v corner forward front rest has found way =
-    let w : IsWay surface f u v corner forward = way_along surface f u v corner forward has found way in
+face_crossed {surface} {f} {u} {v} corner forward front rest has found way =
+    let w : IsWay surface f u v corner forward = way_along corner forward has found way in
     let exp : List ℕ = expansion surface.mesh (parent_of surface f) u in
     let some : 0 < length (front ++ u ∷ v ∷ rest) = rw length-append (omega arith) in
     (by_replacing surface.mesh (front ++ u ∷ v ∷ rest) (front ++ u ∷ (exp ++ rest))
-    (Across (length front) (record { 0 = f }) corner forward 1)
-    some).1
-    (record {
+    (Across (length front) (record { 0 = f }) corner forward 1) some).1 (record {
       before = front;
       part = u ∷ v ∷ [];
       other = u ∷ exp;
@@ -289,10 +281,10 @@ face_crossed surface f u v corner forward front rest has found way =
       replaces = (found.within, w.within, omega (arith, w.within), sym w.along, sym w.around);
     })
 
-has_expanded : (surface : OpenView) (first : List ℕ) (old : ReductionView) (next : ℕ) (new : ReductionView) → HasParents surface
+has_expanded : {surface : OpenView} {first : List ℕ} {old : ReductionView} {next : ℕ} {new : ReductionView} → HasParents surface
     → LeadsAtPeak surface.mesh first old.list (old.front ++ old.last ∷ next ∷ old.coming) → IsNormal surface (settled old)
     → Expands surface old next new → HasStepped surface first old next new
-has_expanded surface first old next new has leads normal step =
+has_expanded {surface} {first} {old} {next} {new} has leads normal step =
     let mesh : FaceList = surface.mesh in
     let f : ℕ = step.face in
     let found : IsFound surface old.last next f = record { within = step.within; joined = step.joined } in
@@ -307,14 +299,14 @@ has_expanded surface first old next new has leads normal step =
           subst (LeadsAtPeak mesh first new.list) to
           (one_more mesh first (old.front ++ old.last ∷ next ∷ old.coming) (old.front ++ old.last ∷ (exp ++ old.coming))
           (Across (length old.front) (record { 0 = f }) step.corner step.forward 1) old.list new.list leads
-          (face_crossed surface f old.last next step.corner step.forward old.front old.coming has found step.way)
+          (face_crossed step.corner step.forward old.front old.coming has found step.way)
           (step.list ∙ ap (λ (d : ℕ). noted old.list (Across (length old.front) (record { 0 = f }) step.corner step.forward 1) d) count));
       normal =
           subst (λ (l : List ℕ). IsNormal surface (l ++ new.last ∷ [])) (sym step.front)
           (subst (λ (x : ℕ). IsNormal surface (old.front ++ x ∷ [])) (sym step.last) normal);
       falls =
           (let fewer : weight surface old.last (next ∷ old.coming) ≡ suc (weight surface old.last (exp ++ old.coming)) =
-          weight_parent surface f old.last next old.coming has found in
+          weight_parent old.coming has found in
           let same : weight surface new.last new.coming ≡ weight surface old.last (exp ++ old.coming) =
           ap (λ (x : ℕ). weight surface x new.coming) step.last ∙ ap (weight surface old.last) step.coming in
           omega (arith, fewer, same));
@@ -334,10 +326,10 @@ weight_less surface u v vs =
     run_more act one zero u vs = omega arith
     run_more act one (suc s) u vs = omega (arith, run_from act one s u vs, run_more act one s u vs)
 
-has_skipped : (surface : OpenView) (first : List ℕ) (old : ReductionView) (next : ℕ) (new : ReductionView)
+has_skipped : {surface : OpenView} {first : List ℕ} {old : ReductionView} {next : ℕ} {new : ReductionView}
     → LeadsAtPeak surface.mesh first old.list (old.front ++ old.last ∷ next ∷ old.coming) → IsNormal surface (settled old)
     → SkipsSpur old next new → HasStepped surface first old next new
-has_skipped surface first old next new leads normal step =
+has_skipped {surface} {first} {old} {next} {new} leads normal step =
     let mesh : FaceList = surface.mesh in
     let from : old.front ++ old.last ∷ next ∷ old.coming ≡ new.front ++ old.last ∷ next ∷ old.last ∷ new.coming =
     ap (λ (l : List ℕ). old.front ++ old.last ∷ next ∷ l) step.coming
@@ -363,20 +355,20 @@ has_skipped surface first old next new leads normal step =
     }
 
 -- each step does so
-pub has_stepped : (surface : OpenView) (first : List ℕ) (old taken : ReductionView) (next : ℕ) (new : ReductionView) → HasParents surface
+pub has_stepped : {surface : OpenView} {first : List ℕ} (old taken : ReductionView) (next : ℕ) (new : ReductionView) → HasParents surface
     → LeadsAtPeak surface.mesh first old.list (whole old) → IsNormal surface (settled old) → IsTaken old next taken
     → IsStep surface taken next new → HasStepped surface first taken next new
-has_stepped surface first old taken next new has leads normal is_taken step =
+has_stepped {surface} {first} old taken next new has leads normal is_taken step =
     let from : LeadsAtPeak surface.mesh first taken.list (taken.front ++ taken.last ∷ next ∷ taken.coming) =
     subst (λ (s : ReductionView). LeadsAtPeak surface.mesh first s.list (whole s)) is_taken leads in
     let part : IsNormal surface (settled taken) = subst (λ (s : ReductionView). IsNormal surface (settled s)) is_taken normal in
     elim step [
-      | inl back ↦ stepped_back surface first taken next new has from part back
+      | inl back ↦ stepped_back has from part back
       | inr more ↦ elim more [
-        | inl on ↦ stepped_on surface first taken next new has from part on
+        | inl on ↦ stepped_on has from part on
         | inr rest ↦ elim rest [
-          | inl wide ↦ has_expanded surface first taken next new has from part wide
-          | inr skip ↦ has_skipped surface first taken next new from part skip
+          | inl wide ↦ has_expanded has from part wide
+          | inr skip ↦ has_skipped from part skip
         ]
       ]
     ]

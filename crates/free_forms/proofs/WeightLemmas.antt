@@ -151,9 +151,9 @@ sum_faces mesh (suc n) some l =
     omega (arith, more, sum_faces mesh n some (omega arith), some n (omega arith))
 
 -- a dart and all faces weigh no more than one and all sides
-pub dart_bound : (surface : OpenView) (u v : ℕ) → HasParents surface
+pub dart_bound : {surface : OpenView} (u v : ℕ) → HasParents surface
     → counted surface (length surface.mesh.faces) 0 u v + length surface.mesh.faces ≤ total_sides surface.mesh + 1
-dart_bound surface u v has =
+dart_bound {surface} u v has =
     let mesh : FaceList = surface.mesh in
     let n : ℕ = length mesh.faces in
     let faces : List ℕ = listed surface n [] u v in
@@ -165,15 +165,15 @@ dart_bound surface u v has =
       arith,
       is_counted surface n u v 0 [],
       sum_listed (others mesh) faces n all,
-      sum_once (others mesh) faces n (λ x. listed_once surface x n u v has),
+      sum_once (others mesh) faces n (λ x. listed_once x n u v has),
       most,
       whole,
     )
 
 -- so the weight of a way is at most that of its darts
-pub weight_bound : (surface : OpenView) (most u : ℕ) (vs : List ℕ) → HasParents surface → 0 < most → total_sides surface.mesh ≤ most
+pub weight_bound : {surface : OpenView} (most u : ℕ) (vs : List ℕ) → HasParents surface → 0 < most → total_sides surface.mesh ≤ most
     → weight surface u vs ≤ length vs * most
-weight_bound surface most u vs has some few = omega (arith, go 0 u vs)
+weight_bound {surface} most u vs has some few = omega (arith, go 0 u vs)
   where
     act : ℕ → ℕ → ℕ → ℕ
     act = counted surface (length surface.mesh.faces)
@@ -185,7 +185,7 @@ weight_bound surface most u vs has some few = omega (arith, go 0 u vs)
     dart : (u v : ℕ) → act 0 u v ≤ most
     dart u v = elim (cases_eq (length surface.mesh.faces) 0) [
       | inl none ↦ alone u v (length surface.mesh.faces) none
-      | inr faces ↦ omega (arith, dart_bound surface u v has)
+      | inr faces ↦ omega (arith, dart_bound u v has)
     ]
       where
         alone : (u v n : ℕ) → n ≡ 0 → counted surface n 0 u v ≤ most

@@ -5,7 +5,7 @@ use Rattle.free_forms.proofs.check.meet_conditions.Goals as goal
 -- An edge has three or more sides.
 pub returns-in-Some-clause-fault : goal.returns-in-Some-clause-fault
 returns-in-Some-clause-fault c =
-    inr (crowded_as_read c.args.faces.now c.args.sides.now c.in-Some.edge.0 c.ends.result.0 c.ends.result.1 c.sides_of.result
+    inr (crowded_as_read c.ends.result.0 c.ends.result.1 c.sides_of.result
     (omega arith) c.requires c.in-Some.ensures.some c.ends.ensures.low c.ends.ensures.high c.sides_of.ensures)
 
 -- No edge has one side.
@@ -14,7 +14,7 @@ returns-in_default-boundary_edge-clause-fault c =
     inr (record {
       some_face = omega arith;
       few_sides = few_from_table c.args.faces.now c.args.sides.now c.requires c.in_default.ensures.none;
-      none = no_boundary_from_table c.args.faces.now c.args.sides.now c.requires c.in_default-boundary_edge.ensures.none;
+      none = no_boundary_from_table c.requires c.in_default-boundary_edge.ensures.none;
     })
 
 pub pinched_vertex-requires-clause-few : goal.pinched_vertex-requires-clause-few
@@ -26,8 +26,7 @@ returns-in-Some-2-clause-fault c =
     inr (record {
       some_face = omega arith;
       few_sides = few_from_table c.args.faces.now c.args.sides.now c.requires c.in_default.ensures.none;
-      boundary = boundary_from_table c.args.faces.now c.args.sides.now c.in-Some-boundary_edge._rim.0 c.requires
-          c.in-Some-boundary_edge.ensures.some;
+      boundary = boundary_from_table c.requires c.in-Some-boundary_edge.ensures.some;
       vertex = rw c.in-Some-2.is at c.in_ok-vertex.ensures;
     })
 
@@ -37,8 +36,7 @@ returns-in-Some-3-clause-fault c =
     inr (record {
       some_face = omega arith;
       few_sides = few_from_table c.args.faces.now c.args.sides.now c.requires c.in_default.ensures.none;
-      boundary = boundary_from_table c.args.faces.now c.args.sides.now c.in-Some-boundary_edge._rim.0 c.requires
-          c.in-Some-boundary_edge.ensures.some;
+      boundary = boundary_from_table c.requires c.in-Some-boundary_edge.ensures.some;
       one_fan = rw c.in_default-2.is at c.in_ok-vertex.ensures;
       vertices = rw c.in-Some-3.is at c.in_ok-vertex-2.ensures;
     })
@@ -48,8 +46,7 @@ pub returns-clause-surface : goal.returns-clause-surface
 returns-clause-surface c = record {
   some_face = omega arith;
   few_sides = few_from_table c.args.faces.now c.args.sides.now c.requires c.in_default.ensures.none;
-  boundary = boundary_from_table c.args.faces.now c.args.sides.now c.in-Some-boundary_edge._rim.0 c.requires
-      c.in-Some-boundary_edge.ensures.some;
+  boundary = boundary_from_table c.requires c.in-Some-boundary_edge.ensures.some;
   one_fan = rw c.in_default-2.is at c.in_ok-vertex.ensures;
   connected = rw c.in_default-3.is at c.in_ok-vertex-2.ensures;
 }

@@ -25,8 +25,7 @@ returns-then-are_equal-clause-moves c =
     let two : LeadsAtPeak mesh c.args.second.now c.in_ok-far.others c.in_ok-far.far =
     subst (λ (l : PeakedMoves). LeadsAtPeak mesh c.args.second.now l c.in_ok-far.far) (sym c.in_ok-far.ensures.moves)
     (subst (LeadsAtPeak mesh c.args.second.now c.in_ok-two.two.moves) (sym c.in_ok-far.ensures.walk) c.in_ok-two.ensures.leads) in
-    there_and_back_leads mesh c.args.first.now c.args.second.now c.in_ok-near.near c.in_ok-far.far c.in_ok-near.moves c.in_ok-far.others
-    c.push_back.new.moves c.requires.walks.second_walk one two (c.are_equal.ensures.0 c.if-are_equal.true)
+    there_and_back_leads c.push_back.new.moves c.requires.walks.second_walk one two (c.are_equal.ensures.0 c.if-are_equal.true)
     (c.in_ok-push_back.ensures.moves
     ∙ ap (λ (m : FaceList). c.in_ok-near.moves.moves ++ way_back m c.in_ok-far.others.moves) c.faces-faces.ensures.mesh)
     c.in_ok-push_back.ensures.none c.in_ok-push_back.ensures.some
@@ -58,7 +57,7 @@ returns-then-are_equal-clause-short c =
     let one : ℕ = darts c.args.first.now * MOST_OPEN_SIDES in
     let two : ℕ = darts c.args.second.now * MOST_OPEN_SIDES in
     let both : ℕ = (darts c.args.first.now + darts c.args.second.now) * MOST_OPEN_SIDES in
-    both_within c.faces-faces.result.now one two both c.in_ok-near.moves c.in_ok-far.others c.push_back.new.moves
+    both_within c.faces-faces.result.now both c.push_back.new.moves
     (subst (IsWithin one) (sym c.in_ok-near.ensures.moves) c.in_ok-one.ensures.short)
     (subst (IsWithin two) (sym c.in_ok-far.ensures.moves) c.in_ok-two.ensures.short)
     (omega arith) c.in_ok-push_back.ensures.moves c.in_ok-push_back.ensures.none c.in_ok-push_back.ensures.some

@@ -19,8 +19,7 @@ few : (c : In_ok-push_others) → length c.args.reduction.now.earlier.items + le
 few c =
     omega (
       arith,
-      pushed_length c.args.side c.args.reduction.now.last.0 c.corner_along-corner.result c.eq-forward.result
-          c.args.reduction.now.pending.items c.push_others.new.pending.items c.faces-faces.result.now (read c),
+      pushed_length (read c),
       ap (λ m. length (face_at m c.args.side.face.0)) c.faces-faces.ensures.mesh,
       c.requires.room c.args.side.face.0 c.requires.face
           (subst (λ (s : Side). Joins c.args.mesh.now.mesh s c.args.reduction.now.last.0 c.args.next.0) c.requires.parent
@@ -45,11 +44,8 @@ overflow_add-at c =
 
 pub returns : goal.returns
 returns c =
-    on_ok_weaker c.push.result
-    (λ noted.
-    expands_made c.args.mesh.now c.faces-faces.result.now c.args.side c.args.reduction.now.earlier.items c.args.reduction.now.pending.items
-    c.push_others.new.pending.items c.args.reduction.now.last.0 c.args.next.0 c.corner_along-corner.result c.len-at.result
-    (c.len-at.result + c.len.result) c.eq-forward.result c.args.reduction.now.moves c.push.new.self c.faces-faces.ensures.parents
+    on_ok_weaker c.push.result (λ noted. expands_made c.args.reduction.now.earlier.items c.args.next.0 c.len-at.result
+    (c.len-at.result + c.len.result) c.args.reduction.now.moves c.push.new.self c.faces-faces.ensures.parents
     c.faces-faces.ensures.mesh c.requires.face c.requires.parent c.requires.joined (read (goal.at.returns c).In_ok-push_others)
     (omega (arith, c.len-at.ensures, c.args.reduction.now.earlier.ok.0))
     (omega (arith, c.len-at.ensures, c.args.reduction.now.earlier.ok.0, c.len.ensures, c.push_others.new.pending.ok.0)) noted)

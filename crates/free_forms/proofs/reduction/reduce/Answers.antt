@@ -18,7 +18,7 @@ loop-next-init c =
     let count : length start.list.moves ≡ 0 = ap (λ (l : PeakedMoves). length l.moves) c.in_ok-reduction.ensures.list in
     let peak : start.list.peak ≡ darts c.args.walk.now = ap (λ (l : PeakedMoves). l.peak) c.in_ok-reduction.ensures.list in
     let weight : weight c.args.mesh.now start.last start.coming ≤ length start.coming * MOST_OPEN_SIDES =
-    weight_bound c.args.mesh.now MOST_OPEN_SIDES start.last start.coming c.faces.ensures.parents (omega arith) c.requires.sides in
+    weight_bound MOST_OPEN_SIDES start.last start.coming c.faces.ensures.parents (omega arith) c.requires.sides in
     record {
       leads =
           subst (LeadsAtPeak c.args.mesh.now.mesh c.args.walk.now start.list) (sym c.in_ok-reduction.ensures.walk)
@@ -37,7 +37,7 @@ loop-next-init c =
 stepped : (c : goal.In_ok-step) → HasStepped c.args.mesh.now c.args.walk.now (state_of c.take.new.reduction) c.in-Some.next.0
     (state_of c.step.new.reduction)
 stepped c =
-    has_stepped c.args.mesh.now c.args.walk.now (state_of c.loop-next.reduction) (state_of c.take.new.reduction) c.in-Some.next.0
+    has_stepped (state_of c.loop-next.reduction) (state_of c.take.new.reduction) c.in-Some.next.0
     (state_of c.step.new.reduction) c.in_ok-step.ensures.parents c.loop-next.invariant.leads c.loop-next.invariant.normal
     c.in-Some.ensures.some c.in_ok-step.ensures.step
 
@@ -54,20 +54,18 @@ loop-next-preserved c =
     record {
       leads = done.leads;
       normal = done.normal;
-      paid = stays_paid c.args.mesh.now (darts c.args.walk.now * MOST_OPEN_SIDES) (state_of c.loop-next.reduction)
-          (state_of c.take.new.reduction) c.in-Some.next.0 (state_of c.step.new.reduction) c.args.walk.now c.loop-next.invariant.paid
-          c.in-Some.ensures.some done c.in_ok-step.ensures.step;
+      paid = stays_paid c.loop-next.invariant.paid c.in-Some.ensures.some done c.in_ok-step.ensures.step;
     }
 
 pub step-requires-clause-few : goal.step-requires-clause-few
 step-requires-clause-few c =
     let darts : darts_in (state_of c.loop-next.reduction) ≤ darts c.args.walk.now * MOST_OPEN_SIDES =
-    paid_darts c.args.mesh.now (darts c.args.walk.now * MOST_OPEN_SIDES) (state_of c.loop-next.reduction) c.loop-next.invariant.paid in
+    paid_darts c.loop-next.invariant.paid in
     let taken : darts_in (state_of c.loop-next.reduction) ≡ darts_in (state_of c.take.new.reduction) + 1 =
     omega (arith, ap darts_in c.in-Some.ensures.some) in
     omega (arith, darts, taken, c.requires.few)
 
 pub step-requires-clause-room : goal.step-requires-clause-room
 step-requires-clause-room c =
-    has_room c.args.mesh.now (darts c.args.walk.now * MOST_OPEN_SIDES) (state_of c.loop-next.reduction) (state_of c.take.new.reduction)
+    has_room (state_of c.take.new.reduction)
     c.in-Some.next.0 c.faces.ensures.parents c.loop-next.invariant.paid c.in-Some.ensures.some (omega (arith, c.requires.few))

@@ -5,21 +5,17 @@ use Rattle.free_forms.proofs.search.spread.Goals as goal
 
 pub loop-at-smaller : goal.loop-at-smaller
 loop-at-smaller c =
-    let few : length c.loop-at.search.order.items ≤ length c.args.faces.now.faces =
-    few_reached c.args.faces.now (found_by c.loop-at.search) c.loop-at.invariant.search in
+    let few : length c.loop-at.search.order.items ≤ length c.args.faces.now.faces = few_reached c.loop-at.invariant.search in
     omega arith
 
 pub loop-at-preserved : goal.loop-at-preserved
 loop-at-preserved c = record {
   search = c.in_ok-spread_from.ensures.search;
   grows =
-      grows_trans (found_by c.args.search.now) (found_by c.loop-at.search) (found_by c.spread_from.new.search)
-      c.loop-at.invariant.grows c.in_ok-spread_from.ensures.grows;
+      grows_trans c.loop-at.invariant.grows c.in_ok-spread_from.ensures.grows;
   closed =
-      closed_more c.args.faces.now (found_by c.loop-at.search) (found_by c.spread_from.new.search) c.loop-at.at (omega arith)
-      c.in_ok-spread_from.ensures.grows
+      closed_more c.args.faces.now c.loop-at.at (omega arith) c.in_ok-spread_from.ensures.grows
       (subst (λ (f : ℕ). NeighboursReached c.args.faces.now (found_by c.spread_from.new.search) f (length (face_at c.args.faces.now f)))
       (c.index.ensures ∙ get_or_default c.loop-at.search.order.items c.loop-at.at c.index.result.now 0 (omega arith))
-      c.in_ok-spread_from.ensures.reached)
-      c.loop-at.invariant.closed;
+      c.in_ok-spread_from.ensures.reached) c.loop-at.invariant.closed;
 }

@@ -4,14 +4,13 @@ use Rattle.free_forms.proofs.SearchLemmas.{HasSpread, reached_below, spread_more
 use Rattle.free_forms.proofs.search.spread_from.Goals as goal
 
 pub sides-at-end-requires : goal.sides-at-end-requires
-sides-at-end-requires c = reached_below c.args.faces.now (found_by c.args.search.now) c.args.face.0 c.requires.search c.requires.face
+sides-at-end-requires c = reached_below c.args.face.0 c.requires.search c.requires.face
 
 pub side_at-requires : goal.side_at-requires
 side_at-requires c =
     let mesh = c.args.faces.now in
     let side : Side = record { face = c.args.face; at = c.loop-at.at } in
-    let below : c.args.face.0 < length mesh.faces =
-    reached_below mesh (found_by c.args.search.now) c.args.face.0 c.requires.search c.requires.face in
+    let below : c.args.face.0 < length mesh.faces = reached_below c.args.face.0 c.requires.search c.requires.face in
     let found : HasPartner mesh side c.other-other.result.0 ⊎ ((c.other-other.result.0 ≡ c.dart.result.0) × IsAlone mesh side) =
     partner_or_alone mesh c.args.sides.now side c.dart.result.0 c.other-other.result.0 c.requires.table c.requires.few
     (record { face = below; place = omega arith }) c.dart.ensures.number (c.other-other.ensures mesh c.requires.table) in
@@ -23,16 +22,14 @@ side_at-requires c =
 pub loop-at-preserved : goal.loop-at-preserved
 loop-at-preserved c =
     let mesh = c.args.faces.now in
-    let below : c.args.face.0 < length mesh.faces =
-    reached_below mesh (found_by c.args.search.now) c.args.face.0 c.requires.search c.requires.face in
+    let below : c.args.face.0 < length mesh.faces = reached_below c.args.face.0 c.requires.search c.requires.face in
     let from : HasSpread mesh (found_by c.args.search.now) (found_by c.loop-at.search) c.args.face.0 c.loop-at.at = record {
       search_of = c.loop-at.invariant.search;
       grows = c.loop-at.invariant.grows;
       reached = c.loop-at.invariant.reached;
     } in
     let more : HasSpread mesh (found_by c.args.search.now) (found_by c.reach.new.search) c.args.face.0 (c.loop-at.at + 1) =
-    spread_more mesh c.args.sides.now (found_by c.args.search.now) (found_by c.loop-at.search) (found_by c.reach.new.search) c.args.face.0
-    c.loop-at.at c.dart.result.0 c.other-other.result.0 c.side_at.result c.requires.table c.requires.few below (omega arith)
+    spread_more (found_by c.reach.new.search) c.requires.table c.requires.few below (omega arith)
     c.requires.face c.dart.ensures.number (c.other-other.ensures mesh c.requires.table) c.side_at.ensures.side c.side_at.ensures.number
     from c.in_ok-reach.ensures in
     record { search = more.search_of; grows = more.grows; reached = more.reached }

@@ -7,15 +7,13 @@ use Rattle.free_forms.proofs.search.start.Goals.{then-sides_of-eq1+in_ok-reach, 
 pub reach-requires-clause-mark : goal.reach-requires-clause-mark
 reach-requires-clause-mark c =
     let is : IsSide c.args.faces.now c.side.result =
-    side_of_one c.args.faces.now c.args.sides.now c.loop-edge.edge c.side.result c.requires.table (omega arith) (omega arith)
-    c.side.ensures in
+    side_of_one c.loop-edge.edge c.side.result c.requires.table (omega arith) (omega arith) c.side.ensures in
     omega (arith, is.face, c.loop-edge.invariant.search.each_mark)
 
 pub reach-requires-clause-place : goal.reach-requires-clause-place
 reach-requires-clause-place c =
     let is : IsSide c.args.faces.now c.side.result =
-    side_of_one c.args.faces.now c.args.sides.now c.loop-edge.edge c.side.result c.requires.table (omega arith) (omega arith)
-    c.side.ensures in
+    side_of_one c.loop-edge.edge c.side.result c.requires.table (omega arith) (omega arith) c.side.ensures in
     omega (arith, is.face, c.loop-edge.invariant.search.each_place)
 
 pub loop-edge-preserved : goal.loop-edge-preserved
@@ -27,12 +25,11 @@ loop-edge-preserved c =
     elim c.if-sides_of-eq1.branch [
       | then-sides_of-eq1+in_ok-reach w ↦
           subst (λ s. HasStarted c.args.faces.now c.args.sides.now (found_by s) (k + 1)) (sym w.search-is)
-          (start_more c.args.faces.now c.args.sides.now (found_by c.loop-edge.search) (found_by w.reach.new.search) k w.side.result
+          (start_more (found_by w.reach.new.search) w.side.result
           c.requires.table (omega arith) (omega (arith, c.sides_of.ensures, w.if-sides_of-eq1.true)) w.side.ensures from
           w.in_ok-reach.ensures)
       | else-sides_of-eq1 w ↦
-          subst (λ s. HasStarted c.args.faces.now c.args.sides.now (found_by s) (k + 1)) (sym w.search-is)
-          (start_other c.args.faces.now c.args.sides.now (found_by c.loop-edge.search) k
+          subst (λ s. HasStarted c.args.faces.now c.args.sides.now (found_by s) (k + 1)) (sym w.search-is) (start_other
           (λ one. absurd (omega (arith, one, c.sides_of.ensures, w.if-sides_of-eq1.false))) from)
     ] in
     record { search = more.search_of; started = more.started }

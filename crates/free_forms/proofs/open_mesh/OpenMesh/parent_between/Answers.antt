@@ -6,15 +6,13 @@ use Rattle.free_forms.proofs.open_mesh.OpenMesh.parent_between.Goals.{After-side
 
 pub returns-in_default-clause-none : goal.returns-in_default-clause-none
 returns-in_default-clause-none c =
-    let surface : OpenView = record { mesh = c.self.inside.faces; places = c.self.inside.places.items } in
     subst (λ (s : OpenView). IsParentEdge s c.args.u.0 c.args.v.0 → ⊥) c.self.view_is
-    (no_edge_no_parent surface c.self.inside.sides c.args.u.0 c.args.v.0 c.self.invariant.parents c.self.invariant.table_of
-    c.in_default.ensures.none)
+    (no_edge_no_parent c.args.u.0 c.args.v.0 c.self.invariant.parents c.self.invariant.table_of c.in_default.ensures.none)
 
 -- the side that is looked at joins the two vertices
 between : (c : After-side-side) → IsSideBetween c.self.inside.faces c.args.u.0 c.args.v.0 c.side-side.result
 between c =
-    side_of_found c.self.inside.faces c.self.inside.sides c.in-Some.edge.0 c.loop-k.k c.args.u.0 c.args.v.0 c.side-side.result
+    side_of_found c.in-Some.edge.0 c.loop-k.k c.args.u.0 c.args.v.0 c.side-side.result
     c.self.invariant.table_of c.in-Some.ensures.found c.in-Some.ensures.ends (omega arith) c.side-side.ensures
 
 pub index-requires : goal.index-requires
@@ -63,8 +61,7 @@ loop-k-preserved c = λ j d l same.
 
 pub returns-clause-none : goal.returns-clause-none
 returns-clause-none c =
-    let surface : OpenView = record { mesh = c.self.inside.faces; places = c.self.inside.places.items } in
     subst (λ (s : OpenView). IsParentEdge s c.args.u.0 c.args.v.0 → ⊥) c.self.view_is
-    (no_side_no_parent surface c.self.inside.sides c.in-Some.edge.0 c.args.u.0 c.args.v.0 c.self.invariant.parents c.self.invariant.table_of
+    (no_side_no_parent c.in-Some.edge.0 c.args.u.0 c.args.v.0 c.self.invariant.parents c.self.invariant.table_of
     c.in-Some.ensures.found c.in-Some.ensures.ends
     (λ j d l same. c.loop-k.invariant j d (omega (arith, l, c.sides_of-k-end.ensures, c.loop-k-test.false)) same))
