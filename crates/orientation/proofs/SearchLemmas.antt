@@ -129,8 +129,8 @@ growing_first {mesh} {start} root p new waiting h few none before depth grown pu
     (subst (IsGrowing mesh start root.0 (with_face start root.0 false p)) (sym pushed) here)
 
 -- whichever face is taken, it may be taken as the first
-pub taken : {mesh : FaceList} {growth : Growth} (face : FaceName) (rest : List FaceName) {waiting : List FaceName} → IsSearch mesh growth waiting
-    → (waiting ≡ face ∷ rest) ⊎ (waiting ≡ rest ++ face ∷ []) → IsSearch mesh growth (face ∷ rest)
+pub taken : {mesh : FaceList} {growth : Growth} (face : FaceName) (rest : List FaceName) {waiting : List FaceName}
+    → IsSearch mesh growth waiting → (waiting ≡ face ∷ rest) ⊎ (waiting ≡ rest ++ face ∷ []) → IsSearch mesh growth (face ∷ rest)
 taken {mesh} {growth} face rest h which =
     elim which [
       | inl first ↦ subst (IsSearch mesh growth) first h
