@@ -15,22 +15,22 @@ record HasPlace (mesh : FaceList) (side : Side) : Type 0 where
   pub there : get_or (all_sides mesh) place (face_side side.face.0 (face_at mesh side.face.0) side.at) ≡ face_side side.face.0
       (face_at mesh side.face.0) side.at
 
-side_place : (mesh : FaceList) (side : Side) → IsSide mesh side → HasPlace mesh side
-side_place mesh side h =
+side_place : {mesh : FaceList} {side : Side} → IsSide mesh side → HasPlace mesh side
+side_place {mesh} {side} h =
     let whole : FaceSide = face_side side.face.0 (face_at mesh side.face.0) side.at in
     let found : Contains (all_sides mesh) whole = face_side_in mesh side.face.0 side.at h.face h.place in
     let is : IsWholeSide mesh found.0 whole = subst (IsWholeSide mesh found.0) found.2 (whole_side mesh found.0 whole found.1) in
     record { place = found.0; within = omega (arith, found.1, length-all_sides mesh); number = is.number; there = found.2 }
 
 pub number_below : (mesh : FaceList) (side : Side) → IsSide mesh side → side_number mesh side < total_sides mesh
-number_below mesh side h = let at : HasPlace mesh side = side_place mesh side h in omega (arith, at.within, at.number)
+number_below mesh side h = let at : HasPlace mesh side = side_place h in omega (arith, at.within, at.number)
 
 -- sides of one number are one
 pub number_once : (mesh : FaceList) (side other : Side) → IsSide mesh side → IsSide mesh other
     → side_number mesh side ≡ side_number mesh other → side ≡ other
 number_once mesh side other h k same =
-    let at : HasPlace mesh side = side_place mesh side h in
-    let to : HasPlace mesh other = side_place mesh other k in
+    let at : HasPlace mesh side = side_place h in
+    let to : HasPlace mesh other = side_place k in
     let first : FaceSide = face_side side.face.0 (face_at mesh side.face.0) side.at in
     let second : FaceSide = face_side other.face.0 (face_at mesh other.face.0) other.at in
     let place : at.place ≡ to.place = sym at.number ∙ same ∙ to.number in
@@ -47,19 +47,19 @@ corner_vertex mesh v side corner h =
       | inr e ↦ ap (tail_of mesh) e.1 ∙ e.0
     ]
 
-pub corner_in_mesh : (mesh : FaceList) (v : ℕ) (side corner : Side) → IsSide mesh side → IsCornerOfSide mesh v side corner
+pub corner_in_mesh : {mesh : FaceList} (v : ℕ) {side : Side} (corner : Side) → IsSide mesh side → IsCornerOfSide mesh v side corner
     → IsSide mesh corner
-corner_in_mesh mesh v side corner is h =
+corner_in_mesh {mesh} v {side} corner is h =
     elim h [
       | inl e ↦ subst (IsSide mesh) (sym e.1) is
       | inr e ↦ subst (IsSide mesh) (sym e.1) (after_in_mesh mesh side is)
     ]
 
 -- a side has one corner at a vertex
-pub one_corner : (mesh : FaceList) (v : ℕ) (side corner other : Side) → IsFaceList mesh → IsSide mesh side
+pub one_corner : {mesh : FaceList} (v : ℕ) {side : Side} (corner other : Side) → IsFaceList mesh → IsSide mesh side
     → IsCornerOfSide mesh v side corner → IsCornerOfSide mesh v side other
     → corner ≡ other
-one_corner mesh v side corner other valid is h k =
+one_corner {mesh} v {side} corner other valid is h k =
     elim h [
       | inl e ↦ elim k [
         | inl f ↦ e.1 ∙ sym f.1
@@ -71,8 +71,8 @@ one_corner mesh v side corner other valid is h k =
       ]
     ]
 
-pub partners_swap : (mesh : FaceList) (side other : Side) → ArePartners mesh side other → ArePartners mesh other side
-partners_swap mesh side other h = record {
+pub partners_swap : {mesh : FaceList} {side other : Side} → ArePartners mesh side other → ArePartners mesh other side
+partners_swap h = record {
   first = h.second;
   second = h.first;
   different = λ same. h.different (sym same);
@@ -84,31 +84,31 @@ pub corner_end : (mesh : FaceList) (v : ℕ) (side corner : Side) → IsCornerOf
 corner_end mesh v side corner h = elim h [ inl e ↦ inl e.0 | inr e ↦ inr e.0 ]
 
 -- two sides of one edge have corners across
-pub corners_there : (mesh : FaceList) (side partner : Side) → ArePartners mesh side partner
+pub corners_there : {mesh : FaceList} {side partner : Side} → ArePartners mesh side partner
     → (first : Side) × (last : Side) × AreCornersAcross mesh side partner first last
-corners_there mesh side partner partners =
+corners_there {mesh} {partner} partners =
     elim partners.one_edge [
       | inl e ↦ (partner, side_after mesh partner, record { at_start = inl (sym e.0, refl); at_end = inr (sym e.1, refl) })
       | inr e ↦ (side_after mesh partner, partner, record { at_start = inr (sym e.0, refl); at_end = inl (sym e.1, refl) })
     ]
 
 -- what holds of the two corners at either end of an edge holds of any two corners of its sides at one vertex
-pub each_across : (mesh : FaceList) (side partner first last : Side) → IsFaceList mesh → ArePartners mesh side partner
+pub each_across : {mesh : FaceList} {side partner first last : Side} → IsFaceList mesh → ArePartners mesh side partner
     → AreCornersAcross mesh side partner first last → (P : Side → Side → Type 0) → P side first → P (side_after mesh side) last
     → (v : ℕ) (corner other : Side) → IsCornerOfSide mesh v side corner → IsCornerOfSide mesh v partner other → P corner other
-each_across mesh side partner first last valid partners h P start end v corner other from to =
+each_across {mesh} {side} {partner} {first} {last} valid partners h P start end v corner other from to =
     let same : (u : ℕ) (c : Side) → u ≡ v → IsCornerOfSide mesh u partner c → c ≡ other =
-    λ u c at is. one_corner mesh v partner c other valid partners.second (subst (λ w. IsCornerOfSide mesh w partner c) at is) to in
+    λ u c at is. one_corner v c other valid partners.second (subst (λ w. IsCornerOfSide mesh w partner c) at is) to in
     elim from [
       | inl e ↦ subst (λ s. P s other) (sym e.1) (subst (P side) (same (tail_of mesh side) first e.0 h.at_start) start)
       | inr e ↦ subst (λ s. P s other) (sym e.1) (subst (P (side_after mesh side)) (same (head_of mesh side) last e.0 h.at_end) end)
     ]
 
 -- the step across the edge of two partners
-pub step_across : (mesh : FaceList) (v : ℕ) (side partner corner other : Side) → ArePartners mesh side partner
+pub step_across : {mesh : FaceList} (v : ℕ) {side partner : Side} (corner other : Side) → ArePartners mesh side partner
     → IsCornerOfSide mesh v side corner → IsCornerOfSide mesh v partner other
     → IsCornerStep mesh corner other
-step_across mesh v side partner corner other h from to =
+step_across {mesh} v {side} {partner} corner other h from to =
     subst (λ w. IsStepAround mesh w corner other) (sym (corner_vertex mesh v side corner from))
     (record { side = side; partner = partner; partners = h; from = from; to = to })
 
@@ -134,18 +134,18 @@ one_ring_from_same mesh rings v h same corner other is_corner is_other =
     joined_around mesh v corner other is_corner.vertex
     (h.joined corner other is_corner.side is_other.side (same corner other is_corner is_other))
 
-pub same_from_one_ring : (mesh : FaceList) (rings : List ℕ) (v : ℕ) (corner other : Side) → AreRings mesh rings → HasOneRing mesh v
+pub same_from_one_ring : {mesh : FaceList} (rings : List ℕ) {v : ℕ} {corner other : Side} → AreRings mesh rings → HasOneRing mesh v
     → IsCornerAt mesh v corner → IsCornerAt mesh v other
     → get_or rings (side_number mesh corner) 0 ≡ get_or rings (side_number mesh other) 0
-same_from_one_ring mesh rings v corner other h ring is_corner is_other =
+same_from_one_ring {mesh} rings {v} {corner} {other} h ring is_corner is_other =
     let joined : AreJoined (IsStepAround mesh v) corner other = ring corner other is_corner is_other in
     joined_keep (IsStepAround mesh v) (λ (side : Side). get_or rings (side_number mesh side) 0)
     (λ x y step. h.steps x y (subst (λ w. IsStepAround mesh w x y) (sym (corner_vertex mesh v step.side x step.from)) step)) corner
     joined.0 other joined.1
 
-pub corner_used : (mesh : FaceList) (v : ℕ) (corner : Side) → IsCornerAt mesh v corner → is_used mesh v ≡ true
+pub corner_used : {mesh : FaceList} {v : ℕ} {corner : Side} → IsCornerAt mesh v corner → is_used mesh v ≡ true
 unfolding is_used
-corner_used mesh v corner h =
+corner_used {mesh} {v} {corner} h =
     list_any_at (λ (face : List ℕ). list_any (λ c. eqb c v) face) mesh.faces corner.face.0 [] h.side.face
     (list_any_at (λ c. eqb c v) (face_at mesh corner.face.0) corner.at 0 h.side.place (eq-eqb (tail_of mesh corner) v h.vertex))
 
@@ -164,5 +164,5 @@ used_corner mesh v is =
       record { side = record { face = face.2; place = place }; vertex = vertex },
     )
 
-pub corner_below : (mesh : FaceList) (side : Side) → IsFaceList mesh → IsSide mesh side → tail_of mesh side < mesh.count
-corner_below mesh side valid h = (valid.faces side.face.0 [] h.face).in_range side.at 0 h.place
+pub corner_below : {mesh : FaceList} {side : Side} → IsFaceList mesh → IsSide mesh side → tail_of mesh side < mesh.count
+corner_below {side} valid h = (valid.faces side.face.0 [] h.face).in_range side.at 0 h.place

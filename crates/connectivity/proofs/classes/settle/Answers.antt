@@ -12,21 +12,20 @@ loop-number-preserved c =
     let parent : ℕ = get_or parents at 0 in
     let above : ℕ = get_or parents parent 0 in
     let within : at < length parents = omega arith in
-    let falls : parent ≤ at = parent_le parents at i.forest in
-    let names : IsLabelling parents (root_of parents) = root_labels parents i.forest in
+    let falls : parent ≤ at = parent_le at i.forest in
+    let names : IsLabelling parents (root_of parents) = root_labels i.forest in
     let here : above ≡ root_of first at =
     elim (cases_eq parent at) [
-      | inl same ↦ ap (λ z. get_or parents z 0) same ∙ same ∙ sym (root_own parents at i.forest within same)
+      | inl same ↦ ap (λ z. get_or parents z 0) same ∙ same ∙ sym (root_own at i.forest within same)
           ∙ i.same.roots at (omega (arith, within, i.same.count))
       | inr other ↦
           i.done parent (omega arith) ∙ sym (i.same.roots parent (omega (arith, within, i.same.count))) ∙ names.shared at within
           ∙ i.same.roots at (omega (arith, within, i.same.count))
     ] in
     record {
-      forest = lifted_forest parents at i.forest within;
-      same = same_roots_trans first parents _ i.same (lifted_roots parents at i.forest within);
-      done = below_more _ _
-          (λ x b. let other : x ≡ at → ⊥ = λ e. omega arith in get_or-set_other parents at x above 0 other ∙ i.done x b)
+      forest = lifted_forest at i.forest within;
+      same = same_roots_trans i.same (lifted_roots at i.forest within);
+      done = below_more _ _ (λ x b. let other : x ≡ at → ⊥ = λ e. omega arith in get_or-set_other parents at x above 0 other ∙ i.done x b)
           (get_or-set_same parents at above 0 within ∙ here);
     }
 

@@ -4,8 +4,8 @@ use Rattle.connectivity.proofs.corners.join_across.Goals as goal
 
 pub returns : goal.returns
 returns c =
-    joined_as_read c.args.faces.now c.args.corners.now c.join.new.self c.join-2.new.self c.args.side c.args.partner
-    c.corners_across.result.0 c.corners_across.result.1 c.dart.result.0 c.dart-2.result.0 c.dart-3.result.0 c.dart-4.result.0
+    joined_as_read c.args.corners.now c.join.new.self c.join-2.new.self
+    c.dart.result.0 c.dart-2.result.0 c.dart-3.result.0 c.dart-4.result.0
     c.corners_across.ensures.valid c.requires.count c.requires.partners c.corners_across.ensures.corners c.dart.ensures.number
     c.dart-2.ensures.number (c.dart-3.ensures.number ∙ ap (side_number c.args.faces.now) c.after.ensures.after) c.dart-4.ensures.number
     c.join.ensures c.join-2.ensures

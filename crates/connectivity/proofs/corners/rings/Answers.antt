@@ -11,8 +11,7 @@ loop-face-init c = sides_none c.args.faces.now c.in_ok-corners.corners (c.in_ok-
 pub loop-at-init : goal.loop-at-init
 loop-at-init c =
     let mesh = c.args.faces.now in
-    sides_fewer mesh c.loop-face.corners (first_side mesh c.loop-face.face + 0) (first_side mesh c.loop-face.face) (omega arith)
-    c.loop-face.invariant
+    sides_fewer (first_side mesh c.loop-face.face + 0) (omega arith) c.loop-face.invariant
 
 -- the side at hand
 abbrev at_hand : ℕ → ℕ → Side
@@ -24,11 +23,10 @@ join_across-requires-clause-partners c =
     let side : Side = at_hand c.loop-face.face c.loop-at.at in
     let next : ℕ = c.other-other.result.0 in
     let found : HasPartner mesh side next ⊎ ((next ≡ c.dart-dart.result.0) × IsAlone mesh side) =
-    partner_or_alone mesh c.args.sides.now side c.dart-dart.result.0 next c.requires.table c.requires.few
-    (record { face = omega arith; place = omega arith })
+    partner_or_alone c.requires.table c.requires.few (record { face = omega arith; place = omega arith })
     c.dart-dart.ensures.number (c.other-other.ensures mesh c.requires.table) in
     elim found [
-      | inl partner ↦ partners_by_number mesh side c.side_at.result next partner c.side_at.ensures.side c.side_at.ensures.number
+      | inl partner ↦ partners_by_number partner c.side_at.ensures.side c.side_at.ensures.number
       | inr alone ↦ absurd (omega (arith, alone.0, c.if-other-dart.true))
     ]
 
@@ -40,41 +38,34 @@ loop-at-preserved c =
     let next : ℕ = c.other-other.result.0 in
     let is : IsSide mesh side = record { face = omega arith; place = omega arith } in
     let found : HasPartner mesh side next ⊎ ((next ≡ c.dart-dart.result.0) × IsAlone mesh side) =
-    partner_or_alone mesh c.args.sides.now side c.dart-dart.result.0 next c.requires.table c.requires.few is c.dart-dart.ensures.number
-    (c.other-other.ensures mesh c.requires.table) in
+    partner_or_alone c.requires.table c.requires.few is c.dart-dart.ensures.number (c.other-other.ensures mesh c.requires.table) in
     let number : c.dart-dart.result.0 ≡ n = c.dart-dart.ensures.number in
     let more : JoinsSidesUpTo mesh c.if-other-dart.corners (n + 1) =
     elim c.if-other-dart.branch [
       | then-other-dart w ↦
           elim found [
             | inl partner ↦
-                subst (λ (least : List ℕ). JoinsSidesUpTo mesh least (n + 1)) (sym w.corners-is)
-                (side_joined mesh c.loop-at.corners w.join_across.new.corners side w.side_at.result n next is refl partner
-                w.join_across.ensures
-                (partners_by_number mesh side w.side_at.result next partner w.side_at.ensures.side w.side_at.ensures.number)
-                c.loop-at.invariant)
+                subst (λ (least : List ℕ). JoinsSidesUpTo mesh least (n + 1)) (sym w.corners-is) (side_joined is refl partner
+                w.join_across.ensures (partners_by_number partner w.side_at.ensures.side w.side_at.ensures.number) c.loop-at.invariant)
             | inr alone ↦ absurd (omega (arith, alone.0, w.if-other-dart.true))
           ]
       | else-other-dart w ↦
-          subst (λ (least : List ℕ). JoinsSidesUpTo mesh least (n + 1)) (sym w.corners-is)
-          (elim found [
+          subst (λ (least : List ℕ). JoinsSidesUpTo mesh least (n + 1)) (sym w.corners-is) (elim found [
             | inl partner ↦
-                side_passed mesh c.loop-at.corners side n next is refl partner (omega (arith, number, w.if-other-dart.false))
-                c.loop-at.invariant
-            | inr alone ↦ side_alone mesh c.loop-at.corners side n is refl alone.1 c.loop-at.invariant
+                side_passed is refl partner (omega (arith, number, w.if-other-dart.false)) c.loop-at.invariant
+            | inr alone ↦ side_alone is refl alone.1 c.loop-at.invariant
           ])
     ] in
-    sides_fewer mesh c.if-other-dart.corners (first_side mesh c.loop-face.face + (c.loop-at.at + 1)) (n + 1) (omega arith) more
+    sides_fewer (first_side mesh c.loop-face.face + (c.loop-at.at + 1)) (omega arith) more
 
 pub loop-face-preserved : goal.loop-face-preserved
 loop-face-preserved c =
     let mesh = c.args.faces.now in
-    sides_fewer mesh c.loop-at.corners (first_side mesh (c.loop-face.face + 1)) (first_side mesh c.loop-face.face + c.loop-at.at)
+    sides_fewer (first_side mesh (c.loop-face.face + 1))
     (omega (arith, first_side-more mesh c.loop-face.face, c.sides-at-end.ensures)) c.loop-at.invariant
 
 pub returns-clause-rings : goal.returns-clause-rings
 returns-clause-rings c =
     let mesh = c.args.faces.now in
-    subst (AreRings mesh) (sym c.into_least.ensures.members)
-    (sides_all mesh c.loop-face.corners (first_side mesh c.loop-face.face)
+    subst (AreRings mesh) (sym c.into_least.ensures.members) (sides_all
     (omega (arith, first_side-all mesh c.loop-face.face (omega (arith, c.len-face-end.ensures.count)))) c.loop-face.invariant)

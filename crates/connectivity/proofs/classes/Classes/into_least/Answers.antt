@@ -11,4 +11,4 @@ returns-clause-least c =
     let size : length after ≡ c.self.inside.parents.len =
     omega (arith, ap (λ (l : List ℕ). length l) is, length-roots_of parents, c.self.inside.parents.ok.0) in
     let items : (with_items c.self.inside.parents after).items ≡ after = with_items_is c.self.inside.parents after size in
-    subst AreLeastMembers (sym (items ∙ is)) (roots_are_least parents c.self.invariant)
+    subst AreLeastMembers (sym (items ∙ is)) (roots_are_least c.self.invariant)
