@@ -47,9 +47,9 @@ corner_vertex mesh v side corner h =
       | inr e ↦ ap (tail_of mesh) e.1 ∙ e.0
     ]
 
-pub corner_in_mesh : {mesh : FaceList} (v : ℕ) {side : Side} (corner : Side) → IsSide mesh side → IsCornerOfSide mesh v side corner
+pub corner_in_mesh : (mesh : FaceList) (v : ℕ) (side corner : Side) → IsSide mesh side → IsCornerOfSide mesh v side corner
     → IsSide mesh corner
-corner_in_mesh {mesh} v {side} corner is h =
+corner_in_mesh mesh v side corner is h =
     elim h [
       | inl e ↦ subst (IsSide mesh) (sym e.1) is
       | inr e ↦ subst (IsSide mesh) (sym e.1) (after_in_mesh mesh side is)
@@ -71,8 +71,8 @@ one_corner {mesh} v {side} corner other valid is h k =
       ]
     ]
 
-pub partners_swap : {mesh : FaceList} {side other : Side} → ArePartners mesh side other → ArePartners mesh other side
-partners_swap h = record {
+pub partners_swap : (mesh : FaceList) (side other : Side) → ArePartners mesh side other → ArePartners mesh other side
+partners_swap mesh side other h = record {
   first = h.second;
   second = h.first;
   different = λ same. h.different (sym same);
@@ -84,19 +84,19 @@ pub corner_end : (mesh : FaceList) (v : ℕ) (side corner : Side) → IsCornerOf
 corner_end mesh v side corner h = elim h [ inl e ↦ inl e.0 | inr e ↦ inr e.0 ]
 
 -- two sides of one edge have corners across
-pub corners_there : {mesh : FaceList} {side partner : Side} → ArePartners mesh side partner
+pub corners_there : (mesh : FaceList) (side partner : Side) → ArePartners mesh side partner
     → (first : Side) × (last : Side) × AreCornersAcross mesh side partner first last
-corners_there {mesh} {partner} partners =
+corners_there mesh side partner partners =
     elim partners.one_edge [
       | inl e ↦ (partner, side_after mesh partner, record { at_start = inl (sym e.0, refl); at_end = inr (sym e.1, refl) })
       | inr e ↦ (side_after mesh partner, partner, record { at_start = inr (sym e.0, refl); at_end = inl (sym e.1, refl) })
     ]
 
 -- what holds of the two corners at either end of an edge holds of any two corners of its sides at one vertex
-pub each_across : {mesh : FaceList} {side partner first last : Side} → IsFaceList mesh → ArePartners mesh side partner
+pub each_across : (mesh : FaceList) (side partner first last : Side) → IsFaceList mesh → ArePartners mesh side partner
     → AreCornersAcross mesh side partner first last → (P : Side → Side → Type 0) → P side first → P (side_after mesh side) last
     → (v : ℕ) (corner other : Side) → IsCornerOfSide mesh v side corner → IsCornerOfSide mesh v partner other → P corner other
-each_across {mesh} {side} {partner} {first} {last} valid partners h P start end v corner other from to =
+each_across mesh side partner first last valid partners h P start end v corner other from to =
     let same : (u : ℕ) (c : Side) → u ≡ v → IsCornerOfSide mesh u partner c → c ≡ other =
     λ u c at is. one_corner v c other valid partners.second (subst (λ w. IsCornerOfSide mesh w partner c) at is) to in
     elim from [
@@ -105,10 +105,10 @@ each_across {mesh} {side} {partner} {first} {last} valid partners h P start end 
     ]
 
 -- the step across the edge of two partners
-pub step_across : {mesh : FaceList} (v : ℕ) {side partner : Side} (corner other : Side) → ArePartners mesh side partner
+pub step_across : (mesh : FaceList) (v : ℕ) (side partner corner other : Side) → ArePartners mesh side partner
     → IsCornerOfSide mesh v side corner → IsCornerOfSide mesh v partner other
     → IsCornerStep mesh corner other
-step_across {mesh} v {side} {partner} corner other h from to =
+step_across mesh v side partner corner other h from to =
     subst (λ w. IsStepAround mesh w corner other) (sym (corner_vertex mesh v side corner from))
     (record { side = side; partner = partner; partners = h; from = from; to = to })
 
@@ -143,9 +143,9 @@ same_from_one_ring {mesh} rings {v} {corner} {other} h ring is_corner is_other =
     (λ x y step. h.steps x y (subst (λ w. IsStepAround mesh w x y) (sym (corner_vertex mesh v step.side x step.from)) step)) corner
     joined.0 other joined.1
 
-pub corner_used : {mesh : FaceList} {v : ℕ} {corner : Side} → IsCornerAt mesh v corner → is_used mesh v ≡ true
+pub corner_used : (mesh : FaceList) (v : ℕ) (corner : Side) → IsCornerAt mesh v corner → is_used mesh v ≡ true
 unfolding is_used
-corner_used {mesh} {v} {corner} h =
+corner_used mesh v corner h =
     list_any_at (λ (face : List ℕ). list_any (λ c. eqb c v) face) mesh.faces corner.face.0 [] h.side.face
     (list_any_at (λ c. eqb c v) (face_at mesh corner.face.0) corner.at 0 h.side.place (eq-eqb (tail_of mesh corner) v h.vertex))
 
@@ -164,5 +164,5 @@ used_corner mesh v is =
       record { side = record { face = face.2; place = place }; vertex = vertex },
     )
 
-pub corner_below : {mesh : FaceList} {side : Side} → IsFaceList mesh → IsSide mesh side → tail_of mesh side < mesh.count
-corner_below {side} valid h = (valid.faces side.face.0 [] h.face).in_range side.at 0 h.place
+pub corner_below : (mesh : FaceList) (side : Side) → IsFaceList mesh → IsSide mesh side → tail_of mesh side < mesh.count
+corner_below mesh side valid h = (valid.faces side.face.0 [] h.face).in_range side.at 0 h.place

@@ -1,5 +1,5 @@
 -- Edges of a mesh, by its table.
-use Rattle.connectivity.proofs.Common.{◌≡◌, ◌≢◌, ◌⊎◌, inl, inr, ℕ, ◌<◌, ◌≤◌, true, List, length, sym, ◌∙◌, subst, arith, nat_tests, Any-from_list_any, list_any-from_Any, ends_differ, IsWholeSide, whole_side, table_pair, sides_of_edge, joins_swap, IsSide, tail_of, head_of, Edge, IsTableOf, side_name, edge_in, FaceList, FaceSide, IsFaceList, all_sides, joins, is_edge, is_used, Side}
+use Rattle.connectivity.proofs.Common.{◌≡◌, ◌≢◌, ◌⊎◌, inl, inr, ℕ, ◌<◌, ◌≤◌, true, List, length, sym, ◌∙◌, subst, arith, nat_tests, Any-from_list_any, list_any-from_Any, ends_differ, IsWholeSide, whole_side, table_pair, sides_of_edge, joins_swap, IsSide, side_after, tail_of, head_of, Edge, IsTableOf, side_name, edge_in, FaceList, FaceSide, IsFaceList, all_sides, joins, is_edge, is_used, Side}
 pub use Rattle.surf_model.proofs.EdgeLemmas.{used_below}
 use Rattle.connectivity.proofs.CornerLemmas.{after_in_mesh, corner_used}
 use Rattle.connectivity.specs.Joined.{NoEdgeHasThreeSides}
@@ -38,8 +38,9 @@ pub edge_used : (mesh : FaceList) (u v : ℕ) → is_edge mesh u v ≡ true → 
 edge_used mesh u v is =
     let found : HasSideBetween mesh u v = side_between mesh u v is in
     elim found.ends [
-      | inl e ↦ corner_used (record { side = after_in_mesh mesh found.side found.in_mesh; vertex = e.1 })
-      | inr e ↦ corner_used (record { side = found.in_mesh; vertex = e.0 })
+      | inl e ↦ corner_used mesh v (side_after mesh found.side)
+          (record { side = after_in_mesh mesh found.side found.in_mesh; vertex = e.1 })
+      | inr e ↦ corner_used mesh v found.side (record { side = found.in_mesh; vertex = e.0 })
     ]
 
 pub edge_differs : (mesh : FaceList) (u v : ℕ) → IsFaceList mesh → is_edge mesh u v ≡ true → u ≢ v

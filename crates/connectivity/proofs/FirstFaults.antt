@@ -56,8 +56,8 @@ equal_pairs a b c d not_less not_more =
     let first : a ≡ c = equal a c (λ less. not_less (inl less)) (λ more. not_more (inl more)) in
     (first, equal b d (λ less. not_less (inr (first, less))) (λ more. not_more (inr (sym first, more))))
 
-pub one_pinch : {mesh : FaceList} {v w : ℕ} → IsLeastPinch mesh v → IsLeastPinch mesh w → v ≡ w
-one_pinch {v} {w} h k = equal v w (λ less. h.pinched (k.least v less h.used)) (λ more. k.pinched (h.least w more k.used))
+pub one_pinch : (mesh : FaceList) (v w : ℕ) → IsLeastPinch mesh v → IsLeastPinch mesh w → v ≡ w
+one_pinch mesh v w h k = equal v w (λ less. h.pinched (k.least v less h.used)) (λ more. k.pinched (h.least w more k.used))
 
 -- a check that tells a first fault, or that memory is wanting: of what is good it tells none, and of what is at fault it tells no other
 module _ {F : Type 0} (IsGood : Type 0) (IsFirst : F → Type 0) (none : F) (no_fault : (fault : F) → IsGood → IsFirst fault → ⊥) where

@@ -102,10 +102,10 @@ either_way holds p q at_p at_q = (
     lesser = grind arith
 
 -- entries are below the length, and their own
-pub entries_own : {least : List ℕ} (x y : ℕ) → AreLeastMembers least → x < length least → y < length least
+pub entries_own : (least : List ℕ) (x y : ℕ) → AreLeastMembers least → x < length least → y < length least
     → ((high_at least x y < length least) × (get_or least (high_at least x y) 0 ≡ high_at least x y))
     × ((low_at least x y < length least) × (get_or least (low_at least x y) 0 ≡ low_at least x y))
-entries_own {least} x y h l k =
+entries_own least x y h l k =
     either_way (λ r. (r < length least) × (get_or least r 0 ≡ r)) (get_or least x 0) (get_or least y 0)
     (omega (arith, h.lesser x l, l), h.itself x l) (omega (arith, h.lesser y k, k), h.itself y k)
 
@@ -119,9 +119,9 @@ least_range n =
     }
 
 -- the list stays one of least members
-pub least_joined_at : {least : List ℕ} (x y : ℕ) → AreLeastMembers least → x < length least → y < length least
+pub least_joined_at : (least : List ℕ) (x y : ℕ) → AreLeastMembers least → x < length least → y < length least
     → AreLeastMembers (joined_at least x y)
-least_joined_at {least} x y h l k = record {
+least_joined_at least x y h l k = record {
   lesser = λ z m. elim (cases_eq (get_or least z 0) high) [
     | inl is ↦ omega (arith, joined_at_high least x y z (few z m) is, is, h.lesser z (few z m))
     | inr ne ↦ omega (arith, joined_at_other least x y z (few z m) ne, h.lesser z (few z m))
@@ -152,7 +152,7 @@ least_joined_at {least} x y h l k = record {
     few z m = omega (arith, m, length-joined_at least x y)
 
     own : ((high < length least) × (get_or least high 0 ≡ high)) × ((low < length least) × (get_or least low 0 ≡ low))
-    own = entries_own x y h l k
+    own = entries_own least x y h l k
 
     low_stays : get_or new low 0 ≡ low
     low_stays = elim (cases_eq (get_or least low 0) high) [
@@ -161,10 +161,10 @@ least_joined_at {least} x y h l k = record {
     ]
 
 -- where the two were in two classes, the greater entry is its own no longer, and each other number is its own just where it was
-pub high_gone : {least : List ℕ} (x y : ℕ) → AreLeastMembers least → x < length least → y < length least
+pub high_gone : (least : List ℕ) (x y : ℕ) → AreLeastMembers least → x < length least → y < length least
     → get_or least x 0 ≢ get_or least y 0 → get_or (joined_at least x y) (high_at least x y) 0 ≢ high_at least x y
-high_gone {least} x y h l k apart e =
-    let own = entries_own x y h l k in
+high_gone least x y h l k apart e =
+    let own = entries_own least x y h l k in
     let here : get_or (joined_at least x y) (high_at least x y) 0 ≡ low_at least x y =
     joined_at_high least x y (high_at least x y) own.0.0 own.0.1 in
     apart (low_is_high (get_or least x 0) (get_or least y 0) (sym here ∙ e))
@@ -172,11 +172,11 @@ high_gone {least} x y h l k apart e =
     low_is_high : (p q : ℕ) → min p q ≡ max p q → p ≡ q
     low_is_high p q same = grind arith
 
-pub others_own : {least : List ℕ} (x y v : ℕ) → AreLeastMembers least → x < length least → y < length least → v < length least
+pub others_own : (least : List ℕ) (x y v : ℕ) → AreLeastMembers least → x < length least → y < length least → v < length least
     → v ≢ high_at least x y
     → (get_or least v 0 ≡ v → get_or (joined_at least x y) v 0 ≡ v) × (get_or (joined_at least x y) v 0 ≡ v → get_or least v 0 ≡ v)
-others_own {least} x y v h l k m ne =
-    let own = entries_own x y h l k in (
+others_own least x y v h l k m ne =
+    let own = entries_own least x y h l k in (
       λ is. joined_at_other least x y v m (λ e. ne (sym is ∙ e)) ∙ is,
       λ is. elim (cases_eq (get_or least v 0) (high_at least x y)) [
         | inl high ↦

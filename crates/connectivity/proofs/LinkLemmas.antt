@@ -186,7 +186,7 @@ pinch_found {mesh} {rings} links (Some vertex) valid count h members are some no
     let two : HasTwoLeast mesh rings (total_sides mesh) v =
     subst (IsTrueLink mesh rings (total_sides mesh) v) some.pinched (are.true_ones v (omega (arith, some.within, are.count))) in
     record {
-      used = corner_used two.is_first.at_vertex;
+      used = corner_used mesh v two.first two.is_first.at_vertex;
       pinched = two_rings_pinched h two;
       least = λ w less used. one_ring_by_link mesh links w count h members are (used_below mesh w valid used) (some.first w less);
     }

@@ -70,7 +70,7 @@ partner_at {mesh} {table} {k} {i} {side} h two =
           (let here : second ≡ side = ap (λ j. get_or sides j side) (sym e.0) ∙ h.here in
           record {
             partner = first;
-            partners = partners_swap (subst (ArePartners mesh first) here pair);
+            partners = partners_swap mesh first side (subst (ArePartners mesh first) here pair);
             number = ap (λ j. side_number mesh (get_or sides j side)) (sym e.1);
             only = λ other partners. elim (one_of other partners) [
               | inl is ↦ sym is
@@ -92,11 +92,11 @@ only_one sides i side other one l here has =
     ∙ ap (λ j. get_or sides j other) (sym place) ∙ has.2
 
 -- the next side of an edge of at most two is the partner, or the side itself where there is none
-pub partner_or_alone : {mesh : FaceList} {table : List Edge} {side : Side} {dart next : ℕ} → IsTableOf mesh table
+pub partner_or_alone : (mesh : FaceList) (table : List Edge) (side : Side) (dart next : ℕ) → IsTableOf mesh table
     → NoEdgeHasThreeSides mesh → IsSide mesh side
     → dart ≡ side_number mesh side → IsNextInEdge mesh table dart next
     → HasPartner mesh side next ⊎ ((next ≡ dart) × IsAlone mesh side)
-partner_or_alone {mesh} {table} {side} {dart} {next} is each in_mesh number h =
+partner_or_alone mesh table side dart next is each in_mesh number h =
     let edge : Edge = edge_in table h.edge in
     let sides : List Side = edge.sides in
     let size : length (map (side_number mesh) sides) ≡ length sides = length-map sides (side_number mesh) in
@@ -131,17 +131,17 @@ partner_or_alone {mesh} {table} {side} {dart} {next} is each in_mesh number h =
     turned_of_one m i one l = grind (arith, nat_tests)
 
 -- a side that stands alone in its edge has no partner
-pub alone_in_edge : {mesh : FaceList} {table : List Edge} (k : ℕ) (side : Side) → IsTableOf mesh table → k < length table
+pub alone_in_edge : (mesh : FaceList) (table : List Edge) (k : ℕ) (side : Side) → IsTableOf mesh table → k < length table
     → length (edge_in table k).sides ≡ 1 → get_or (edge_in table k).sides 0 side ≡ side → IsAlone mesh side
-alone_in_edge {table} k side h l one here other partners =
+alone_in_edge mesh table k side h l one here other partners =
     let few : 0 < length (edge_in table k).sides = omega arith in
     partners.different (only_one (edge_in table k).sides 0 side other one few here
     (partner_in_edge (record { table_of = h; in_table = l; in_edge = few; here = here }) partners))
 
 -- the partner of a side's partner is the side
-pub partner_back : {mesh : FaceList} {side partner other : Side} {n : ℕ} → HasPartner mesh side n → ArePartners mesh side partner
+pub partner_back : (mesh : FaceList) (side partner other : Side) (n : ℕ) → HasPartner mesh side n → ArePartners mesh side partner
     → ArePartners mesh partner other → other ≡ side
-partner_back {mesh} {side} {partner} {other} found one two =
+partner_back mesh side partner other n found one two =
     elim (cases_eq (side_number mesh other) (side_number mesh side)) [
       | inl same ↦ number_once mesh other side two.second one.first same
       | inr apart ↦
@@ -160,13 +160,13 @@ partner_back {mesh} {side} {partner} {other} found one two =
         → ((a ≡ e) × (b ≡ f)) ⊎ ((a ≡ f) × (b ≡ e))
     ends_through a b c d e f first second = grind arith
 
-pub partner_below : {mesh : FaceList} {side : Side} {n : ℕ} → HasPartner mesh side n → n < total_sides mesh
-partner_below {mesh} h = omega (arith, h.number, number_below mesh h.partner h.partners.second)
+pub partner_below : (mesh : FaceList) (side : Side) (n : ℕ) → HasPartner mesh side n → n < total_sides mesh
+partner_below mesh side n h = omega (arith, h.number, number_below mesh h.partner h.partners.second)
 
 -- the side with the number of the partner is the partner
-pub partners_by_number : {mesh : FaceList} {side other : Side} {n : ℕ} → HasPartner mesh side n → IsSide mesh other
+pub partners_by_number : (mesh : FaceList) (side other : Side) (n : ℕ) → HasPartner mesh side n → IsSide mesh other
     → side_number mesh other ≡ n → ArePartners mesh side other
-partners_by_number {mesh} {side} {other} h is number =
+partners_by_number mesh side other n h is number =
     subst (ArePartners mesh side) (number_once mesh h.partner other h.partners.second is (h.number ∙ sym number)) h.partners
 
 -- the classes before and after two corners are made one class
@@ -181,19 +181,19 @@ made_one : {mesh : FaceList} (least : List ℕ) (v : ℕ) {side partner : Side} 
     → ArePartners mesh side partner
     → IsCornerOfSide mesh v side corner → IsCornerOfSide mesh v partner other
     → AreMadeOne mesh least (joined_at least (side_number mesh corner) (side_number mesh other)) corner other
-made_one {mesh} least v corner other count partners from to =
+made_one {mesh} least v {side} {partner} corner other count partners from to =
     let a : ℕ = side_number mesh corner in
     let b : ℕ = side_number mesh other in
-    let is_a : IsSide mesh corner = corner_in_mesh v corner partners.first from in
-    let is_b : IsSide mesh other = corner_in_mesh v other partners.second to in
+    let is_a : IsSide mesh corner = corner_in_mesh mesh v side corner partners.first from in
+    let is_b : IsSide mesh other = corner_in_mesh mesh v partner other partners.second to in
     record {
       count = length-joined_at least a b ∙ count;
       same = joined_at_ends least a b (omega (arith, count, number_below mesh corner is_a))
           (omega (arith, count, number_below mesh other is_b));
       kept = λ x y l k. joined_at_keeps least a b x y l k;
       steps = λ h. joins_only-joined_at (IsSide mesh) (side_number mesh) (IsCornerStep mesh) least corner other h
-          (λ x is. omega (arith, count, number_below mesh x is)) is_a is_b (step_across v corner other partners from to)
-          (step_across v other corner (partners_swap partners) to from);
+          (λ x is. omega (arith, count, number_below mesh x is)) is_a is_b (step_across mesh v side partner corner other partners from to)
+          (step_across mesh v partner side other corner (partners_swap mesh side partner partners) to from);
     }
 
 -- so it is once the corners of a side have been joined with those of its partner
@@ -202,7 +202,7 @@ made_joined : {mesh : FaceList} (least : List ℕ) {side partner first last : Si
     → AreMadeJoined mesh least
     (joined_at (joined_at least (side_number mesh side) (side_number mesh first)) (side_number mesh (side_after mesh side))
     (side_number mesh last)) side partner
-made_joined {mesh} least {side} {first} {last} valid count partners h =
+made_joined {mesh} least {side} {partner} {first} {last} valid count partners h =
     let once : List ℕ = joined_at least (side_number mesh side) (side_number mesh first) in
     let twice : List ℕ = joined_at once (side_number mesh (side_after mesh side)) (side_number mesh last) in
     let start : AreMadeOne mesh least once side first =
@@ -213,10 +213,10 @@ made_joined {mesh} least {side} {first} {last} valid count partners h =
     λ s is. omega (arith, start.count, number_below mesh s is) in
     let start_same : get_or twice (side_number mesh side) 0 ≡ get_or twice (side_number mesh first) 0 =
     end.kept (side_number mesh side) (side_number mesh first) (below side partners.first)
-    (below first (corner_in_mesh (tail_of mesh side) first partners.second h.at_start)) start.same in
+    (below first (corner_in_mesh mesh (tail_of mesh side) partner first partners.second h.at_start)) start.same in
     record {
       count = end.count;
-      joined = each_across valid partners h
+      joined = each_across mesh side partner first last valid partners h
           (λ corner other. get_or twice (side_number mesh corner) 0 ≡ get_or twice (side_number mesh other) 0) start_same end.same;
       kept = λ x y l k same.
           end.kept x y (omega (arith, start.count, count, l)) (omega (arith, start.count, count, k)) (start.kept x y l k same);
@@ -263,10 +263,10 @@ joined_swap mesh least side partner h = λ v corner other from to. sym (h v othe
 joined_stays : {mesh : FaceList} (old new : List ℕ) {side partner : Side} → length old ≡ total_sides mesh → KeepsJoined old new
     → ArePartners mesh side partner
     → IsJoinedAcross mesh old side partner → IsJoinedAcross mesh new side partner
-joined_stays {mesh} old new count kept partners h v corner other from to =
+joined_stays {mesh} old new {side} {partner} count kept partners h v corner other from to =
     kept (side_number mesh corner) (side_number mesh other)
-    (omega (arith, count, number_below mesh corner (corner_in_mesh v corner partners.first from)))
-    (omega (arith, count, number_below mesh other (corner_in_mesh v other partners.second to))) (h v corner other from to)
+    (omega (arith, count, number_below mesh corner (corner_in_mesh mesh v side corner partners.first from)))
+    (omega (arith, count, number_below mesh other (corner_in_mesh mesh v partner other partners.second to))) (h v corner other from to)
 
 -- the side with number n is passed, and is joined with its partner where that has been passed before
 sides_more : {mesh : FaceList} {old : List ℕ} (new : List ℕ) {side : Side} {n : ℕ} → IsSide mesh side → n ≡ side_number mesh side
@@ -295,7 +295,7 @@ sides_more {mesh} {old} new {side} {n} is number h count kept joined here =
           | inl f ↦
               (let same : side ≡ other = number_once mesh side other is partners.second (sym number ∙ sym f) in
               joined_swap mesh new other one (subst (λ s. IsJoinedAcross mesh new s one) same
-              (at_side one (subst (λ s. ArePartners mesh s one) (sym same) (partners_swap partners)) l)))
+              (at_side one (subst (λ s. ArePartners mesh s one) (sym same) (partners_swap mesh one other partners)) l)))
           | inr f ↦ joined_stays old new h.count kept partners (h.done one other partners (omega (arith, l, e)) (omega (arith, k, f)))
         ]
       ];

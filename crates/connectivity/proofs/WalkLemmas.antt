@@ -85,9 +85,9 @@ same_from_walk mesh least u v h walk =
     let joined : AreJoined (IsEdgeStep mesh) u v = joined_from_walk mesh u v walk in
     joined_keep (IsEdgeStep mesh) (λ x. get_or least x 0) h.steps u joined.0 v joined.1
 
-pub walk_from_same : {mesh : FaceList} (least : List ℕ) (u v : ℕ) → IsFaceList mesh → AreComponents mesh least
+pub walk_from_same : (mesh : FaceList) (least : List ℕ) (u v : ℕ) → IsFaceList mesh → AreComponents mesh least
     → is_used mesh u ≡ true → is_used mesh v ≡ true → get_or least u 0 ≡ get_or least v 0 → AreJoinedByWalk mesh u v
-walk_from_same {mesh} least u v valid parts used_u used_v same =
+walk_from_same mesh least u v valid parts used_u used_v same =
     walk_from_joined mesh u v used_u (parts.joined u v (used_below mesh u valid used_u) (used_below mesh v valid used_v) same)
 
 pub least_apart : {mesh : FaceList} {least : List ℕ} {u v : ℕ} → IsFaceList mesh → AreComponents mesh least
@@ -96,11 +96,11 @@ least_apart {mesh} {least} {u} {v} valid parts first other = record {
   vertex = first;
   used = other.used;
   apart = λ walk. other.elsewhere (sym (same_from_walk mesh least u v parts walk));
-  least = λ w less used. walk_from_same least u w valid parts first.used used (sym (other.first w less used));
+  least = λ w less used. walk_from_same mesh least u w valid parts first.used used (sym (other.first w less used));
 }
 
 pub all_joined : {mesh : FaceList} (least : List ℕ) (u : ℕ) → IsFaceList mesh → AreComponents mesh least
     → ((v : ℕ) → v < mesh.count → is_used mesh v ≡ true → get_or least v 0 ≡ get_or least u 0) → EachTwoAreJoined mesh
 all_joined {mesh} least u valid parts same v w used_v used_w =
-    walk_from_same least v w valid parts used_v used_w (same v (used_below mesh v valid used_v) used_v
+    walk_from_same mesh least v w valid parts used_v used_w (same v (used_below mesh v valid used_v) used_v
     ∙ sym (same w (used_below mesh w valid used_w) used_w))

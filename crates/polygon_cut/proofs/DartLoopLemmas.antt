@@ -1,6 +1,6 @@
 -- The loops of a surface's darts, up to any congruence of walks: down the tree to the dart, along it, and up again. Twins have inverse
 -- loops, tree darts have none, and a leftover dart but the last side has the loops of two spokes.
-use Rattle.polygon_cut.proofs.Common.{edge_of_dart, step_first, rotation_system, names_all, darts_of, next_of, twin_of, origin_of, edge_of, after_steps, OrientedMesh, IsOrientedSurface, rotations_of, IsRotationSystem, IsDartFrom, ◌≡◌, ◌≢◌, ◌⊎◌, inl, inr, ℕ, zero, suc, ◌+◌, ◌-◌, ◌<◌, ◌≤◌, List, true, [], ◌∷◌, ◌++◌, refl, ap, sym, ◌∙◌, subst, arith, cases_lt, nat_tests, IsTrue, is_edge, SplitView, IsSplit, in_tree, is_left}
+use Rattle.polygon_cut.proofs.Common.{edge_of_dart, step_first, rotation_system, names_all, darts_of, next_of, twin_of, origin_of, edge_of, after_steps, OrientedMesh, IsOrientedSurface, rotations_of, IsRotationSystem, IsDartFrom, ◌≡◌, ◌≢◌, ◌⊎◌, inl, inr, ℕ, zero, suc, ◌+◌, ◌-◌, ◌<◌, ◌≤◌, List, true, not, [], ◌∷◌, ◌++◌, refl, ap, sym, ◌∙◌, subst, arith, cases_lt, nat_tests, IsTrue, is_edge, after_dart, SplitView, IsSplit, in_tree, in_cotree, is_left}
 use Rattle.polygon_cut.specs.Polygons.{PolygonView, IsCutFrom, side_at, label_of, one_up}
 use Rattle.polygon_cut.proofs.GroupLemmas.{IsGroup, quotient, one_step}
 use Rattle.polygon_cut.proofs.WayLemmas.{IsWay, back, way_home, Loop, loop_mul, loop_inv, loop_one, HasWays, loop_of}
@@ -43,7 +43,7 @@ ends_on {s} o (suc k) d l =
 unfoldable pub pick_value : (s : OrientedMesh) (split : SplitView) → IsOrientedSurface s → (t : IsSplit s split) → (d : ℕ)
     → (d < darts_of s) ⊎ (darts_of s ≤ d) → Loops s split t
 pick_value s split o t d (inl l) =
-    loop_of s.mesh t.parents.root (up s split t) (tree_ways o t) (origin_of s d) (origin_of s (twin_of s d))
+    loop_of s.mesh t.parents.root (up s split t) (tree_ways s split o t) (origin_of s d) (origin_of s (twin_of s d))
     (origin_of s (twin_of s d) ∷ []) (dart_way o d l)
 pick_value s split o t d (inr _) = one_of s split t
 
@@ -67,7 +67,7 @@ module _ {s : OrientedMesh} {Same : List ℕ → List ℕ → Type 0} (congruenc
 
   -- the value of a dart from u to w
   pub value_along : (u w d : ℕ) → IsDartFrom (rotations_of s) u w d → (way : IsWay s.mesh u w (w ∷ []))
-      → SameLoops Same (value s split o t d) (loop_of s.mesh t.parents.root (up s split t) (tree_ways o t) u w (w ∷ []) way)
+      → SameLoops Same (value s split o t d) (loop_of s.mesh t.parents.root (up s split t) (tree_ways s split o t) u w (w ∷ []) way)
   unfolding pick_value
   value_along u w d is way = go (cases_lt d (darts_of s))
     where
@@ -84,7 +84,7 @@ module _ {s : OrientedMesh} {Same : List ℕ → List ℕ → Type 0} (congruenc
   pub value_of_twin : (d : ℕ) → d < darts_of s → SameLoops Same (value s split o t (twin_of s d)) (loop_inv (value s split o t d))
   value_of_twin d l =
       let r : IsRotationSystem (rotations_of s) = rotation_system s o in
-      let ways : HasWays s.mesh t.parents.root (up s split t) = tree_ways o t in
+      let ways : HasWays s.mesh t.parents.root (up s split t) = tree_ways s split o t in
       let u : ℕ = origin_of s d in
       let w : ℕ = origin_of s (twin_of s d) in
       let twin : IsDartFrom (rotations_of s) w u (twin_of s d) =
@@ -100,7 +100,7 @@ module _ {s : OrientedMesh} {Same : List ℕ → List ℕ → Type 0} (congruenc
   pub value_of_tree : (d : ℕ) → d < darts_of s → in_tree split (edge_of s d) ≡ true
       → SameLoops Same (value s split o t d) (one_of s split t)
   value_of_tree d l is =
-      let ways : HasWays s.mesh t.parents.root (up s split t) = tree_ways o t in
+      let ways : HasWays s.mesh t.parents.root (up s split t) = tree_ways s split o t in
       let u : ℕ = origin_of s d in
       let w : ℕ = origin_of s (twin_of s d) in
       let there : IsWay s.mesh u w (w ∷ []) = dart_way o d l in
@@ -118,12 +118,12 @@ module _ {s : OrientedMesh} {Same : List ℕ → List ℕ → Type 0} (congruenc
 
   -- k darts round a face are the product of their values
   pub round_is : (k d : ℕ) → d < darts_of s → (v : ℕ) (way : IsWay s.mesh (origin_of s d) v (vertices_on s k d))
-      → SameLoops Same (loop_of s.mesh t.parents.root (up s split t) (tree_ways o t) (origin_of s d) v (vertices_on s k d) way)
+      → SameLoops Same (loop_of s.mesh t.parents.root (up s split t) (tree_ways s split o t) (origin_of s d) v (vertices_on s k d) way)
       (round loop_mul (one_of s split t) (value s split o t) (next_of s) k d)
-  round_is zero d l v way = no_dart congruence (tree_ways o t) (origin_of s d) v way
+  round_is zero d l v way = no_dart congruence (tree_ways s split o t) (origin_of s d) v way
   round_is (suc k) d l v way =
       let r : IsRotationSystem (rotations_of s) = rotation_system s o in
-      let ways : HasWays s.mesh t.parents.root (up s split t) = tree_ways o t in
+      let ways : HasWays s.mesh t.parents.root (up s split t) = tree_ways s split o t in
       let u : ℕ = origin_of s d in
       let w : ℕ = origin_of s (next_of s d) in
       let on_in : next_of s d < darts_of s = r.next_within d l in
@@ -145,7 +145,9 @@ module _ {s : OrientedMesh} {Same : List ℕ → List ℕ → Type 0} (congruenc
       let S : ℕ → Loops s split t = spoke s split o t polygon in
       let i : ℕ = label_of polygon d in
       let i_in : i < polygon.degree = (c.labels some).label_below d l in
-      let own : side_at polygon i ≡ d = is_own_side (c.labels some) d l is in
+      let own : side_at polygon i ≡ d =
+      is_own_side (rotations_of s) (after_dart (rotations_of s) (λ e. not (in_cotree split e))) (is_left split) polygon (c.labels some) d l
+      is in
       let not_last : i + 1 ≢ polygon.degree =
       λ e. other (sym own ∙ ap (side_at polygon) (let last : i ≡ polygon.degree - 1 = omega arith in last)) in
       let next_label : label_of polygon (next_of s d) ≡ suc i =

@@ -27,10 +27,10 @@ root_is s split o t root ups h = by (ups t.parents.root) (h t.parents.root t.par
     by [] p = p
     by (w ∷ path) p = absurd ((parents_upward s split o t).top w p.0)
 
-pub up_is : {s : OrientedMesh} {split : SplitView} → IsOrientedSurface s → (t : IsSplit s split) → (ups : ℕ → List ℕ)
+pub up_is : (s : OrientedMesh) (split : SplitView) → IsOrientedSurface s → (t : IsSplit s split) → (ups : ℕ → List ℕ)
     → AreWaysUp s split t.parents.root ups → (v : ℕ) → is_used s.mesh v ≡ true
     → ups v ≡ up s split t v
-up_is {s} {split} o t ups h v used = one_path o t v (ups v) (up s split t v) (h v used) (up_path t v used)
+up_is s split o t ups h v used = one_path s split o t v (ups v) (up s split t v) (h v used) (up_path s split t v used)
 
 pub backward_is : (u : ℕ) (rest : List ℕ) → backward u rest ≡ back u rest
 backward_is u [] = refl
@@ -47,22 +47,22 @@ value_list {s} {split} o t d l = go (cases_lt d (darts_of s))
     go (inl k) = refl
     go (inr k) = absurd (omega arith)
 
-pub loop_list : {s : OrientedMesh} {split : SplitView} (o : IsOrientedSurface s) (t : IsSplit s split) (ups : ℕ → List ℕ)
+pub loop_list : (s : OrientedMesh) (split : SplitView) (o : IsOrientedSurface s) (t : IsSplit s split) (ups : ℕ → List ℕ)
     → AreWaysUp s split t.parents.root ups → (d : ℕ) → d < darts_of s
     → dart_loop s ups d ≡ (value s split o t d).rest
-loop_list {s} {split} o t ups h d l =
+loop_list s split o t ups h d l =
     let u : ℕ = origin_of s d in
     let w : ℕ = origin_of s (twin_of s d) in
-    let u_up : ups u ≡ up s split t u = up_is o t ups h u ((names_all s o).vertex_used d l) in
+    let u_up : ups u ≡ up s split t u = up_is s split o t ups h u ((names_all s o).vertex_used d l) in
     let w_up : ups w ≡ up s split t w =
-    up_is o t ups h w ((names_all s o).vertex_used (twin_of s d) ((rotation_system s o).twin_within d l)) in
+    up_is s split o t ups h w ((names_all s o).vertex_used (twin_of s d) ((rotation_system s o).twin_within d l)) in
     ap (λ (l : List ℕ). l ++ w ∷ ups w) (backward_is u (ups u)) ∙ ap (λ (x : List ℕ). back u x ++ w ∷ ups w) u_up
     ∙ ap (λ (x : List ℕ). back u (up s split t u) ++ w ∷ x) w_up ∙ value_list o t d l
 
 -- each number names a dart
-pub side_in : {s : OrientedMesh} {split : SplitView} {polygon : PolygonView} → IsCutFrom s split polygon → 0 < polygon.degree → (i : ℕ)
+pub side_in : (s : OrientedMesh) (split : SplitView) (polygon : PolygonView) → IsCutFrom s split polygon → 0 < polygon.degree → (i : ℕ)
     → side_at polygon i < darts_of s
-side_in {s} {polygon} c some i = elim (cases_lt i polygon.degree) [
+side_in s split polygon c some i = elim (cases_lt i polygon.degree) [
   | inl less ↦ ((c.labels some).side_is_left i less).0
   | inr more ↦
       let first : side_at polygon 0 < darts_of s = ((c.labels some).side_is_left 0 some).0 in
@@ -70,18 +70,18 @@ side_in {s} {polygon} c some i = elim (cases_lt i polygon.degree) [
       omega (arith, none, first)
 ]
 
-pub spoke_list : {s : OrientedMesh} {split : SplitView} (o : IsOrientedSurface s) (t : IsSplit s split) {polygon : PolygonView}
+pub spoke_list : (s : OrientedMesh) (split : SplitView) (o : IsOrientedSurface s) (t : IsSplit s split) (polygon : PolygonView)
     → IsCutFrom s split polygon → 0 < polygon.degree
     → (ups : ℕ → List ℕ) → AreWaysUp s split t.parents.root ups → (i : ℕ)
     → spoke_loop s polygon t.parents.root ups i ≡ (spoke s split o t polygon i).rest
 unfolding spoke
-spoke_list o t c some ups h zero = refl
-spoke_list {s} {split} o t {polygon} c some ups h (suc i) =
+spoke_list s split o t polygon c some ups h zero = refl
+spoke_list s split o t polygon c some ups h (suc i) =
     let root : ℕ = t.parents.root in
     let d : ℕ = side_at polygon i in
     ap (λ (x : List ℕ). x ++ spoke_loop s polygon root ups i) (backward_is root (dart_loop s ups d)
-    ∙ ap (back root) (loop_list o t ups h d (side_in c some i)))
-    ∙ ap (λ (x : List ℕ). back root (value s split o t d).rest ++ x) (spoke_list o t c some ups h i)
+    ∙ ap (back root) (loop_list s split o t ups h d (side_in s split polygon c some i)))
+    ∙ ap (λ (x : List ℕ). back root (value s split o t d).rest ++ x) (spoke_list s split o t polygon c some ups h i)
 
 pub path_list : (s : OrientedMesh) (split : SplitView) (o : IsOrientedSurface s) (t : IsSplit s split) (polygon : PolygonView)
     → IsCutFrom s split polygon → 0 < polygon.degree
@@ -91,12 +91,12 @@ pub path_list : (s : OrientedMesh) (split : SplitView) (o : IsOrientedSurface s)
 path_list s split o t polygon c some ups h along [] = refl
 path_list s split o t polygon c some ups h true (i ∷ path) =
     let root : ℕ = t.parents.root in
-    ap (λ (x : List ℕ). x ++ path_loop s polygon root ups false path) (spoke_list o t c some ups h i)
+    ap (λ (x : List ℕ). x ++ path_loop s polygon root ups false path) (spoke_list s split o t polygon c some ups h i)
     ∙ ap (λ (x : List ℕ). (spoke s split o t polygon i).rest ++ x) (path_list s split o t polygon c some ups h false path)
 path_list s split o t polygon c some ups h false (i ∷ path) =
     let root : ℕ = t.parents.root in
     ap (λ (x : List ℕ). x ++ path_loop s polygon root ups true path)
-    (backward_is root (spoke_loop s polygon root ups i) ∙ ap (back root) (spoke_list o t c some ups h i))
+    (backward_is root (spoke_loop s polygon root ups i) ∙ ap (back root) (spoke_list s split o t polygon c some ups h i))
     ∙ ap (λ (x : List ℕ). back root (spoke s split o t polygon i).rest ++ x) (path_list s split o t polygon c some ups h true path)
 
 pub turned_parity : (at_vertex : Bool) (path : List ℕ) → ends_at_vertex (not at_vertex) path ≡ not (ends_at_vertex at_vertex path)
@@ -108,32 +108,32 @@ parity [] = refl
 parity (i ∷ path) = turned_parity true path ∙ ap not (parity path)
 
 -- a walk whose loop is another is that loop, up the tree before and down the tree behind
-pub by_own_loop : {mesh : FaceList} {root : ℕ} {up : ℕ → List ℕ} (ways : HasWays mesh root up) (u v : ℕ) (rest : List ℕ)
+pub by_own_loop : (mesh : FaceList) (root : ℕ) (up : ℕ → List ℕ) (ways : HasWays mesh root up) (u v : ℕ) (rest : List ℕ)
     (h : IsWay mesh u v rest) (loop : Loop mesh root)
     → SameFreely (loop_of mesh root up ways u v rest h) loop → AreFreelyEqual mesh (u ∷ rest) (u ∷ (up u ++ (loop.rest ++ back v (up v))))
-by_own_loop {mesh} ways u v rest h loop same = Congruence.by_own_loop (free_equality mesh) ways u v rest h loop same
+by_own_loop mesh root up ways u v rest h loop same = Congruence.by_own_loop (free_equality mesh) ways u v rest h loop same
 
 -- the same in the words of the laws
 pub by_loop_is : (s : OrientedMesh) (split : SplitView) → IsOrientedSurface s → (t : IsSplit s split) → (ups : ℕ → List ℕ)
     → AreWaysUp s split t.parents.root ups → (u v : ℕ) (loop : List ℕ)
     → is_used s.mesh u ≡ true → is_used s.mesh v ≡ true → by_loop ups u v loop ≡ u ∷ (up s split t u ++ (loop ++ back v (up s split t v)))
 by_loop_is s split o t ups h u v loop u_used v_used =
-    ap (λ (x : List ℕ). u ∷ (x ++ (loop ++ backward v (ups v)))) (up_is o t ups h u u_used)
-    ∙ ap (λ (x : List ℕ). u ∷ (up s split t u ++ (loop ++ x))) (backward_is v (ups v) ∙ ap (back v) (up_is o t ups h v v_used))
+    ap (λ (x : List ℕ). u ∷ (x ++ (loop ++ backward v (ups v)))) (up_is s split o t ups h u u_used)
+    ∙ ap (λ (x : List ℕ). u ∷ (up s split t u ++ (loop ++ x))) (backward_is v (ups v) ∙ ap (back v) (up_is s split o t ups h v v_used))
 
-pub off_walk : {s : OrientedMesh} {split : SplitView} (o : IsOrientedSurface s) (t : IsSplit s split) (polygon : PolygonView) (ups : ℕ
+pub off_walk : (s : OrientedMesh) (split : SplitView) (o : IsOrientedSurface s) (t : IsSplit s split) (polygon : PolygonView) (ups : ℕ
     → List ℕ) → AreWaysUp s split t.parents.root ups
     → (u v : ℕ) (rest : List ℕ) → IsWay s.mesh u v rest → IsOffCotree s split (u ∷ rest) → (loop : Loops s split t)
     → SameFreely (walk_value s split o t polygon (u ∷ rest)) loop → AreFreelyEqual s.mesh (u ∷ rest) (by_loop ups u v loop.rest)
-off_walk {s} {split} o t polygon ups h u v rest way off loop same =
+off_walk s split o t polygon ups h u v rest way off loop same =
     let root : ℕ = t.parents.root in
-    let ways : HasWays s.mesh root (up s split t) = tree_ways o t in
+    let ways : HasWays s.mesh root (up s split t) = tree_ways s split o t in
     let own : Loops s split t = loop_of s.mesh root (up s split t) ways u v rest way in
     let is : SameFreely own loop =
     (free_group s split t).on own (walk_value s split o t polygon (u ∷ rest)) loop (off_cotree o t polygon u v rest way off) same in
     subst (AreFreelyEqual s.mesh (u ∷ rest))
     (sym (by_loop_is s split o t ups h u v loop.rest (start_used s.mesh u v rest way) (end_used s.mesh u v rest way)))
-    (by_own_loop ways u v rest way loop is)
+    (by_own_loop s.mesh root (up s split t) ways u v rest way loop is)
 
 pub path_is : (spokes : ℕ → ℕ → List ℕ) (u : ℕ) (rest : List ℕ) → spokes_along spokes (u ∷ rest) ≡ path_along spokes u rest
 path_is spokes u [] = refl
@@ -179,36 +179,37 @@ led_off s split polygon root ups spokes (u ∷ rest) second moves o t c some h e
         let p : Loops s split t = product (path_along spokes u rest) in
         let worth : SameFreely a p =
         g.on a b p (g.turn b a (moves_keep_value s split o t polygon c some moves (u ∷ rest) (v ∷ others) w keeps k))
-        (path_value o t c some spokes each u (slice_index (u ∷ rest) (length rest)) rest way) in
+        (path_value s split o t polygon c some spokes each u (slice_index (u ∷ rest) (length rest)) rest way) in
         let at_end : length others ≡ length (v ∷ others) - 1 = omega arith in
         subst (λ n. AreFreelyEqual s.mesh (v ∷ others)
         (by_loop ups v (slice_index (v ∷ others) n) (path_loop s polygon root ups true (spokes_along spokes (u ∷ rest))))) at_end
         (subst (λ (x : List ℕ). AreFreelyEqual s.mesh (v ∷ others) (by_loop ups v (slice_index (v ∷ others) (length others)) x)) loop_is
-        (off_walk o t polygon ups own_ways v (slice_index (v ∷ others) (length others)) others along f p worth))
+        (off_walk s split o t polygon ups own_ways v (slice_index (v ∷ others) (length others)) others along f p worth))
 
 -- a loop along the last side, and back by its spokes, two ways to write it
-pub last_loop_as : {s : OrientedMesh} {split : SplitView} → IsOrientedSurface s → (t : IsSplit s split) → PolygonView → Loops s split t
-last_loop_as {s} {split} o t polygon =
+pub last_loop_as : (s : OrientedMesh) (split : SplitView) → IsOrientedSurface s → (t : IsSplit s split) → PolygonView → Loops s split t
+last_loop_as s split o t polygon =
     loop_mul (value s split o t (last_side polygon))
     (spoke_product loop_mul loop_inv (one_of s split t) (spoke s split o t polygon) true (0 ∷ (polygon.degree - 1) ∷ []))
 
-pub last_loops : {s : OrientedMesh} {split : SplitView} (o : IsOrientedSurface s) (t : IsSplit s split) (polygon : PolygonView)
-    → SameFreely (last_loop s split o t polygon) (last_loop_as o t polygon)
+pub last_loops : (s : OrientedMesh) (split : SplitView) (o : IsOrientedSurface s) (t : IsSplit s split) (polygon : PolygonView)
+    → SameFreely (last_loop s split o t polygon) (last_loop_as s split o t polygon)
 unfolding last_loop_as
-last_loops {s} {split} o t polygon =
+last_loops s split o t polygon =
     by_words SameFreely loop_mul loop_inv (one_of s split t) (free_group s split t)
     (value s split o t (last_side polygon) ∷ spoke s split o t polygon 0 ∷ spoke s split o t polygon (polygon.degree - 1) ∷ [])
     (Mul (Var 0) (Mul (Var 1) (Inv (Var 2)))) (Mul (Var 0) (Mul (Var 1) (Mul (Inv (Var 2)) One))) refl
 
-pub last_list : {s : OrientedMesh} {split : SplitView} (o : IsOrientedSurface s) (t : IsSplit s split) {polygon : PolygonView}
+pub last_list : (s : OrientedMesh) (split : SplitView) (o : IsOrientedSurface s) (t : IsSplit s split) (polygon : PolygonView)
     → IsCutFrom s split polygon → 0 < polygon.degree
     → (ups : ℕ → List ℕ) → AreWaysUp s split t.parents.root ups
-    → (last_loop_as o t polygon).rest ≡ last_side_loop s polygon t.parents.root ups
+    → (last_loop_as s split o t polygon).rest ≡ last_side_loop s polygon t.parents.root ups
 unfolding last_loop_as
-last_list {s} {split} o t {polygon} c some ups h =
+last_list s split o t polygon c some ups h =
     let path : List ℕ = 0 ∷ (polygon.degree - 1) ∷ [] in
-    sym (ap (λ (l : List ℕ). l ++ path_loop s polygon t.parents.root ups true path)
-    (loop_list o t ups h (last_side polygon) (side_in c some (polygon.degree - 1)))
+    sym
+    (ap (λ (l : List ℕ). l ++ path_loop s polygon t.parents.root ups true path)
+    (loop_list s split o t ups h (last_side polygon) (side_in s split polygon c some (polygon.degree - 1)))
     ∙ ap (λ (l : List ℕ). (value s split o t (last_side polygon)).rest ++ l) (path_list s split o t polygon c some ups h true path))
 
 -- A closed walk that is worth a loop, led off the cotree, is that loop.
@@ -235,14 +236,14 @@ led_closed {s} {split} o t {polygon} c some ups h u rest second moves way loop w
         let ends = list_keeps_ends s.mesh moves (u ∷ rest) (v ∷ others) is_walk.starts k in
         let own_end : slice_index (u ∷ rest) (length rest) ≡ u =
         sym (way_end s.mesh u (slice_index (u ∷ rest) (length rest)) rest (walk_way s.mesh u rest is_walk)) ∙ way_end s.mesh u u rest way in
-        let along : IsWay s.mesh u u others = subst (λ x. IsWay s.mesh u x others) own_end (other_way u v rest others z ends) in
+        let along : IsWay s.mesh u u others = subst (λ x. IsWay s.mesh u x others) own_end (other_way s.mesh u v rest others z ends) in
         let starts : v ≡ u = sym ends.starts in
         let a : Loops s split t = walk_value s split o t polygon (v ∷ others) in
         let b : Loops s split t = walk_value s split o t polygon (u ∷ rest) in
         let same : SameFreely a loop =
         g.on a b loop (g.turn b a (moves_keep_value s split o t polygon c some moves (u ∷ rest) (v ∷ others) is_walk keeps k)) worth in
         subst (λ x. AreFreelyEqual s.mesh (x ∷ others) (by_loop ups u u loop.rest)) (sym starts)
-        (off_walk o t polygon ups h u u others along (subst (λ x. IsOffCotree s split (x ∷ others)) starts f) loop
+        (off_walk s split o t polygon ups h u u others along (subst (λ x. IsOffCotree s split (x ∷ others)) starts f) loop
         (subst (λ x. SameFreely (walk_value s split o t polygon (x ∷ others)) loop) starts same))
 
 -- the way once round the root face
@@ -256,9 +257,9 @@ goes_round : {s : OrientedMesh} {split : SplitView} {polygon : PolygonView} → 
     → 0 < polygon.degree
     → IsRound s split polygon (last_side polygon)
 unfolding dir
-goes_round {s} {polygon} o c some =
+goes_round {s} {split} {polygon} o c some =
     let d : ℕ = last_side polygon in
-    let l : d < darts_of s = side_in c some (polygon.degree - 1) in
+    let l : d < darts_of s = side_in s split polygon c some (polygon.degree - 1) in
     let m : ℕ = length (face_at s.mesh (face_of s d)) in
     record {
       rest = vertices_on s m d;
@@ -274,14 +275,15 @@ goes_round {s} {polygon} o c some =
 round_worth : {s : OrientedMesh} {split : SplitView} (o : IsOrientedSurface s) (t : IsSplit s split) {polygon : PolygonView}
     → IsCutFrom s split polygon → 0 < polygon.degree
     → (r : IsRound s split polygon (last_side polygon))
-    → SameFreely (walk_value s split o t polygon (origin_of s (last_side polygon) ∷ r.rest)) (last_loop_as o t polygon)
+    → SameFreely (walk_value s split o t polygon (origin_of s (last_side polygon) ∷ r.rest)) (last_loop_as s split o t polygon)
 round_worth {s} {split} o t {polygon} c some r =
     let d : ℕ = last_side polygon in
     let g = free_group s split t in
     let whole : Loops s split t = walk_value s split o t polygon (origin_of s d ∷ vertices_on s (length (face_at s.mesh (face_of s d)))
     d) in
-    subst (λ (l : List ℕ). SameFreely (walk_value s split o t polygon (origin_of s d ∷ l)) (last_loop_as o t polygon)) (sym r.rest_is)
-    (g.on whole (last_loop s split o t polygon) (last_loop_as o t polygon) (root_round o t c some d refl) (last_loops o t polygon))
+    subst (λ (l : List ℕ). SameFreely (walk_value s split o t polygon (origin_of s d ∷ l)) (last_loop_as s split o t polygon))
+    (sym r.rest_is) (g.on whole (last_loop s split o t polygon) (last_loop_as s split o t polygon) (root_round o t c some d refl)
+    (last_loops s split o t polygon))
 
 -- the way once round the root face, led off the cotree, is the loop of the last side
 pub led_round : (s : OrientedMesh) (split : SplitView) (polygon : PolygonView) (root : ℕ) (ups : ℕ
@@ -294,9 +296,9 @@ led_round s split polygon root ups second moves o t c some h leads keeps off =
     let d : ℕ = last_side polygon in
     let r : IsRound s split polygon d = goes_round o c some in
     let own_ways : AreWaysUp s split t.parents.root ups = subst (λ x. AreWaysUp s split x ups) (sym (root_is s split o t root ups h)) h in
-    let loop : Loops s split t = last_loop_as o t polygon in
+    let loop : Loops s split t = last_loop_as s split o t polygon in
     let loop_is : loop.rest ≡ last_side_loop s polygon root ups =
-    last_list o t c some ups own_ways ∙ ap (λ x. last_side_loop s polygon x ups) (root_is s split o t root ups h) in
+    last_list s split o t polygon c some ups own_ways ∙ ap (λ x. last_side_loop s polygon x ups) (root_is s split o t root ups h) in
     subst (λ (x : List ℕ). AreFreelyEqual s.mesh second (by_loop ups (origin_of s d) (origin_of s d) x)) loop_is
     (led_closed o t c some ups own_ways (origin_of s d) r.rest second moves r.way loop (round_worth o t c some r)
     (subst (λ (l : List ℕ). Leads s.mesh l moves second) r.round_is leads) keeps off)
@@ -314,11 +316,11 @@ led_back_round s split polygon root ups second moves o t c some h leads keeps of
     let g = free_group s split t in
     let r : IsRound s split polygon d = goes_round o c some in
     let own_ways : AreWaysUp s split t.parents.root ups = subst (λ x. AreWaysUp s split x ups) (sym (root_is s split o t root ups h)) h in
-    let loop : Loops s split t = last_loop_as o t polygon in
+    let loop : Loops s split t = last_loop_as s split o t polygon in
     let there : Loops s split t = walk_value s split o t polygon (u ∷ r.rest) in
     let home : Loops s split t = walk_value s split o t polygon (u ∷ back u r.rest) in
     let loop_is : loop.rest ≡ last_side_loop s polygon root ups =
-    last_list o t c some ups own_ways ∙ ap (λ x. last_side_loop s polygon x ups) (root_is s split o t root ups h) in
+    last_list s split o t polygon c some ups own_ways ∙ ap (λ x. last_side_loop s polygon x ups) (root_is s split o t root ups h) in
     let back_is : back t.parents.root loop.rest ≡ backward root (last_side_loop s polygon root ups) =
     ap (λ x. back x loop.rest) (root_is s split o t root ups h) ∙ ap (back root) loop_is
     ∙ sym (backward_is root (last_side_loop s polygon root ups)) in
@@ -371,18 +373,19 @@ in_words {s} {split} o t {polygon} c some root ups h =
               let f : Loops s split t = product_of o t polygon front in
               let b : Loops s split t = product_of o t polygon y in
               let one_loop : Loops s split t = last_loop s split o t polygon in
-              let other_loop : Loops s split t = last_loop_as o t polygon in
+              let other_loop : Loops s split t = last_loop_as s split o t polygon in
               let rest : Loops s split t = loop_mul (loop_inv f) b in
               let put : SameFreely a (loop_in loop_mul loop_inv f other_loop b) =
               g.on a (loop_in loop_mul loop_inv f one_loop b) (loop_in loop_mul loop_inv f other_loop b) same
               (g.mul_same f f (loop_mul one_loop rest) (loop_mul other_loop rest) (g.itself f)
-              (g.mul_same one_loop other_loop rest rest (last_loops o t polygon) (g.itself rest))) in
+              (g.mul_same one_loop other_loop rest rest (last_loops s split o t polygon) (g.itself rest))) in
               let shape : f.rest ++ (other_loop.rest ++ (back root f.rest ++ b.rest))
               ≡ put_behind root (path_loop s polygon root ups true front) (last_side_loop s polygon root ups)
               (path_loop s polygon root ups true y) =
               ap (λ (l : List ℕ). l ++ (other_loop.rest ++ (back root l ++ b.rest))) (list front)
               ∙ ap (λ (l : List ℕ). path_loop s polygon root ups true
-              front ++ (l ++ (back root (path_loop s polygon root ups true front) ++ b.rest))) (last_list o t c some ups own)
+              front ++ (l ++ (back root (path_loop s polygon root ups true front) ++ b.rest)))
+              (last_list s split o t polygon c some ups own)
               ∙ ap (λ (l : List ℕ). path_loop s polygon root ups true front ++ (last_side_loop s polygon root ups ++ (l ++ b.rest)))
               (sym (backward_is root (path_loop s polygon root ups true front)))
               ∙ ap (λ (l : List ℕ). path_loop s polygon root ups true

@@ -41,9 +41,9 @@ read_back face rising t k u rest l is =
 pub dart_from : OrientedMesh → ℕ → ℕ → ℕ
 dart_from s u v = unwrap_or (first_below (λ d. eqb (origin_of s d) u && eqb (target_of s d) v) (darts_of s)) 0
 
-pub from_is : {s : OrientedMesh} → IsOrientedSurface s → {u v d : ℕ} → IsDartFrom (rotations_of s) u v d → dart_from s u v ≡ d
+pub from_is : (s : OrientedMesh) → IsOrientedSurface s → (u v d : ℕ) → IsDartFrom (rotations_of s) u v d → dart_from s u v ≡ d
 unfolding dart_from
-from_is {s} o {u} {v} {d} h =
+from_is s o u v d h =
     let test : ℕ → Bool = λ x. eqb (origin_of s x) u && eqb (target_of s x) v in
     let target : target_of s d ≡ v = sym (origin-twin s o d h.within) ∙ h.ends in
     let passes : test d ≡ true = rw (eq-eqb (origin_of s d) u h.starts) (eq-eqb (target_of s d) v target) in
@@ -58,12 +58,14 @@ from_is {s} o {u} {v} {d} h =
 pub own_from : {s : OrientedMesh} → IsOrientedSurface s → (d : ℕ) → d < darts_of s
     → dart_from s (origin_of s d) (origin_of s (next_of s d)) ≡ d
 own_from {s} o d l =
-    from_is o (record { within = l; starts = refl; ends = sym ((rotation_system s o).follows d l) })
+    from_is s o (origin_of s d) (origin_of s (next_of s d)) d
+    (record { within = l; starts = refl; ends = sym ((rotation_system s o).follows d l) })
 
 pub twin_from : {s : OrientedMesh} → IsOrientedSurface s → {u v d : ℕ} → IsDartFrom (rotations_of s) u v d → dart_from s v u ≡ twin_of s d
-twin_from {s} o {d} h =
+twin_from {s} o {u} {v} {d} h =
     let r : IsRotationSystem (rotations_of s) = rotation_system s o in
-    from_is o (record { within = r.twin_within d h.within; starts = h.ends; ends = ap (origin_of s) (r.twin_back d h.within) ∙ h.starts })
+    from_is s o v u (twin_of s d)
+    (record { within = r.twin_within d h.within; starts = h.ends; ends = ap (origin_of s) (r.twin_back d h.within) ∙ h.starts })
 
 -- the free value of the step from u to v
 abbrev pub step_value : (s : OrientedMesh) (split : SplitView) → IsOrientedSurface s → (t : IsSplit s split) → PolygonView → ℕ → ℕ
@@ -78,7 +80,7 @@ steps_turn {s} {split} o t {polygon} c some u v edge =
     let d : ℕ = found.0 in
     subst (λ x. SameFreely (free_value s split o t polygon x) (loop_inv (step_value s split o t polygon u v))) (sym (twin_from o found.1))
     (subst (λ x. SameFreely (free_value s split o t polygon (twin_of s d)) (loop_inv (free_value s split o t polygon x)))
-    (sym (from_is o found.1)) (free_twin o t c some d found.1.within))
+    (sym (from_is s o u v d found.1)) (free_twin o t c some d found.1.within))
 
 -- the steps round a face are its darts
 pub steps_round : {X : Type 0} (mul : X → X → X) (one : X) (val : ℕ → X) {s : OrientedMesh} → IsOrientedSurface s → (k d : ℕ)

@@ -47,7 +47,7 @@ free_twin {s} {split} o t {polygon} c some d l = elim (cases_Bool (in_cotree spl
       (same_edge ∙ is) in
       let turned : SameFreely (loop_inv (two d)) (quotient loop_mul loop_inv (S (label_of polygon (next_of s d))) (S (label_of polygon d)))
       =
-      inverse_of_quotient g (S (label_of polygon d)) (S (label_of polygon (next_of s d))) in
+      inverse_of_quotient SameFreely loop_mul loop_inv (one_of s split t) g (S (label_of polygon d)) (S (label_of polygon (next_of s d))) in
       let shape : quotient loop_mul loop_inv (S (label_of polygon (next_of s d))) (S (label_of polygon d)) ≡ two twin =
       ap (λ x. quotient loop_mul loop_inv (S x) (S (label_of polygon d))) other_end
       ∙ ap (λ x. quotient loop_mul loop_inv (S (label_of polygon twin)) (S x)) (sym one_end) in

@@ -20,12 +20,12 @@ use Rattle.polygon_cut.proofs.FreeMoveLemmas.{walk_value}
 use Rattle.polygon_cut.proofs.FreeQuadLemmas.{last_loop, spoke_across}
 
 -- the loop of one way after another is the product
-pub loop_on : {mesh : FaceList} {root : ℕ} {up : ℕ → List ℕ} (ways : HasWays mesh root up) (u v w : ℕ) (rest more : List ℕ)
+pub loop_on : (mesh : FaceList) (root : ℕ) (up : ℕ → List ℕ) (ways : HasWays mesh root up) (u v w : ℕ) (rest more : List ℕ)
     (h : IsWay mesh u v rest) (k : IsWay mesh v w more)
     (whole : IsWay mesh u w (rest ++ more))
     → SameFreely (loop_of mesh root up ways u w (rest ++ more) whole)
     (loop_mul (loop_of mesh root up ways u v rest h) (loop_of mesh root up ways v w more k))
-loop_on {mesh} {root} {up} ways u v w rest more h k whole =
+loop_on mesh root up ways u v w rest more h k whole =
     let v_way : IsWay mesh v root (up v) = ways.way v (start_used mesh v w more k) in
     let u_home : IsWay mesh root u (back u (up u)) = way_home mesh u root (up u) (ways.way u (start_used mesh u v rest h)) in
     let shape : (back u (up u) ++ (rest ++ up v)) ++ (back v (up v) ++ (more ++ up w))
@@ -40,16 +40,17 @@ loop_on {mesh} {root} {up} ways u v w rest more h k whole =
     inner in
     let a : Loop mesh root = loop_of mesh root up ways u w (rest ++ more) whole in
     let b : Loop mesh root = loop_mul (loop_of mesh root up ways u v rest h) (loop_of mesh root up ways v w more k) in
-    let product : SameFreely b a = subst (λ (l : List ℕ). AreFreelyEqual mesh (root ∷ l) (root ∷ a.rest)) (sym shape)
+    let product : SameFreely b a =
+    subst (λ (l : List ℕ). AreFreelyEqual mesh (root ∷ l) (root ∷ a.rest)) (sym shape)
     (subst (λ (l : List ℕ). AreFreelyEqual mesh (root ∷ (back u (up u) ++ (rest ++ ((up v ++ back v (up v)) ++ (more ++ up w)))))
     (root ∷ (back u (up u) ++ l))) (sym (append_assoc rest more (up w))) outer) in
     (loops_make_a_free_group mesh root ways.root_used).turn b a product
 
 -- the loop of the way back is the inverse
-pub loop_home : {mesh : FaceList} {root : ℕ} {up : ℕ → List ℕ} (ways : HasWays mesh root up) (u v : ℕ) (rest : List ℕ)
+pub loop_home : (mesh : FaceList) (root : ℕ) (up : ℕ → List ℕ) (ways : HasWays mesh root up) (u v : ℕ) (rest : List ℕ)
     (h : IsWay mesh u v rest) (k : IsWay mesh v u (back u rest))
     → SameFreely (loop_of mesh root up ways v u (back u rest) k) (loop_inv (loop_of mesh root up ways u v rest h))
-loop_home {mesh} {root} {up} ways u v rest h k =
+loop_home mesh root up ways u v rest h k =
     let g = loops_make_a_free_group mesh root ways.root_used in
     let nothing : Loop mesh root = loop_one mesh root ways.root_used in
     let a : Loop mesh root = loop_of mesh root up ways u v rest h in
@@ -62,19 +63,19 @@ loop_home {mesh} {root} {up} ways u v rest h k =
     subst (λ (l : List ℕ). AreFreelyEqual mesh (v ∷ (back u rest ++ l)) (v ∷ [])) (back_back mesh u v rest h)
     (there_and_home (free_equality mesh) v u (back u rest) k) in
     let product : SameFreely (loop_mul b a) nothing =
-    g.on (loop_mul b a) whole nothing (g.turn whole (loop_mul b a) (loop_on ways v u v (back u rest) rest k h round_way))
+    g.on (loop_mul b a) whole nothing (g.turn whole (loop_mul b a) (loop_on mesh root up ways v u v (back u rest) rest k h round_way))
     (g.on whole still nothing (to_loops (free_equality mesh) ways v v (back u rest ++ rest) [] round_way stay contracts)
     (no_dart (free_equality mesh) ways v v stay)) in
     inverse_unique g b a product
 
 -- A loop put in at the end of a way: there, round, back, and on.
-pub put_in : {mesh : FaceList} {root : ℕ} {up : ℕ → List ℕ} (ways : HasWays mesh root up) (u v w : ℕ) (there turn more : List ℕ)
+pub put_in : (mesh : FaceList) (root : ℕ) (up : ℕ → List ℕ) (ways : HasWays mesh root up) (u v w : ℕ) (there turn more : List ℕ)
     (h : IsWay mesh u v there) (r : IsWay mesh v v turn)
     (k : IsWay mesh u w more) (whole : IsWay mesh u w (there ++ (turn ++ (back u there ++ more))))
     → SameFreely (loop_of mesh root up ways u w (there ++ (turn ++ (back u there ++ more))) whole)
     (loop_in loop_mul loop_inv (loop_of mesh root up ways u v there h) (loop_of mesh root up ways v v turn r)
     (loop_of mesh root up ways u w more k))
-put_in {mesh} {root} {up} ways u v w there turn more h r k whole =
+put_in mesh root up ways u v w there turn more h r k whole =
     let g = loops_make_a_free_group mesh root ways.root_used in
     let home_way : IsWay mesh v u (back u there) = way_home mesh u v there h in
     let last_way : IsWay mesh v w (back u there ++ more) = way_on mesh v u w (back u there) more home_way k in
@@ -87,13 +88,14 @@ put_in {mesh} {root} {up} ways u v w there turn more h r k whole =
     let from_turn : Loop mesh root = loop_of mesh root up ways v w (turn ++ (back u there ++ more)) turn_way in
     let all : Loop mesh root = loop_of mesh root up ways u w (there ++ (turn ++ (back u there ++ more))) whole in
     let last_is : SameFreely last (loop_mul (loop_inv a) x) =
-    g.on last (loop_mul home x) (loop_mul (loop_inv a) x) (loop_on ways v u w (back u there) more home_way k last_way)
-    (g.mul_same home (loop_inv a) x x (loop_home ways u v there h home_way) (g.itself x)) in
+    g.on last (loop_mul home x) (loop_mul (loop_inv a) x) (loop_on mesh root up ways v u w (back u there) more home_way k last_way)
+    (g.mul_same home (loop_inv a) x x (loop_home mesh root up ways u v there h home_way) (g.itself x)) in
     let turn_is : SameFreely from_turn (loop_mul l (loop_mul (loop_inv a) x)) =
-    g.on from_turn (loop_mul l last) (loop_mul l (loop_mul (loop_inv a) x)) (loop_on ways v v w turn (back u there ++ more) r
-    last_way turn_way) (g.mul_same l l last (loop_mul (loop_inv a) x) (g.itself l) last_is) in
+    g.on from_turn (loop_mul l last) (loop_mul l (loop_mul (loop_inv a) x)) (loop_on mesh root up ways v v w turn (back u there ++ more) r
+    last_way turn_way)
+    (g.mul_same l l last (loop_mul (loop_inv a) x) (g.itself l) last_is) in
     g.on all (loop_mul a from_turn) (loop_in loop_mul loop_inv a l x)
-    (loop_on ways u v w there (turn ++ (back u there ++ more)) h turn_way whole)
+    (loop_on mesh root up ways u v w there (turn ++ (back u there ++ more)) h turn_way whole)
     (g.mul_same a a from_turn (loop_mul l (loop_mul (loop_inv a) x)) (g.itself a) turn_is)
 
 -- a walk behind its first dart is off the cotree where the walk is
@@ -108,14 +110,15 @@ off_behind s split u w rest h k d l from =
 pub off_cotree : {s : OrientedMesh} {split : SplitView} (o : IsOrientedSurface s) (t : IsSplit s split) (polygon : PolygonView) (u v : ℕ)
     (rest : List ℕ) (way : IsWay s.mesh u v rest)
     → IsOffCotree s split (u ∷ rest)
-    → SameFreely (loop_of s.mesh t.parents.root (up s split t) (tree_ways o t) u v rest way) (walk_value s split o t polygon (u ∷ rest))
-off_cotree {s} o t polygon u v [] way off = no_dart (free_equality s.mesh) (tree_ways o t) u v way
+    → SameFreely (loop_of s.mesh t.parents.root (up s split t) (tree_ways s split o t) u v rest way)
+    (walk_value s split o t polygon (u ∷ rest))
+off_cotree {s} {split} o t polygon u v [] way off = no_dart (free_equality s.mesh) (tree_ways s split o t) u v way
 off_cotree {s} {split} o t polygon u v (w ∷ rest) way off =
     let g = free_group s split t in
-    let ways : HasWays s.mesh t.parents.root (up s split t) = tree_ways o t in
+    let ways : HasWays s.mesh t.parents.root (up s split t) = tree_ways s split o t in
     let found = dart_between s o u w way.0 in
     let d : ℕ = found.0 in
-    let is : dart_from s u w ≡ d = from_is o found.1 in
+    let is : dart_from s u w ≡ d = from_is s o u w d found.1 in
     let here : in_cotree split (edge_of s d) ≡ false = off 0 d (omega arith) found.1 in
     let one_way : IsWay s.mesh u w (w ∷ []) = (way.0, (refl, start_used s.mesh w v rest way.1)) in
     let x : Loops s split t = loop_of s.mesh t.parents.root (up s split t) ways u w (w ∷ []) one_way in
@@ -213,19 +216,19 @@ dart_spokes_value {s} {split} o t {polygon} c some {d} {path} more l h = elim (c
     rest = product more
 
 -- What a walk is worth is the product of the spokes of its darts.
-pub path_value : {s : OrientedMesh} {split : SplitView} (o : IsOrientedSurface s) (t : IsSplit s split) {polygon : PolygonView}
+pub path_value : (s : OrientedMesh) (split : SplitView) (o : IsOrientedSurface s) (t : IsSplit s split) (polygon : PolygonView)
     → IsCutFrom s split polygon → 0 < polygon.degree
     → (spokes : ℕ → ℕ → List ℕ) → ((x y d : ℕ) → IsDartFrom (rotations_of s) x y d → HasFreeSpokes s polygon d (spokes x y))
     → (u v : ℕ) (rest : List ℕ) → IsWay s.mesh u v rest
     → SameFreely (walk_value s split o t polygon (u ∷ rest))
     (spoke_product loop_mul loop_inv (one_of s split t) (spoke s split o t polygon) true (path_along spokes u rest))
-path_value {s} {split} o t c some spokes each u v [] way = (free_group s split t).itself (one_of s split t)
-path_value {s} {split} o t {polygon} c some spokes each u v (w ∷ rest) way =
+path_value s split o t polygon c some spokes each u v [] way = (free_group s split t).itself (one_of s split t)
+path_value s split o t polygon c some spokes each u v (w ∷ rest) way =
     let g = free_group s split t in
     let nothing : Loops s split t = one_of s split t in
     let found = dart_between s o u w way.0 in
     let d : ℕ = found.0 in
-    let is : dart_from s u w ≡ d = from_is o found.1 in
+    let is : dart_from s u w ≡ d = from_is s o u w d found.1 in
     let step : Loops s split t = step_value s split o t polygon u w in
     let x : Loops s split t = walk_value s split o t polygon (w ∷ rest) in
     let y : Loops s split t = spoke_product loop_mul loop_inv nothing (spoke s split o t polygon) true (path_along spokes w rest) in
@@ -236,7 +239,7 @@ path_value {s} {split} o t {polygon} c some spokes each u v (w ∷ rest) way =
     (dart_spokes_value o t c some (path_along spokes w rest) found.1.within (each u w d found.1)) in
     g.on (loop_mul step x) (loop_mul step y) (spoke_product loop_mul loop_inv nothing (spoke s split o t polygon) true
     (spokes u w ++ path_along spokes w rest))
-    (g.mul_same step step x y (g.itself step) (path_value o t c some spokes each w v rest way.1)) here
+    (g.mul_same step step x y (g.itself step) (path_value s split o t polygon c some spokes each w v rest way.1)) here
 
 -- The way once round the root face from the last side is the loop of the last side.
 pub root_round : {s : OrientedMesh} {split : SplitView} (o : IsOrientedSurface s) (t : IsSplit s split) {polygon : PolygonView}

@@ -26,9 +26,9 @@ inverse_unique {mul} {inv} {one} g x y h =
     (g.on (mul (mul x y) (inv y)) (mul one (inv y)) (inv y) (g.mul_same (mul x y) one (inv y) (inv y) h (g.itself (inv y)))
     (g.one_left (inv y))))
 
-pub inverse_twice : {X : Type 0} {Same : X → X → Type 0} {mul : X → X → X} {inv : X → X} {one : X} → IsGroup Same mul inv one → (x : X)
+pub inverse_twice : {X : Type 0} (Same : X → X → Type 0) (mul : X → X → X) (inv : X → X) (one : X) → IsGroup Same mul inv one → (x : X)
     → Same (inv (inv x)) x
-inverse_twice {inv} g x = g.turn x (inv (inv x)) (inverse_unique g x (inv x) (g.cancels x))
+inverse_twice Same mul inv one g x = g.turn x (inv (inv x)) (inverse_unique g x (inv x) (g.cancels x))
 
 -- what stands in the middle cancels
 pub middle : {X : Type 0} {Same : X → X → Type 0} {mul : X → X → X} {inv : X → X} {one : X} → IsGroup Same mul inv one → (x y z : X)
@@ -41,18 +41,19 @@ middle {Same} {mul} {inv} {one} g x y z =
     g.on (mul (mul x (inv y)) (mul y (inv z))) (mul x (mul (inv y) (mul y (inv z)))) (mul x (inv z))
     (g.associates x (inv y) (mul y (inv z))) (g.mul_same x x (mul (inv y) (mul y (inv z))) (inv z) (g.itself x) step)
 
-pub inverse_of_quotient : {X : Type 0} {Same : X → X → Type 0} {mul : X → X → X} {inv : X → X} {one : X} → IsGroup Same mul inv one
+pub inverse_of_quotient : {X : Type 0} (Same : X → X → Type 0) (mul : X → X → X) (inv : X → X) (one : X) → IsGroup Same mul inv one
     → (x y : X)
     → Same (inv (quotient mul inv x y)) (quotient mul inv y x)
-inverse_of_quotient {mul} {inv} {one} g x y =
+inverse_of_quotient Same mul inv one g x y =
     g.turn (quotient mul inv y x) (inv (quotient mul inv x y)) (inverse_unique g (quotient mul inv y x) (quotient mul inv x y)
     (g.on (mul (quotient mul inv y x) (quotient mul inv x y)) (quotient mul inv y y) one (middle g y x y) (g.cancels y)))
 
 -- x is y⁻¹ where their product is one, and the like
 pub left_factor : {X : Type 0} {Same : X → X → Type 0} {mul : X → X → X} {inv : X → X} {one : X} → IsGroup Same mul inv one → (v x y : X)
     → Same (mul v (quotient mul inv x y)) one → Same v (quotient mul inv y x)
-left_factor {mul} {inv} g v x y h =
-    g.on v (inv (quotient mul inv x y)) (quotient mul inv y x) (inverse_unique g v (quotient mul inv x y) h) (inverse_of_quotient g x y)
+left_factor {Same} {mul} {inv} {one} g v x y h =
+    g.on v (inv (quotient mul inv x y)) (quotient mul inv y x) (inverse_unique g v (quotient mul inv x y) h)
+    (inverse_of_quotient Same mul inv one g x y)
 
 pub inverse_of_product : {X : Type 0} {Same : X → X → Type 0} {mul : X → X → X} {inv : X → X} {one : X} → IsGroup Same mul inv one
     → (x y : X) → Same (inv (mul x y)) (mul (inv y) (inv x))
@@ -75,7 +76,7 @@ pub one_step : {X : Type 0} {Same : X → X → Type 0} {mul : X → X → X} {i
 one_step {Same} {mul} {inv} {one} g v x =
     let turned : Same (inv (mul (inv v) x)) (mul (inv x) v) =
     g.on (inv (mul (inv v) x)) (mul (inv x) (inv (inv v))) (mul (inv x) v) (inverse_of_product g (inv v) x)
-    (g.mul_same (inv x) (inv x) (inv (inv v)) v (g.itself (inv x)) (inverse_twice g v)) in
+    (g.mul_same (inv x) (inv x) (inv (inv v)) v (g.itself (inv x)) (inverse_twice Same mul inv one g v)) in
     g.on (mul x (inv (mul (inv v) x))) (mul x (mul (inv x) v)) v (g.mul_same x x (inv (mul (inv v) x)) (mul (inv x) v) (g.itself x) turned)
     (g.on (mul x (mul (inv x) v)) (mul (mul x (inv x)) v) v
     (g.turn (mul (mul x (inv x)) v) (mul x (mul (inv x) v)) (g.associates x (inv x) v))

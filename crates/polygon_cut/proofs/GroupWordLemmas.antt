@@ -123,7 +123,7 @@ sound {X = X} Same mul inv one g elements false (Inv a) word =
     let x : X = value_of mul inv one elements a in
     let w : X = value_of_word mul inv one elements word in
     let whole : X = value_of_word mul inv one elements (word_of true a word) in
-    g.on (mul (inv (inv x)) w) (mul x w) whole (g.mul_same (inv (inv x)) x w w (inverse_twice g x) (g.itself w))
+    g.on (mul (inv (inv x)) w) (mul x w) whole (g.mul_same (inv (inv x)) x w w (inverse_twice Same mul inv one g x) (g.itself w))
     (sound Same mul inv one g elements true a word)
 
 -- Terms with one reduced word are the same in every group.

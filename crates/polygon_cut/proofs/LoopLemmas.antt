@@ -58,18 +58,18 @@ pub loops_make_a_group : (mesh : FaceList) (root : ℕ) (used : IsTrue (is_used 
 loops_make_a_group mesh root used = Congruence.loops_are_a_group (homotopy mesh) root used
 
 -- ways with homotopic loops are homotopic
-pub from_loops : {mesh : FaceList} {root : ℕ} {up : ℕ → List ℕ} (ways : HasWays mesh root up) (u v : ℕ) (rest others : List ℕ)
+pub from_loops : (mesh : FaceList) (root : ℕ) (up : ℕ → List ℕ) (ways : HasWays mesh root up) (u v : ℕ) (rest others : List ℕ)
     → (h : IsWay mesh u v rest) (k : IsWay mesh u v others)
     → SameLoop (loop_of mesh root up ways u v rest h) (loop_of mesh root up ways u v others k) → Homotopic mesh (u ∷ rest) (u ∷ others)
-from_loops {mesh} ways u v rest others h k same = Congruence.from_loops (homotopy mesh) ways u v rest others h k same
+from_loops mesh root up ways u v rest others h k same = Congruence.from_loops (homotopy mesh) ways u v rest others h k same
 
 -- the loop of no dart is nothing, and that of a first dart and others is the product
-pub no_dart : {mesh : FaceList} {root : ℕ} {up : ℕ → List ℕ} (ways : HasWays mesh root up) (u v : ℕ) (h : IsWay mesh u v [])
+pub no_dart : (mesh : FaceList) (root : ℕ) (up : ℕ → List ℕ) (ways : HasWays mesh root up) (u v : ℕ) (h : IsWay mesh u v [])
     → SameLoop (loop_of mesh root up ways u v [] h) (loop_one mesh root ways.root_used)
-no_dart {mesh} ways u v h = Congruence.no_dart (homotopy mesh) ways u v h
+no_dart mesh root up ways u v h = Congruence.no_dart (homotopy mesh) ways u v h
 
-pub first_dart : {mesh : FaceList} {root : ℕ} {up : ℕ → List ℕ} (ways : HasWays mesh root up) (u w v : ℕ) (rest : List ℕ)
+pub first_dart : (mesh : FaceList) (root : ℕ) (up : ℕ → List ℕ) (ways : HasWays mesh root up) (u w v : ℕ) (rest : List ℕ)
     → (h : IsWay mesh u v (w ∷ rest)) (one : IsWay mesh u w (w ∷ [])) (more : IsWay mesh w v rest)
     → SameLoop (loop_of mesh root up ways u v (w ∷ rest) h)
     (loop_mul (loop_of mesh root up ways u w (w ∷ []) one) (loop_of mesh root up ways w v rest more))
-first_dart {mesh} ways u w v rest h one more = Congruence.first_dart (homotopy mesh) ways u w v rest h one more
+first_dart mesh root up ways u w v rest h one more = Congruence.first_dart (homotopy mesh) ways u w v rest h one more

@@ -16,7 +16,8 @@ pub sides_cross : (maps : Rotations) (ring : ℕ → ℕ) (left : ℕ → Bool) 
 sides_cross maps ring left polygon r h = record {
   below = λ i l. h.label_below (maps.twin (side_at polygon i)) (r.twin_within (side_at polygon i) (h.side_is_left i l).0);
   other = λ i l e. r.twin_other (side_at polygon i) (h.side_is_left i l).0 (sym (twin_side i l) ∙ ap (side_at polygon) e);
-  back = λ i l. ap (λ (d : ℕ). label_of polygon (maps.twin d)) (twin_side i l)
+  back = λ i l.
+      ap (λ (d : ℕ). label_of polygon (maps.twin d)) (twin_side i l)
       ∙ ap (label_of polygon) (r.twin_back (side_at polygon i) (h.side_is_left i l).0) ∙ h.own_number i l;
 }
   where
@@ -24,7 +25,7 @@ sides_cross maps ring left polygon r h = record {
     twin_side i l =
         let d : ℕ = side_at polygon i in
         let in_range : d < maps.darts = (h.side_is_left i l).0 in
-        is_own_side h (maps.twin d) (r.twin_within d in_range) (ap left (sym (twin_edge maps r d in_range))
+        is_own_side maps ring left polygon h (maps.twin d) (r.twin_within d in_range) (ap left (sym (twin_edge maps r d in_range))
         ∙ (h.side_is_left i l).1)
 
 up_apart : (degree i j : ℕ) → i < degree → j < degree → one_up degree i ≡ one_up degree j → i ≡ j

@@ -51,17 +51,17 @@ label_stays {ring} {polygon} h p d l not_left =
     ∙ h.own_number (label_of polygon d) (h.label_below d l)
 
 -- a leftover dart is the side with the number of its label
-pub is_own_side : {maps : Rotations} {ring : ℕ → ℕ} {left : ℕ → Bool} {polygon : PolygonView} → IsLabelled maps ring left polygon
+pub is_own_side : (maps : Rotations) (ring : ℕ → ℕ) (left : ℕ → Bool) (polygon : PolygonView) → IsLabelled maps ring left polygon
     → (d : ℕ) → d < maps.darts → left (maps.edge d) ≡ true → side_at polygon (label_of polygon d) ≡ d
-is_own_side {maps} {ring} {left} h d l is =
+is_own_side maps ring left polygon h d l is =
     let here : IsFirstLeft maps ring left d d =
     record { steps = 0; leads = refl; is_left = is; none_before = λ k m. absurd (omega arith) } in
     first_unique (h.first d l) here
 
 pub label_rises : {maps : Rotations} {ring : ℕ → ℕ} {left : ℕ → Bool} {polygon : PolygonView} → IsLabelled maps ring left polygon
     → (d : ℕ) → d < maps.darts → left (maps.edge d) ≡ true → label_of polygon (ring d) ≡ one_up polygon.degree (label_of polygon d)
-label_rises {ring} {polygon} h d l is =
-    ap (λ (x : ℕ). label_of polygon (ring x)) (sym (is_own_side h d l is))
+label_rises {maps} {ring} {left} {polygon} h d l is =
+    ap (λ (x : ℕ). label_of polygon (ring x)) (sym (is_own_side maps ring left polygon h d l is))
     ∙ h.along (label_of polygon d) (h.label_below d l)
 
 pub kind_labels : {maps : Rotations} (tree cotree : ℕ → Bool) {left : ℕ → Bool} {polygon : PolygonView} → IsRotationSystem maps
@@ -124,7 +124,8 @@ label_on_tree_ring {maps} tree cotree {left} {polygon} r kinds h d l =
     go a b c tree_one t q s = inl (ap (label_of polygon) (go_on maps tree d t) ∙ here.of_tree t)
     go a b c cotree_one t q s = inl (ap (label_of polygon) (turn maps tree d t) ∙ here.of_cotree q)
     go a b c left_one t q s =
-        let own : side_at polygon (label_of polygon d) ≡ d = is_own_side h d l s in
+        let own : side_at polygon (label_of polygon d) ≡ d =
+        is_own_side maps (after_dart maps (λ e. not (cotree e))) left polygon h d l s in
         let twin_left : left (maps.edge twin) ≡ true = ap left (sym (twin_edge maps r d l)) ∙ s in
         inr (
         ap (label_of polygon) (turn maps tree d t) ∙ there.of_left twin_left

@@ -10,8 +10,9 @@ pub leftover_places : {maps : Rotations} {ring : ℕ → ℕ} {left : ℕ → Bo
     → HasPlaces maps polygon → (d : ℕ) → d < maps.darts → left (maps.edge d) ≡ true
     → place_of polygon (one_up polygon.degree (label_of polygon (maps.twin d))) ≡ one_down polygon.degree
     (place_of polygon (label_of polygon d))
-leftover_places {maps} {polygon} r h p d l is =
-    ap (λ (x : ℕ). place_of polygon (one_up polygon.degree (label_of polygon (maps.twin x)))) (sym (is_own_side h d l is))
+leftover_places {maps} {ring} {left} {polygon} r h p d l is =
+    ap (λ (x : ℕ). place_of polygon (one_up polygon.degree (label_of polygon (maps.twin x))))
+    (sym (is_own_side maps ring left polygon h d l is))
     ∙ p.falls (label_of polygon d) (h.label_below d l)
 
 -- a number that turning leaves as it is is reached from no other

@@ -55,7 +55,7 @@ no_arc : {s : OrientedMesh} {split : SplitView} (o : IsOrientedSurface s) (t : I
     → d < darts_of s → IsArc s split o t polygon d d 0 []
 no_arc {s} {split} o t polygon d l =
     let g = free_group s split t in
-    let ways : HasWays s.mesh t.parents.root (up s split t) = tree_ways o t in
+    let ways : HasWays s.mesh t.parents.root (up s split t) = tree_ways s split o t in
     let u : ℕ = origin_of s d in
     let stay : IsWay s.mesh u u [] = (refl, (names_all s o).vertex_used d l) in
     let still : Loops s split t = loop_of s.mesh t.parents.root (up s split t) ways u u [] stay in
@@ -90,7 +90,7 @@ arc_longer : (s : OrientedMesh) (split : SplitView) (o : IsOrientedSurface s) (t
 arc_longer s split o t polygon c some d e k rest l other off a =
     let r : IsRotationSystem (rotations_of s) = rotation_system s o in
     let g = free_group s split t in
-    let ways : HasWays s.mesh t.parents.root (up s split t) = tree_ways o t in
+    let ways : HasWays s.mesh t.parents.root (up s split t) = tree_ways s split o t in
     let u : ℕ = origin_of s d in
     let v : ℕ = origin_of s e in
     let w : ℕ = origin_of s (twin_of s e) in
@@ -110,7 +110,8 @@ arc_longer s split o t polygon c some d e k rest l other off a =
     (free_is_two_spokes o t c some e l other) in
     let dart_is : SameFreely dart (two_spokes s split o t polygon j n) =
     g.on dart (value s split o t e) (two_spokes s split o t polygon j n) (g.turn (value s split o t e) dart along) val_is in
-    let joined : SameFreely all (loop_mul before dart) = loop_on ways u v w rest (w ∷ []) a.way one whole in
+    let joined : SameFreely all (loop_mul before dart) =
+    loop_on s.mesh t.parents.root (up s split t) ways u v w rest (w ∷ []) a.way one whole in
     let product : SameFreely (loop_mul before dart) (loop_mul (two_spokes s split o t polygon i j) (two_spokes s split o t polygon j n)) =
     g.mul_same before (two_spokes s split o t polygon i j) dart (two_spokes s split o t polygon j n) a.worth dart_is in
     let worth : SameFreely all (two_spokes s split o t polygon i n) =
@@ -171,9 +172,9 @@ record IsBefore (s : OrientedMesh) (split : SplitView) (polygon : PolygonView) (
 
 how_far : {s : OrientedMesh} {split : SplitView} → IsOrientedSurface s → IsSplit s split → {polygon : PolygonView}
     → IsCutFrom s split polygon → 0 < polygon.degree → (d : ℕ) → d < darts_of s → IsBefore s split polygon d
-how_far o t {polygon} c some d l =
+how_far {s} {split} o t {polygon} c some d l =
     let round = ring_from o t d l in
-    let there = round_reaches round (last_side polygon) (side_in c some (polygon.degree - 1)) in
+    let there = round_reaches round (last_side polygon) (side_in s split polygon c some (polygon.degree - 1)) in
     record {
       steps = there.0;
       few = there.1;
@@ -230,7 +231,7 @@ forward {s} {split} o t {polygon} c some a b {steps} a_in b_in few r =
     let e : ℕ = side_at polygon b in
     let walk : List ℕ = ring_walk s split steps d in
     let along : IsArc s split o t polygon d e steps walk = subst (λ z. IsArc s split o t polygon d z steps walk) r.leads
-    (arc o t c some d (side_in c some a) steps r.before_last) in
+    (arc o t c some d (side_in s split polygon c some a) steps r.before_last) in
     let own_a : label_of polygon d ≡ a = (c.labels some).own_number a a_in in
     let own_b : label_of polygon e ≡ b = (c.labels some).own_number b b_in in
     record {
@@ -251,7 +252,7 @@ turned : {s : OrientedMesh} {split : SplitView} {o : IsOrientedSurface s} {t : I
     → IsSideArc s split o t polygon b a → IsSideArc s split o t polygon a b
 turned {s} {split} {o} {t} {polygon} {a} {b} h =
     let g = free_group s split t in
-    let ways : HasWays s.mesh t.parents.root (up s split t) = tree_ways o t in
+    let ways : HasWays s.mesh t.parents.root (up s split t) = tree_ways s split o t in
     let S : ℕ → Loops s split t = spoke s split o t polygon in
     let u : ℕ = origin_of s (side_at polygon b) in
     let v : ℕ = origin_of s (side_at polygon a) in
@@ -259,16 +260,19 @@ turned {s} {split} {o} {t} {polygon} {a} {b} h =
     let there_loop : Loops s split t = loop_of s.mesh t.parents.root (up s split t) ways u v h.rest h.way in
     let home_loop : Loops s split t = loop_of s.mesh t.parents.root (up s split t) ways v u (back u h.rest) home in
     let worth : SameFreely home_loop (two_spokes s split o t polygon a b) =
-    g.on home_loop (loop_inv there_loop) (two_spokes s split o t polygon a b) (loop_home ways u v h.rest h.way home)
+    g.on home_loop (loop_inv there_loop) (two_spokes s split o t polygon a b)
+    (loop_home s.mesh t.parents.root (up s split t) ways u v h.rest h.way home)
     (g.on (loop_inv there_loop) (loop_inv (two_spokes s split o t polygon b a)) (two_spokes s split o t polygon a b)
-    (g.inv_same there_loop (two_spokes s split o t polygon b a) h.worth) (inverse_of_quotient g (S b) (S a))) in
+    (g.inv_same there_loop (two_spokes s split o t polygon b a) h.worth)
+    (inverse_of_quotient SameFreely loop_mul loop_inv (one_of s split t) g (S b) (S a))) in
     record { rest = back u h.rest; few = omega (arith, h.few, back-length u h.rest); way = home; worth = worth }
 
 pub side_arc : {s : OrientedMesh} {split : SplitView} (o : IsOrientedSurface s) (t : IsSplit s split) {polygon : PolygonView}
     → IsCutFrom s split polygon → 0 < polygon.degree → (a b : ℕ) → a < polygon.degree → b < polygon.degree
     → IsSideArc s split o t polygon a b
 side_arc {s} {split} o t {polygon} c some a b a_in b_in =
-    let joined = darts_joined s split polygon (side_at polygon a) (side_at polygon b) o t c some (side_in c some a) (side_in c some b) in
+    let joined = darts_joined s split polygon (side_at polygon a) (side_at polygon b) o t c some (side_in s split polygon c some a)
+    (side_in s split polygon c some b) in
     elim joined.2 [
       | inl there ↦ forward o t c some a b a_in b_in joined.1 there
       | inr home ↦ turned (forward o t c some b a b_in a_in joined.1 home)
@@ -283,7 +287,7 @@ pub worth_by_loop : {s : OrientedMesh} {split : SplitView} (o : IsOrientedSurfac
 worth_by_loop {s} {split} o t ups h u v rest loop way worth =
     subst (AreFreelyEqual s.mesh (u ∷ rest))
     (sym (by_loop_is s split o t ups h u v loop.rest (start_used s.mesh u v rest way) (end_used s.mesh u v rest way)))
-    (by_own_loop (tree_ways o t) u v rest way loop worth)
+    (by_own_loop s.mesh t.parents.root (up s split t) (tree_ways s split o t) u v rest way loop worth)
 
 -- and an arc is so the loop of the spokes of its two labels
 arc_by_loop : {s : OrientedMesh} {split : SplitView} {polygon : PolygonView} (root : ℕ) (ups : ℕ → List ℕ) {o : IsOrientedSurface s}

@@ -127,7 +127,8 @@ around {s} {split} {o} {t} {polygon} c some {front} {path} {there} {home} pairs 
 
 end_used : {s : OrientedMesh} {split : SplitView} {polygon : PolygonView} → IsOrientedSurface s → IsCutFrom s split polygon
     → 0 < polygon.degree → is_used s.mesh (origin_of s (last_side polygon)) ≡ true
-end_used {s} {polygon} o c some = (names_all s o).vertex_used (last_side polygon) (side_in c some (polygon.degree - 1))
+end_used {s} {split} {polygon} o c some = (names_all s o).vertex_used (last_side polygon)
+    (side_in s split polygon c some (polygon.degree - 1))
 
 -- the loop goes in behind spokes that the path has too
 pub short_behind : (s : OrientedMesh) (split : SplitView) (polygon : PolygonView) (before after : List ℕ) (there home pairs : ℕ)
@@ -197,9 +198,9 @@ last_dart : {s : OrientedMesh} {split : SplitView} (o : IsOrientedSurface s) (t 
     → IsCutFrom s split polygon → 0 < polygon.degree → IsLastDart s split o t polygon (across_last s polygon)
 last_dart {s} {split} o t {polygon} c some =
     let g = free_group s split t in
-    let ways : HasWays s.mesh t.parents.root (up s split t) = tree_ways o t in
+    let ways : HasWays s.mesh t.parents.root (up s split t) = tree_ways s split o t in
     let d : ℕ = last_side polygon in
-    let l : d < darts_of s = side_in c some (polygon.degree - 1) in
+    let l : d < darts_of s = side_in s split polygon c some (polygon.degree - 1) in
     let u : ℕ = origin_of s d in
     let w : ℕ = origin_of s (side_at polygon (across_last s polygon)) in
     let at : origin_of s (twin_of s d) ≡ w = ap (origin_of s) (sym (side_across o c (polygon.degree - 1) (omega arith))) in
@@ -214,7 +215,8 @@ last_dart {s} {split} o t {polygon} c some =
       way = way;
       worth = worth;
       home_way = home;
-      home_worth = g.on home_loop (loop_inv along) (loop_inv val) (loop_home ways u w (w ∷ []) way home) (g.inv_same along val worth);
+      home_worth = g.on home_loop (loop_inv along) (loop_inv val)
+          (loop_home s.mesh t.parents.root (up s split t) ways u w (w ∷ []) way home) (g.inv_same along val worth);
     }
 
 -- or behind the two spokes of the side across from the last one
@@ -229,7 +231,7 @@ short_behind_two s split polygon before after there home pairs o t c some even b
     let used = end_used o c some in
     let end : ℕ = origin_of s (last_side polygon) in
     let mid : ℕ = origin_of s (side_at polygon k) in
-    let mid_used : is_used s.mesh mid ≡ true = (names_all s o).vertex_used (side_at polygon k) (side_in c some k) in
+    let mid_used : is_used s.mesh mid ≡ true = (names_all s o).vertex_used (side_at polygon k) (side_in s split polygon c some k) in
     let none : Loops s split t = one_of s split t in
     let g = free_group s split t in
     let S : ℕ → Loops s split t = spoke s split o t polygon in

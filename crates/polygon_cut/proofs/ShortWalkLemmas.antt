@@ -22,13 +22,14 @@ pub worth_on : {s : OrientedMesh} {split : SplitView} → IsOrientedSurface s �
     → IsWorth s split t u w (rest ++ more) (loop_mul a b)
 worth_on {s} {split} o t u v w rest more a b h k x y =
     let g = free_group s split t in
-    let ways : HasWays s.mesh t.parents.root (up s split t) = tree_ways o t in
+    let ways : HasWays s.mesh t.parents.root (up s split t) = tree_ways s split o t in
     let root : ℕ = t.parents.root in
     let whole : IsWay s.mesh u w (rest ++ more) = way_on s.mesh u v w rest more h k in
     let first : Loops s split t = loop_of s.mesh root (up s split t) ways u v rest h in
     let second : Loops s split t = loop_of s.mesh root (up s split t) ways v w more k in
     let all : Loops s split t = loop_of s.mesh root (up s split t) ways u w (rest ++ more) whole in
-    g.on all (loop_mul first second) (loop_mul a b) (loop_on ways u v w rest more h k whole) (g.mul_same first a second b x y)
+    g.on all (loop_mul first second) (loop_mul a b) (loop_on s.mesh root (up s split t) ways u v w rest more h k whole)
+    (g.mul_same first a second b x y)
 
 -- a walk that is worth a loop and has at most one and a half times as many darts as there are sides for each pair, and half as many more
 pub record IsPairsWalk (s : OrientedMesh) (split : SplitView) (t : IsSplit s split) (u v pairs : ℕ) (loop : Loops s split t) : Type 0 where
@@ -65,7 +66,7 @@ pair_first {s} {split} o {t} {polygon} c some u {v} {pairs} a b {loop} used a_in
     let g = free_group s split t in
     let x : ℕ = origin_of s (side_at polygon a) in
     let y : ℕ = origin_of s (side_at polygon b) in
-    let x_used : is_used s.mesh x ≡ true = (names_all s o).vertex_used (side_at polygon a) (side_in c some a) in
+    let x_used : is_used s.mesh x ≡ true = (names_all s o).vertex_used (side_at polygon a) (side_in s split polygon c some a) in
     let there : IsTreeWalk s split t u x = tree_walk o t c some u x used x_used in
     let arc : IsSideArc s split o t polygon a b = side_arc o t c some a b a_in b_in in
     let two : Loops s split t = two_spokes s split o t polygon a b in
@@ -107,7 +108,7 @@ pairs_walk {s} {split} o t {polygon} c some (suc pairs) (a ∷ []) u v used v_us
     let none : Loops s split t = one_of s split t in
     let S : ℕ → Loops s split t = spoke s split o t polygon in
     let y : ℕ = origin_of s (side_at polygon 0) in
-    let y_used : is_used s.mesh y ≡ true = (names_all s o).vertex_used (side_at polygon 0) (side_in c some 0) in
+    let y_used : is_used s.mesh y ≡ true = (names_all s o).vertex_used (side_at polygon 0) (side_in s split polygon c some 0) in
     let rest : IsPairsWalk s split t y v pairs none = pairs_walk o t c some pairs [] y v y_used v_used
     (λ k d l. absurd (omega arith)) (omega arith) in
     let two : Loops s split t = two_spokes s split o t polygon a 0 in
@@ -120,7 +121,7 @@ pairs_walk {s} {split} o t {polygon} c some (suc pairs) (a ∷ b ∷ path) u v u
     let g = free_group s split t in
     let S : ℕ → Loops s split t = spoke s split o t polygon in
     let y : ℕ = origin_of s (side_at polygon b) in
-    let y_used : is_used s.mesh y ≡ true = (names_all s o).vertex_used (side_at polygon b) (side_in c some b) in
+    let y_used : is_used s.mesh y ≡ true = (names_all s o).vertex_used (side_at polygon b) (side_in s split polygon c some b) in
     let others : Loops s split t = product_of s split o t polygon path in
     let rest : IsPairsWalk s split t y v pairs others =
     pairs_walk o t c some pairs path y v y_used v_used (λ k d l. below (suc (suc k)) d (omega arith)) (omega arith) in

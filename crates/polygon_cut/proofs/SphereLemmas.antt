@@ -28,7 +28,7 @@ no_value {s} {split} o t sphere d l =
     let nothing : Loops s split t = one_of s split t in
     let g = group_of s split t in
     let valued : Valued SameLoop loop_mul loop_inv nothing s split (value s split o t) (λ _. nothing) (λ _. 0) (darts_of s) = record {
-      twins = value_twin o t;
+      twins = value_twin s split o t;
       faces = face_rounds o t;
       of_tree = λ x k is. refl;
       of_cotree = λ x k is. refl;
@@ -43,12 +43,12 @@ no_value {s} {split} o t sphere d l =
 -- so is the loop of each walk
 no_loop : {s : OrientedMesh} {split : SplitView} (o : IsOrientedSurface s) (t : IsSplit s split) → split.genus ≡ 0
     → (u v : ℕ) (rest : List ℕ) (way : IsWay s.mesh u v rest)
-    → SameLoop (loop_of s.mesh t.parents.root (up s split t) (tree_ways o t) u v rest way) (one_of s split t)
-no_loop o t sphere u v [] way = no_dart (tree_ways o t) u v way
+    → SameLoop (loop_of s.mesh t.parents.root (up s split t) (tree_ways s split o t) u v rest way) (one_of s split t)
+no_loop {s} {split} o t sphere u v [] way = no_dart s.mesh t.parents.root (up s split t) (tree_ways s split o t) u v way
 no_loop {s} {split} o t sphere u v (w ∷ rest) way =
     let g = group_of s split t in
     let nothing : Loops s split t = one_of s split t in
-    let ways : HasWays s.mesh t.parents.root (up s split t) = tree_ways o t in
+    let ways : HasWays s.mesh t.parents.root (up s split t) = tree_ways s split o t in
     let found = dart_between s o u w way.0 in
     let d : ℕ = found.0 in
     let l : d < darts_of s = found.1.within in
@@ -59,7 +59,7 @@ no_loop {s} {split} o t sphere u v (w ∷ rest) way =
     let val : Loops s split t = value s split o t d in
     let dart : SameLoop x nothing =
     g.on x val nothing (g.turn val x (value_along (homotopy s.mesh) split o t u w d found.1 one_way)) (no_value o t sphere d l) in
-    g.on whole (loop_mul x y) nothing (first_dart ways u w v rest way one_way way.1)
+    g.on whole (loop_mul x y) nothing (first_dart s.mesh t.parents.root (up s split t) ways u w v rest way one_way way.1)
     (g.on (loop_mul x y) (loop_mul nothing nothing) nothing (g.mul_same x nothing y nothing dart (no_loop o t sphere w v rest way.1))
     (g.one_left nothing))
 
@@ -74,11 +74,12 @@ all_homotopic s split (u ∷ rest) [] o t sphere w z ends =
 all_homotopic s split (u ∷ rest) (v ∷ others) o t sphere w z ends =
     let g = group_of s split t in
     let nothing : Loops s split t = one_of s split t in
-    let ways : HasWays s.mesh t.parents.root (up s split t) = tree_ways o t in
+    let ways : HasWays s.mesh t.parents.root (up s split t) = tree_ways s split o t in
     let end : ℕ = slice_index (u ∷ rest) (length rest) in
     let way : IsWay s.mesh u end rest = walk_way s.mesh u rest w in
-    let along : IsWay s.mesh u end others = other_way u v rest others z ends in
+    let along : IsWay s.mesh u end others = other_way s.mesh u v rest others z ends in
     let x : Loops s split t = loop_of s.mesh t.parents.root (up s split t) ways u end rest way in
     let y : Loops s split t = loop_of s.mesh t.parents.root (up s split t) ways u end others along in
-    subst (λ a. Homotopic s.mesh (u ∷ rest) (a ∷ others)) ends.starts (from_loops ways u end rest others way along
+    subst (λ a. Homotopic s.mesh (u ∷ rest) (a ∷ others)) ends.starts
+    (from_loops s.mesh t.parents.root (up s split t) ways u end rest others way along
     (g.on x nothing y (no_loop o t sphere u end rest way) (g.turn y nothing (no_loop o t sphere u end others along))))

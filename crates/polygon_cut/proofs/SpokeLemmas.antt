@@ -19,23 +19,23 @@ group_of s split t = loops_make_a_group s.mesh t.parents.root t.parents.root_use
 pub value_is : {s : OrientedMesh} {split : SplitView} (o : IsOrientedSurface s) (t : IsSplit s split) (d : ℕ) → d < darts_of s
     → (way : IsWay s.mesh (origin_of s d) (origin_of s (twin_of s d)) (origin_of s (twin_of s d) ∷ []))
     → SameLoop (value s split o t d)
-    (loop_of s.mesh t.parents.root (up s split t) (tree_ways o t) (origin_of s d) (origin_of s (twin_of s d))
+    (loop_of s.mesh t.parents.root (up s split t) (tree_ways s split o t) (origin_of s d) (origin_of s (twin_of s d))
     (origin_of s (twin_of s d) ∷ []) way)
 value_is {s} {split} o t d l way =
     value_along (homotopy s.mesh) split o t (origin_of s d) (origin_of s (twin_of s d)) d
     (record { within = l; starts = refl; ends = refl }) way
 
 -- twins have inverse values
-pub value_twin : {s : OrientedMesh} {split : SplitView} (o : IsOrientedSurface s) (t : IsSplit s split) (d : ℕ) → d < darts_of s
+pub value_twin : (s : OrientedMesh) (split : SplitView) (o : IsOrientedSurface s) (t : IsSplit s split) (d : ℕ) → d < darts_of s
     → SameLoop (value s split o t (twin_of s d)) (loop_inv (value s split o t d))
-value_twin {s} {split} o t d l = value_of_twin (homotopy s.mesh) split o t d l
+value_twin s split o t d l = value_of_twin (homotopy s.mesh) split o t d l
 
 -- round a whole face the values make nothing
 pub face_rounds : {s : OrientedMesh} {split : SplitView} (o : IsOrientedSurface s) (t : IsSplit s split) (d : ℕ) → d < darts_of s
     → WholeRound SameLoop loop_mul (one_of s split t) (value s split o t) (next_of s) d
 face_rounds {s} {split} o t d l =
     let g = group_of s split t in
-    let ways : HasWays s.mesh t.parents.root (up s split t) = tree_ways o t in
+    let ways : HasWays s.mesh t.parents.root (up s split t) = tree_ways s split o t in
     let u : ℕ = origin_of s d in
     let m : ℕ = length (face_at s.mesh (face_of s d)) in
     let polygon : 3 ≤ m = (o.faces.faces (face_of s d) [] ((names_all s o).face_below d l)).polygon in
@@ -55,7 +55,8 @@ face_rounds {s} {split} o t d l =
       is_one =
           subst (λ k. SameLoop (round loop_mul (one_of s split t) (value s split o t) (next_of s) k d) (one_of s split t)) (sym count)
           (g.on all around (one_of s split t) (g.turn around all (round_is (homotopy s.mesh) split o t m d l u way))
-          (g.on around still (one_of s split t) (g.turn still around contracts) (no_dart ways u u stay)));
+          (g.on around still (one_of s split t) (g.turn still around contracts)
+          (no_dart s.mesh t.parents.root (up s split t) ways u u stay)));
     }
 
 surface_valued : {s : OrientedMesh} {split : SplitView} (o : IsOrientedSurface s) (t : IsSplit s split) {polygon : PolygonView}
@@ -63,7 +64,7 @@ surface_valued : {s : OrientedMesh} {split : SplitView} (o : IsOrientedSurface s
     → Valued SameLoop loop_mul loop_inv (one_of s split t) s split (value s split o t) (spoke s split o t polygon) (label_of polygon)
     (side_at polygon (polygon.degree - 1))
 surface_valued {s} {split} o t {polygon} c some = record {
-  twins = value_twin o t;
+  twins = value_twin s split o t;
   faces = face_rounds o t;
   of_tree = λ d l. (labels_ride s split polygon d o t c some l).of_tree;
   of_cotree = λ d l. (labels_ride s split polygon d o t c some l).of_cotree;
@@ -73,8 +74,8 @@ surface_valued {s} {split} o t {polygon} c some = record {
 }
 
 -- Each dart of a surface is homotopic to two spokes, those of the labels at its tail and at its head.
-pub dart_is_two_spokes : {s : OrientedMesh} {split : SplitView} (o : IsOrientedSurface s) (t : IsSplit s split) {polygon : PolygonView}
+pub dart_is_two_spokes : (s : OrientedMesh) (split : SplitView) (o : IsOrientedSurface s) (t : IsSplit s split) (polygon : PolygonView)
     → IsCutFrom s split polygon → 0 < polygon.degree → (d : ℕ) → d < darts_of s
     → SameLoop (value s split o t d) (by_labels loop_mul loop_inv (spoke s split o t polygon) (label_of polygon) (next_of s) d)
-dart_is_two_spokes {s} {split} o t c some d l =
+dart_is_two_spokes s split o t polygon c some d l =
     all_values (group_of s split t) o t (surface_valued o t c some) (names_all s o).edge_below (names_all s o).face_below d l

@@ -79,7 +79,7 @@ shorter_above {s} {split} o t v (w ∷ path) p x m =
     let w_used : is_used s.mesh w ≡ true = step_used o t v w p.0 in
     elim m [
       | inl here ↦
-          let own : up s split t w ≡ path = one_path o t w (up s split t w) path (up_path t w w_used) p.1 in
+          let own : up s split t w ≡ path = one_path s split o t w (up s split t w) path (up_path s split t w w_used) p.1 in
           let long : length (up s split t x) ≡ length path = ap (λ y. length (up s split t y)) here ∙ ap (λ (l : List ℕ). length l) own in
           omega (arith, long)
       | inr later ↦ omega (arith, shorter_above o t w path p.1 x later)
@@ -88,7 +88,7 @@ shorter_above {s} {split} o t v (w ∷ path) p x m =
 not_above : {s : OrientedMesh} {split : SplitView} → IsOrientedSurface s → (t : IsSplit s split) → (v : ℕ) (path : List ℕ)
     → is_used s.mesh v ≡ true → IsPath (StepsToParent (rotations_of s) split) v path t.parents.root → IsIn v path → ⊥
 not_above {s} {split} o t v path used p m =
-    let own : up s split t v ≡ path = one_path o t v (up s split t v) path (up_path t v used) p in
+    let own : up s split t v ≡ path = one_path s split o t v (up s split t v) path (up_path s split t v used) p in
     omega (arith, shorter_above o t v path p v m, ap (λ (l : List ℕ). length l) own)
 
 path_differs : {s : OrientedMesh} {split : SplitView} → IsOrientedSurface s → (t : IsSplit s split) → (v : ℕ) (path : List ℕ)
@@ -122,9 +122,9 @@ record IsIdle (s : OrientedMesh) (split : SplitView) (t : IsSplit s split) (u v 
 
 stays : {s : OrientedMesh} {split : SplitView} → IsOrientedSurface s → (t : IsSplit s split) → (u v most : ℕ) → u ≡ v
     → is_used s.mesh u ≡ true → IsIdle s split t u v most
-stays {s} o t u v most same used =
+stays {s} {split} o t u v most same used =
     let stay : IsWay s.mesh u v [] = (same, used) in
-    record { rest = []; few = omega arith; way = stay; worth = no_dart (free_equality s.mesh) (tree_ways o t) u v stay }
+    record { rest = []; few = omega arith; way = stay; worth = no_dart (free_equality s.mesh) (tree_ways s split o t) u v stay }
 
 -- one step up first
 steps_up : {s : OrientedMesh} {split : SplitView} → IsOrientedSurface s → {t : IsSplit s split} → (u : ℕ) {w v most : ℕ} (more : ℕ)
@@ -132,9 +132,9 @@ steps_up : {s : OrientedMesh} {split : SplitView} → IsOrientedSurface s → {t
     → StepsToParent (rotations_of s) split u w → IsIdle s split t w v most → IsIdle s split t u v more
 steps_up {s} {split} o {t} u {w} {v} more less used p h =
     let g = free_group s split t in
-    let ways : HasWays s.mesh t.parents.root (up s split t) = tree_ways o t in
+    let ways : HasWays s.mesh t.parents.root (up s split t) = tree_ways s split o t in
     let w_used : is_used s.mesh w ≡ true = step_used o t u w p in
-    let above : up s split t u ≡ w ∷ up s split t w = up_step o t u w used w_used p in
+    let above : up s split t u ≡ w ∷ up s split t w = up_step s split o t u w used w_used p in
     let edge : IsTrue (is_edge s.mesh u w) = (subst (λ l. IsWay s.mesh u t.parents.root l) above (ways.way u used)).0 in
     let one : IsWay s.mesh u w (w ∷ []) = (edge, (refl, w_used)) in
     let whole : IsWay s.mesh u v (w ∷ h.rest) = (edge, h.way) in
@@ -163,12 +163,13 @@ comes_down : {s : OrientedMesh} {split : SplitView} → IsOrientedSurface s → 
     → IsIdle s split t v u most → IsIdle s split t u v most
 comes_down {s} {split} o {t} {u} {v} h =
     let g = free_group s split t in
-    let ways : HasWays s.mesh t.parents.root (up s split t) = tree_ways o t in
+    let ways : HasWays s.mesh t.parents.root (up s split t) = tree_ways s split o t in
     let home : IsWay s.mesh u v (back v h.rest) = way_home s.mesh v u h.rest h.way in
     let there_loop : Loops s split t = loop_of s.mesh t.parents.root (up s split t) ways v u h.rest h.way in
     let home_loop : Loops s split t = loop_of s.mesh t.parents.root (up s split t) ways u v (back v h.rest) home in
     let none : Loops s split t = one_of s split t in
-    let worth : SameFreely home_loop none = g.on home_loop (loop_inv there_loop) none (loop_home ways v u h.rest h.way home)
+    let worth : SameFreely home_loop none =
+    g.on home_loop (loop_inv there_loop) none (loop_home s.mesh t.parents.root (up s split t) ways v u h.rest h.way home)
     (g.on (loop_inv there_loop) (loop_inv none) none (g.inv_same there_loop none h.worth)
     (g.turn none (loop_inv none) (inverse_of_one g))) in
     record { rest = back v h.rest; few = omega (arith, h.few, back-length v h.rest); way = home; worth = worth }
@@ -183,7 +184,7 @@ record Meets (s : OrientedMesh) (split : SplitView) (t : IsSplit s split) (u : �
 met_here : {s : OrientedMesh} {split : SplitView} → IsOrientedSurface s → (t : IsSplit s split) → (u : ℕ) (path : List ℕ) (v : ℕ)
     → is_used s.mesh v ≡ true → IsIn u (v ∷ up s split t v) → Meets s split t u path v
 met_here {s} {split} o t u path v v_used m =
-    let v_path = up_path t v v_used in
+    let v_path = up_path s split t v v_used in
     let long : length (up s split t v) ≡ 0 + length (up s split t v) = omega arith in
     record {
       front = [];
@@ -198,7 +199,7 @@ meets : {s : OrientedMesh} {split : SplitView} → IsOrientedSurface s → (t : 
 meets {s} {split} o t u [] v used v_used p = elim (is_in u (v ∷ up s split t v)) [
   | inl m ↦ met_here o t u [] v v_used m
   | inr none ↦
-      let v_path = up_path t v v_used in
+      let v_path = up_path s split t v v_used in
       absurd (none (subst (λ x. IsIn x (v ∷ up s split t v)) (sym p) (root_on s split t.parents.root v (up s split t v) v_path)))
 ]
 meets {s} {split} o t u (w ∷ path) v used v_used p = elim (is_in u (v ∷ up s split t v)) [
@@ -241,8 +242,8 @@ pub tree_walk : {s : OrientedMesh} {split : SplitView} {polygon : PolygonView} �
     → IsCutFrom s split polygon → 0 < polygon.degree → (u v : ℕ) → is_used s.mesh u ≡ true → is_used s.mesh v ≡ true
     → IsTreeWalk s split t u v
 tree_walk {s} {split} {polygon} o t c some u v used v_used =
-    let u_path = up_path t u used in
-    let v_path = up_path t v v_used in
+    let u_path = up_path s split t u used in
+    let v_path = up_path s split t v v_used in
     let h : Meets s split t u (up s split t u) v = meets o t u (up s split t u) v used v_used u_path in
     let each : (x : ℕ) → IsIn x (h.front ++ (v ∷ up s split t v)) → (x < s.mesh.count) × (is_used s.mesh x ≡ true) = λ x m.
     let x_used : is_used s.mesh x ≡ true = elim (in_either x h.front (v ∷ up s split t v) m) [

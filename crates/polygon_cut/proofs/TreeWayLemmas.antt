@@ -3,10 +3,10 @@ use Rattle.polygon_cut.proofs.Common.{edge_of_dart, rotation_system, names_all, 
 use Rattle.std.proofs.Math.Bool.{or-false}
 use Rattle.polygon_cut.proofs.WayLemmas.{IsWay, HasWays}
 
-pub one_path : {s : OrientedMesh} {split : SplitView} → IsOrientedSurface s → (t : IsSplit s split) → (v : ℕ) (path other : List ℕ)
+pub one_path : (s : OrientedMesh) (split : SplitView) → IsOrientedSurface s → (t : IsSplit s split) → (v : ℕ) (path other : List ℕ)
     → IsPath (StepsToParent (rotations_of s) split) v path t.parents.root
     → IsPath (StepsToParent (rotations_of s) split) v other t.parents.root → path ≡ other
-one_path {s} {split} o t = single_path (StepsToParent (rotations_of s) split) t.parents.root (parents_upward s split o t)
+one_path s split o t = single_path (StepsToParent (rotations_of s) split) t.parents.root (parents_upward s split o t)
 
 -- the way up, for used vertices
 pub pick : {s : OrientedMesh} {split : SplitView} (t : IsSplit s split) (v : ℕ) → (is_used s.mesh v ≡ true) ⊎ (is_used s.mesh v ≡ false)
@@ -17,10 +17,10 @@ pick t v (inr _) = []
 abbrev pub up : (s : OrientedMesh) (split : SplitView) → IsSplit s split → ℕ → List ℕ
 up s split t v = pick t v (cases_Bool (is_used s.mesh v))
 
-pub up_path : {s : OrientedMesh} {split : SplitView} (t : IsSplit s split) (v : ℕ) → is_used s.mesh v ≡ true
+pub up_path : (s : OrientedMesh) (split : SplitView) (t : IsSplit s split) (v : ℕ) → is_used s.mesh v ≡ true
     → IsPath (StepsToParent (rotations_of s) split) v (up s split t v) t.parents.root
 unfolding pick
-up_path {s} {split} t v used = go (cases_Bool (is_used s.mesh v))
+up_path s split t v used = go (cases_Bool (is_used s.mesh v))
   where
     go : (c : (is_used s.mesh v ≡ true) ⊎ (is_used s.mesh v ≡ false))
         → IsPath (StepsToParent (rotations_of s) split) v (pick t v c) t.parents.root
@@ -41,19 +41,19 @@ path_way : {s : OrientedMesh} {split : SplitView} → IsOrientedSurface s → (t
 path_way {s} o t v [] p = (p, subst (λ x. IsTrue (is_used s.mesh x)) (sym p) t.parents.root_used)
 path_way o t v (w ∷ path) p = (parent_edge o t v w p.0, path_way o t w path p.1)
 
-pub tree_ways : {s : OrientedMesh} {split : SplitView} → IsOrientedSurface s → (t : IsSplit s split)
+pub tree_ways : (s : OrientedMesh) (split : SplitView) → IsOrientedSurface s → (t : IsSplit s split)
     → HasWays s.mesh t.parents.root (up s split t)
-tree_ways {s} {split} o t = record {
+tree_ways s split o t = record {
   root_used = t.parents.root_used;
-  way = λ v used. path_way o t v (up s split t v) (up_path t v used);
+  way = λ v used. path_way o t v (up s split t v) (up_path s split t v used);
 }
 
 -- from a vertex with a parent the way up begins with that parent
-pub up_step : {s : OrientedMesh} {split : SplitView} → IsOrientedSurface s → (t : IsSplit s split) → (v w : ℕ) → is_used s.mesh v ≡ true
+pub up_step : (s : OrientedMesh) (split : SplitView) → IsOrientedSurface s → (t : IsSplit s split) → (v w : ℕ) → is_used s.mesh v ≡ true
     → is_used s.mesh w ≡ true
     → StepsToParent (rotations_of s) split v w → up s split t v ≡ w ∷ up s split t w
-up_step {s} {split} o t v w v_used w_used p =
-    one_path o t v (up s split t v) (w ∷ up s split t w) (up_path t v v_used) (p, up_path t w w_used)
+up_step s split o t v w v_used w_used p =
+    one_path s split o t v (up s split t v) (w ∷ up s split t w) (up_path s split t v v_used) (p, up_path s split t w w_used)
 
 -- The edges of the parent darts are as many as the used vertices but one.
 
@@ -167,8 +167,8 @@ up_once {s} {split} o t v w e p q =
           let w_used : is_used s.mesh w ≡ true = used_at o t w b.0 b.1 in
           let to_w : StepsToParent maps split v w = (a.0, record { is_parent = a.1; ends = w_is }) in
           let to_v : StepsToParent maps split w v = (b.0, record { is_parent = b.1; ends = v_is }) in
-          let first : up s split t v ≡ w ∷ up s split t w = up_step o t v w v_used w_used to_w in
-          let second : up s split t w ≡ v ∷ up s split t v = up_step o t w v w_used v_used to_v in
+          let first : up s split t v ≡ w ∷ up s split t w = up_step s split o t v w v_used w_used to_w in
+          let second : up s split t w ≡ v ∷ up s split t v = up_step s split o t w v w_used v_used to_v in
           let long : length (up s split t v) ≡ length (w ∷ v ∷ up s split t v) =
           ap (λ (l : List ℕ). length l) (first ∙ ap (λ (l : List ℕ). w ∷ l) second) in
           absurd (omega (arith, long))
@@ -198,10 +198,10 @@ has_parent {s} {split} o t =
         by (Some d) is = used_at o t v d is ∙ sym (rw is refl)
 
 -- each tree edge is that of a dart to a parent
-pub tree_edge : {s : OrientedMesh} {split : SplitView} → IsOrientedSurface s → (t : IsSplit s split) → (e : ℕ) → e < length s.table
+pub tree_edge : (s : OrientedMesh) (split : SplitView) → IsOrientedSurface s → (t : IsSplit s split) → (e : ℕ) → e < length s.table
     → in_tree split e ≡ true
     → (v : ℕ) × (d : ℕ) × (parent_dart split v ≡ Some d) × ((rotations_of s).edge d ≡ e)
-tree_edge {s} {split} o t e l is =
+tree_edge s split o t e l is =
     let image : ℕ → Bool = λ x. any_below (λ v. hits (edge_up s split v) x) s.mesh.count in
     let size : count_below image (length s.table) ≡ count_below (λ v. is_some (edge_up s split v)) s.mesh.count =
     image_count (edge_up s split) (length s.table) (λ v x p. (let a = edge_up_is s split v x p in subst (λ y. y < length s.table) a.2
@@ -225,7 +225,7 @@ pub tree_dart : {s : OrientedMesh} {split : SplitView} → IsOrientedSurface s �
 tree_dart {s} {split} o t d l is =
     let maps : Rotations = rotations_of s in
     let r : IsRotationSystem maps = rotation_system s o in
-    let found = tree_edge o t (maps.edge d) ((names_all s o).edge_below d l) is in
+    let found = tree_edge s split o t (maps.edge d) ((names_all s o).edge_below d l) is in
     let v : ℕ = found.0 in
     let p : ℕ = found.1 in
     let p_in : p < darts_of s = t.parents.within v p found.2 in
@@ -233,7 +233,7 @@ tree_dart {s} {split} o t d l is =
     let v_is : maps.origin p ≡ v = t.parents.starts v p found.2 in
     let way : up s split t (maps.origin p) ≡ maps.origin (maps.twin p) ∷ up s split t (maps.origin (maps.twin p)) =
     subst (λ x. up s split t x ≡ maps.origin (maps.twin p) ∷ up s split t (maps.origin (maps.twin p))) (sym v_is)
-    (up_step o t v (maps.origin (maps.twin p)) (used_at o t v p found.2)
+    (up_step s split o t v (maps.origin (maps.twin p)) (used_at o t v p found.2)
     ((names_all s o).vertex_used (maps.twin p) (r.twin_within p p_in)) step) in
     elim ((r.edges p d p_in l).0 found.3) [
       | inl same ↦ inl (subst (λ x. up s split t (maps.origin x) ≡ maps.origin (maps.twin x) ∷ up s split t (maps.origin (maps.twin x)))

@@ -88,7 +88,7 @@ across_cotree : {X : Type 0} {Same : X → X → Type 0} {mul : X → X → X} {
     → in_cotree split ((rotations_of s).edge d) ≡ true
     → Same (val d) (by_labels mul inv spoke label (rotations_of s).next d)
     → Same (val ((rotations_of s).twin d)) (by_labels mul inv spoke label (rotations_of s).next ((rotations_of s).twin d))
-across_cotree {Same} {mul} {inv} g {s} {split} {val} {spoke} {label} o v d l is h =
+across_cotree {Same} {mul} {inv} {one} g {s} {split} {val} {spoke} {label} o v d l is h =
     let maps : Rotations = rotations_of s in
     let r : IsRotationSystem maps = rotation_system s o in
     let twin : ℕ = maps.twin d in
@@ -102,7 +102,7 @@ across_cotree {Same} {mul} {inv} g {s} {split} {val} {spoke} {label} o v d l is 
     (g.on (inv (val d)) (inv (quotient mul inv (spoke (label d)) (spoke (label (maps.next d)))))
     (quotient mul inv (spoke (label (maps.next d))) (spoke (label d)))
     (g.inv_same (val d) (quotient mul inv (spoke (label d)) (spoke (label (maps.next d)))) h)
-    (inverse_of_quotient g (spoke (label d)) (spoke (label (maps.next d))))) in
+    (inverse_of_quotient Same mul inv one g (spoke (label d)) (spoke (label (maps.next d))))) in
     subst (λ x. Same (val twin) (quotient mul inv (spoke (label twin)) (spoke x))) (sym one_end)
     (subst (λ x. Same (val twin) (quotient mul inv (spoke x) (spoke (label d)))) other_end turned)
 

@@ -12,9 +12,9 @@ pub walk_way : (mesh : FaceList) (u : ℕ) (rest : List ℕ) → IsWalk mesh (u 
 walk_way mesh u rest w = way_from mesh u rest (links mesh (u ∷ rest) w) w.used
 
 -- so is another walk with the same ends
-pub other_way : {mesh : FaceList} (u v : ℕ) (rest others : List ℕ) → IsWalk mesh (v ∷ others) → HaveCommonEnds (u ∷ rest) (v ∷ others)
+pub other_way : (mesh : FaceList) (u v : ℕ) (rest others : List ℕ) → IsWalk mesh (v ∷ others) → HaveCommonEnds (u ∷ rest) (v ∷ others)
     → IsWay mesh u (slice_index (u ∷ rest) (length rest)) others
-other_way {mesh} u v rest others w ends =
+other_way mesh u v rest others w ends =
     let last : length rest ≡ darts (u ∷ rest) = omega arith in
     let other_last : length others ≡ darts (v ∷ others) = omega arith in
     let same_end : slice_index (u ∷ rest) (length rest) ≡ slice_index (v ∷ others) (length others) =

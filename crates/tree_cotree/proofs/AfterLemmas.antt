@@ -11,8 +11,8 @@ pub turn : (maps : Rotations) (inside : ℕ → Bool) (d : ℕ) → inside (maps
     → after_dart maps inside d ≡ maps.next (maps.twin d)
 turn maps inside d h = cond-false (inside (maps.edge d)) (maps.next d) (maps.next (maps.twin d)) h
 
-pub twin_edge : {maps : Rotations} → IsRotationSystem maps → (d : ℕ) → d < maps.darts → maps.edge d ≡ maps.edge (maps.twin d)
-twin_edge {maps} r d l = (r.edges d (maps.twin d) l (r.twin_within d l)).1 (inr refl)
+pub twin_edge : (maps : Rotations) → IsRotationSystem maps → (d : ℕ) → d < maps.darts → maps.edge d ≡ maps.edge (maps.twin d)
+twin_edge maps r d l = (r.edges d (maps.twin d) l (r.twin_within d l)).1 (inr refl)
 
 twins_apart : {maps : Rotations} → IsRotationSystem maps → (x y : ℕ) → x < maps.darts → y < maps.darts → maps.twin x ≡ maps.twin y → x ≡ y
 twins_apart {maps} r x y l k e = sym (r.twin_back x l) ∙ ap maps.twin e ∙ r.twin_back y k
@@ -21,12 +21,12 @@ twins_apart {maps} r x y l k e = sym (r.twin_back x l) ∙ ap maps.twin e ∙ r.
 never_meet : {maps : Rotations} → IsRotationSystem maps → (inside : ℕ → Bool) (x y : ℕ) → x < maps.darts → y < maps.darts
     → inside (maps.edge x) ≡ true → inside (maps.edge y) ≡ false → x ≡ maps.twin y → ⊥
 never_meet {maps} r inside x y l k stays turns e =
-    let same : maps.edge x ≡ maps.edge y = ap maps.edge e ∙ sym (twin_edge r y k) in
+    let same : maps.edge x ≡ maps.edge y = ap maps.edge e ∙ sym (twin_edge maps r y k) in
     both_ways (inside (maps.edge y)) turns (subst (λ (z : ℕ). inside z ≡ true) same stays)
 
-pub after_permutes : {maps : Rotations} → IsRotationSystem maps → (inside : ℕ → Bool)
+pub after_permutes : (maps : Rotations) → IsRotationSystem maps → (inside : ℕ → Bool)
     → IsPermutationBelow maps.darts (after_dart maps inside)
-after_permutes {maps} r inside = record {
+after_permutes maps r inside = record {
   within = λ x l. elim (cases_Bool (inside (maps.edge x))) [
     | inl stays ↦ subst (λ (z : ℕ). z < maps.darts) (sym (go_on maps inside x stays)) (r.next_within x l)
     | inr turns ↦ subst (λ (z : ℕ). z < maps.darts) (sym (turn maps inside x turns)) (r.next_within (maps.twin x) (r.twin_within x l))
@@ -85,7 +85,7 @@ after_exchanges {maps} r {inside} {others} d l differ h k = elim (cases_eq h d) 
     apart e = r.twin_other d l (sym e)
 
     one_edge : maps.edge d ≡ maps.edge twin
-    one_edge = twin_edge r d l
+    one_edge = twin_edge maps r d l
 
     other : h ≢ d → h ≢ twin → maps.edge h ≢ maps.edge d
     other nd nt e = elim ((r.edges d h l k).0 (sym e)) [ inl same ↦ nd same | inr same ↦ nt same ]

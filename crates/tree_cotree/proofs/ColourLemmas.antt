@@ -42,11 +42,11 @@ coloured_trees_are_of_a_split {s} {colouring} o c =
       tells = refl {a = colouring};
     }
 
-pub split_tells : {s : OrientedMesh} {split : SplitView} → IsSplit s split → IsColouring s (colouring_of split)
-split_tells {split} is = record { split = split; is_split = is; tells = refl }
+pub split_tells : (s : OrientedMesh) (split : SplitView) → IsSplit s split → IsColouring s (colouring_of split)
+split_tells s split is = record { split = split; is_split = is; tells = refl }
 
-pub colourings_have_trees : {s : OrientedMesh} {colouring : ColouringView} → IsColouring s colouring → HasColouredTrees s colouring
-colourings_have_trees {s} c =
+pub colourings_have_trees : (s : OrientedMesh) (colouring : ColouringView) → IsColouring s colouring → HasColouredTrees s colouring
+colourings_have_trees s colouring c =
     subst (HasColouredTrees s) c.tells (record {
       trees = record {
         each_edge = c.is_split.trees.each_edge;
@@ -58,5 +58,5 @@ colourings_have_trees {s} c =
       genus = c.is_split.genus;
     })
 
-pub trees_of : {s : OrientedMesh} {colouring : ColouringView} → IsColouring s colouring → HasTrees s (without_ways colouring)
-trees_of c = (colourings_have_trees c).trees
+pub trees_of : (s : OrientedMesh) (colouring : ColouringView) → IsColouring s colouring → HasTrees s (without_ways colouring)
+trees_of s colouring c = (colourings_have_trees s colouring c).trees

@@ -66,7 +66,7 @@ one_more {maps} {node} {is_node} {tree} {root} {from} {nodes} d r n h d_in in_se
   within = λ v x e. elim (kept_now v x e) [ inl last ↦ subst (λ y. y < maps.darts) (sym last.1) twin_in | inr old ↦ h.within v x old ];
   of_node = λ v x e. elim (kept_now v x e) [ inl last ↦ ap node last.1 ∙ sym last.0 | inr old ↦ h.of_node v x old ];
   inside = λ v x e. elim (kept_now v x e) [
-    | inl last ↦ ap (λ y. tree (maps.edge y)) last.1 ∙ ap tree (sym (twin_edge r d d_in)) ∙ in_set
+    | inl last ↦ ap (λ y. tree (maps.edge y)) last.1 ∙ ap tree (sym (twin_edge maps r d d_in)) ∙ in_set
     | inr old ↦ h.inside v x old
   ];
   listed = λ v x e. elim (kept_now v x e) [

@@ -4,10 +4,10 @@ use Rattle.tree_cotree.specs.RingCounts.{meets, ring_count, exchanged}
 use Rattle.tree_cotree.proofs.ClassLemmas.{found_below, passes_below, IsEquivalenceBelow, MergesClasses, one_class_less}
 
 -- reaching takes fewer than n steps
-pub reached_soon : {n : ℕ} {f : ℕ → ℕ} → IsPermutationBelow n f → (x : ℕ) → x < n → (fuel k y : ℕ) → k < fuel → after_steps f k x ≡ y
+pub reached_soon : (n : ℕ) (f : ℕ → ℕ) → IsPermutationBelow n f → (x : ℕ) → x < n → (fuel k y : ℕ) → k < fuel → after_steps f k x ≡ y
     → (j : ℕ) × (j < n) × (after_steps f j x ≡ y)
-reached_soon p x l zero k y few e = absurd (omega arith)
-reached_soon {n} {f} p x l (suc fuel) k y few e = elim (cases_lt k n) [
+reached_soon n f p x l zero k y few e = absurd (omega arith)
+reached_soon n f p x l (suc fuel) k y few e = elim (cases_lt k n) [
   | inl less ↦ (k, less, e)
   | inr more ↦
       let round : Returns n f x = returns_to n f p x l in
@@ -18,12 +18,12 @@ reached_soon {n} {f} p x l (suc fuel) k y few e = elim (cases_lt k n) [
       let sum : k - period + period ≡ k = omega (arith, round.few, more) in
       let shorter : after_steps f (k - period) x ≡ y =
       ap (after_steps f (k - period)) (sym back) ∙ sym (steps_add f (k - period) period x) ∙ ap (λ (m : ℕ). after_steps f m x) sum ∙ e in
-      reached_soon p x l fuel (k - period) y (omega (arith, round.few)) shorter
+      reached_soon n f p x l fuel (k - period) y (omega (arith, round.few)) shorter
 ]
 
 pub meets_from : {n : ℕ} {f : ℕ → ℕ} → IsPermutationBelow n f → {x y : ℕ} → x < n → IsReached f x y → meets f n x y ≡ true
 meets_from {n} {f} p {x} {y} l r =
-    let soon = reached_soon p x l (suc r.steps) r.steps y (omega arith) r.leads in
+    let soon = reached_soon n f p x l (suc r.steps) r.steps y (omega arith) r.leads in
     passes_below (λ k. eqb (after_steps f k x) y) n soon.0 soon.1 (eq-eqb (after_steps f soon.0 x) y soon.2)
 
 pub reached_from : (n : ℕ) (f : ℕ → ℕ) (x y : ℕ) → meets f n x y ≡ true → IsReached f x y

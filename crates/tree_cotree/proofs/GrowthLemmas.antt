@@ -93,10 +93,10 @@ grow {maps} {node} {is_node} {bound} {edges} {shape} {tree} {set} {nodes} r h tu
     old_exchanged = exchanged f d twin
 
     p : IsPermutationBelow maps.darts f
-    p = after_permutes r (λ e. shape (set e))
+    p = after_permutes maps r (λ e. shape (set e))
 
     new_p : IsPermutationBelow maps.darts new
-    new_p = after_permutes r (λ e. shape (with_one set edge e))
+    new_p = after_permutes maps r (λ e. shape (with_one set edge e))
 
     apart : d ≢ twin
     apart e = r.twin_other d l (sym e)
@@ -190,7 +190,7 @@ grown_up {maps} {node} {is_node} {bound} {edges} {shape} {tree} r h turned t roo
     let whole : (e : ℕ) → e < edges → set e ≡ tree e = same_from_count set tree edges g.within_tree (omega (arith, g.count, t.count)) in
     let same : (z : ℕ) → z < maps.darts → after_dart maps (λ e. shape (set e)) z ≡ after_dart maps (λ e. shape (tree e)) z =
     λ z z_in. after_agrees maps (λ e. shape (set e)) (λ e. shape (tree e)) z (ap shape (whole (maps.edge z) (h.edge_within z z_in))) in
-    reached_same (after_dart maps (λ e. shape (tree e))) (after_permutes r (λ e. shape (set e))) same x_in
+    reached_same (after_dart maps (λ e. shape (tree e))) (after_permutes maps r (λ e. shape (set e))) same x_in
     (g.from_node x y x_in y_in (inr (met x x_in, met y y_in)))
 grown_up {maps} {node} {is_node} {bound} {tree} r h turned t root root_in (suc left) {nodes} rooted count g x y x_in y_in =
     elim (some_outside nodes is_node bound) [

@@ -238,7 +238,7 @@ joining_apart {maps} {node} {is_node} {bound} {edges} {allowed} {m} {least} {set
       maps.twin a.dart,
       record {
         within = r.twin_within a.dart a.within;
-        in_set = ap (with_one set m) (sym (twin_edge r a.dart a.within) ∙ a.on_edge) ∙ with_itself set m;
+        in_set = ap (with_one set m) (sym (twin_edge maps r a.dart a.within) ∙ a.on_edge) ∙ with_itself set m;
         starts = a.ends;
         ends = ap node (r.twin_back a.dart a.within) ∙ a.starts;
       },

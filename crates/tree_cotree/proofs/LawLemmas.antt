@@ -34,14 +34,14 @@ one_of_three split e = go (kind_of split e)
     go Cotree = cotree_one
     go Left = left_one
 
-pub tree_has_ring : {s : OrientedMesh} {split : SplitView} → IsOrientedSurface s → HasTrees s split
+pub tree_has_ring : (s : OrientedMesh) (split : SplitView) → IsOrientedSurface s → HasTrees s split
     → HasOneRing (rotations_of s) (in_tree split)
-tree_has_ring {s} o t =
+tree_has_ring s split o t =
     tree_ring (rotation_system s o) (vertex_nodes (names_all s o)) t.tree
 
-pub rest_has_ring : {s : OrientedMesh} {split : SplitView} → IsOrientedSurface s → HasTrees s split
+pub rest_has_ring : (s : OrientedMesh) (split : SplitView) → IsOrientedSurface s → HasTrees s split
     → HasOneRing (rotations_of s) (λ e. not (in_cotree split e))
-rest_has_ring {s} o t =
+rest_has_ring s split o t =
     cotree_ring (rotation_system s o) (face_nodes (names_all s o)) t.cotree
 
 -- a closed surface has a dart
@@ -54,7 +54,7 @@ pub even : (s : OrientedMesh) (split : SplitView) → IsOrientedSurface s → Ha
     → (g : ℕ) × (count_below (is_left split) (length s.table) ≡ 2 * g)
 even s split o t =
     even_left (in_tree split) (in_cotree split) (is_left split) (length s.table) (rotation_system s o) (names_all s o).edge_below
-    (names_all s o).each_edge (λ e l. one_of_three split e) (some_dart o) (tree_has_ring o t) (rest_has_ring o t)
+    (names_all s o).each_edge (λ e l. one_of_three split e) (some_dart o) (tree_has_ring s split o t) (rest_has_ring s split o t)
 
 pub count_all : (n : ℕ) → count_below (λ f. true) n ≡ n
 count_all zero = refl

@@ -44,7 +44,7 @@ swap_by_one {maps} r {inside} {others} d l differ = elim (cases_Bool (meets f n 
     g = after_dart maps others
 
     p : IsPermutationBelow maps.darts f
-    p = after_permutes r inside
+    p = after_permutes maps r inside
 
     changed : ℕ → ℕ
     changed = exchanged f d twin
@@ -106,9 +106,9 @@ odd_so_far {maps} tree left edges r darts apart some ring zero l = (
   0,
   (
       let same : ring_count (after_dart maps tree) maps.darts ≡ ring_count (after_dart maps (with_left tree left 0)) maps.darts =
-      rings_same (after_dart maps (with_left tree left 0)) (after_permutes r tree)
+      rings_same (after_dart maps (with_left tree left 0)) (after_permutes maps r tree)
       (λ x x_in. after_agrees maps tree (with_left tree left 0) x (sym (unopened tree left (maps.edge x)))) in
-      let one : ring_count (after_dart maps tree) maps.darts ≡ 1 = one_ring_counted (after_permutes r tree) some ring in
+      let one : ring_count (after_dart maps tree) maps.darts ≡ 1 = one_ring_counted (after_permutes maps r tree) some ring in
       omega (arith, same, one)
       ),
 )
@@ -123,7 +123,7 @@ odd_so_far {maps} tree left edges r darts apart some ring (suc k) l =
           ] in
           let same : ring_count (after_dart maps (with_left tree left k)) maps.darts ≡ ring_count
           (after_dart maps (with_left tree left (suc k))) maps.darts =
-          rings_same (after_dart maps (with_left tree left (suc k))) (after_permutes r (with_left tree left k))
+          rings_same (after_dart maps (with_left tree left (suc k))) (after_permutes maps r (with_left tree left k))
           (λ x x_in. after_agrees maps (with_left tree left k) (with_left tree left (suc k)) x (agree (maps.edge x))) in
           let count : count_below left (suc k) ≡ count_below left k + 0 = rw skipped refl in
           (before.0, omega (arith, before.1, same, count))
@@ -160,10 +160,10 @@ even_left {maps} tree cotree left edges r edge_in darts kinds some ring ring_lef
     let end : (e : ℕ) → e < edges → not (cotree e) ≡ with_left tree left edges e = λ e l. at_end e l in
     let same : ring_count (after_dart maps (λ e. not (cotree e))) maps.darts ≡ ring_count (after_dart maps (with_left tree left edges))
     maps.darts =
-    rings_same (after_dart maps (with_left tree left edges)) (after_permutes r (λ e. not (cotree e)))
+    rings_same (after_dart maps (with_left tree left edges)) (after_permutes maps r (λ e. not (cotree e)))
     (λ x x_in. after_agrees maps (λ e. not (cotree e)) (with_left tree left edges) x (end (maps.edge x) (edge_in x x_in))) in
     let one : ring_count (after_dart maps (λ e. not (cotree e))) maps.darts ≡ 1 =
-    one_ring_counted (after_permutes r (λ e. not (cotree e))) some ring_left in
+    one_ring_counted (after_permutes maps r (λ e. not (cotree e))) some ring_left in
     (odd.0, omega (arith, odd.1, same, one))
   where
     no_tree : (a b c : Bool) → OneOfThree a b c → c ≡ true → a ≡ false

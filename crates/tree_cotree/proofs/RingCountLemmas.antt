@@ -19,7 +19,7 @@ pub rings_are_nodes : {maps : Rotations} {node : ℕ → ℕ} {is_node : ℕ →
     → rings_of_set maps inside ≡ count_below is_node bound
 rings_are_nodes {maps} inside r h alike =
     let f : ℕ → ℕ = after_dart maps inside in
-    let p : IsPermutationBelow maps.darts f = after_permutes r inside in
+    let p : IsPermutationBelow maps.darts f = after_permutes maps r inside in
     classes_are_names (record {
       one_name = λ x y l k is. (alike x y l k).1 (reached_from maps.darts f x y is);
       one_class = λ x y l k e. meets_from p l ((alike x y l k).0 e);
@@ -49,7 +49,7 @@ kept_number {s} {rings} inside o are same =
     let maps : Rotations = rotations_of s in
     let r : IsRotationSystem maps = rotation_system s o in
     ap (ring_count (slice_index rings.after)) are.each_dart
-    ∙ sym (rings_same (slice_index rings.after) (after_permutes r inside)
+    ∙ sym (rings_same (slice_index rings.after) (after_permutes maps r inside)
     (λ d l. sym (are.rule d l ∙ after_agrees maps (is_inside rings.inside) inside d (same (maps.edge d) ((names_all s o).edge_below d l)))))
 
 pub kept_empty : (s : OrientedMesh) (rings : RingView) → IsOrientedSurface s → HaveNoEdge s rings → rings_of rings ≡ used_vertices s

@@ -79,7 +79,7 @@ follow_rule : {s : OrientedMesh} → IsOrientedSurface s → {rings : RingView} 
     → IsPermutationBelow (darts_of s) (slice_index rings.after)
 follow_rule {s} h {rings} are =
     let p : IsPermutationBelow (darts_of s) (after_dart (rotations_of s) (is_inside rings.inside)) =
-    after_permutes (rotation_system s h) (is_inside rings.inside) in
+    after_permutes (rotations_of s) (rotation_system s h) (is_inside rings.inside) in
     record {
       within = λ x l. subst (λ y. y < darts_of s) (sym (are.rule x l)) (p.within x l);
       injective = λ x y l k e. p.injective x y l k (sym (are.rule x l) ∙ e ∙ are.rule y k);

@@ -96,7 +96,7 @@ order_more {maps} {node} {allowed} {order} {from} {d} x r h new is =
       inside = λ j later l. elim (cases_lt j n) [
         | inl less ↦ ap (λ y. allowed (maps.edge y)) (old j less) ∙ h.inside j later less
         | inr at_end ↦ ap (λ y. allowed (maps.edge y)) (last j (omega (arith, l, long, at_end)) ∙ is)
-            ∙ ap allowed (sym (twin_edge r d new.dart)) ∙ new.crosses
+            ∙ ap allowed (sym (twin_edge maps r d new.dart)) ∙ new.crosses
       ];
       named = λ j later l. elim (cases_lt j n) [
         | inl less ↦
@@ -195,7 +195,7 @@ pub crossed_all : {maps : Rotations} {node : ℕ → ℕ} (allowed : ℕ → Boo
     → CrossedUpTo maps node allowed turn order first k → maps.darts ≤ k → IsCrossed maps node allowed order (node first)
 crossed_all {maps} {node} allowed {turn} order first k t l crossed many d b same passes =
     let way : IsReached turn first d = t.reaches first d l b (sym same) in
-    let soon = reached_soon t.permutes first l (suc way.steps) way.steps d (omega arith) way.leads in
+    let soon = reached_soon maps.darts turn t.permutes first l (suc way.steps) way.steps d (omega arith) way.leads in
     subst (λ y. IsFound node order (node (maps.twin y))) soon.2
     (crossed soon.0 (omega (arith, soon.1, many)) (ap (λ y. allowed (maps.edge y)) soon.2 ∙ passes))
 

@@ -30,7 +30,7 @@ closed_holds_all {maps} inside holds r ring closed start d start_in d_in h =
     subst (λ (x : ℕ). holds (maps.face x)) reached.leads (go reached.steps)
   where
     p : IsPermutationBelow maps.darts (after_dart maps inside)
-    p = after_permutes r inside
+    p = after_permutes maps r inside
 
     stays : (x : ℕ) → x < maps.darts → holds (maps.face x) → holds (maps.face (maps.next x))
     stays x l is = subst holds ((r.faces x (maps.next x) l (r.next_within x l)).1 (reached_step maps.next x)) is

@@ -5,19 +5,22 @@ use Rattle.tree_cotree.specs.Splits.{SplitView, IsSplit, StepsToParent, StepsUp,
 use Rattle.tree_cotree.proofs.SearchLemmas.{not_both, same_some}
 use Rattle.tree_cotree.proofs.UpwardLemmas.{IsUpward, single_path, no_loop, few_steps}
 
-pub root_below : {s : OrientedMesh} {split : SplitView} → IsOrientedSurface s → (t : IsSplit s split) → t.parents.root < s.mesh.count
-root_below {s} o t =
+pub root_below : (s : OrientedMesh) (split : SplitView) → IsOrientedSurface s → (t : IsSplit s split) → t.parents.root < s.mesh.count
+root_below s split o t =
     let dart = (names_all s o).each_vertex t.parents.root t.parents.root_used in
     subst (λ x. x < s.mesh.count) dart.2 ((names_all s o).vertex_below dart.0 dart.1)
 
-pub parents_upward : {s : OrientedMesh} {split : SplitView} → IsOrientedSurface s → (t : IsSplit s split)
+pub parents_upward : (s : OrientedMesh) (split : SplitView) → IsOrientedSurface s → (t : IsSplit s split)
     → IsUpward (StepsToParent (rotations_of s) split) t.parents.root
-parents_upward {s} {split} o t = record {
-  one = λ u v w p q. sym p.1.ends
-      ∙ ap (λ d. (rotations_of s).origin ((rotations_of s).twin d)) (same_some (parent_dart split u) p.0 q.0 p.1.is_parent q.1.is_parent)
+parents_upward s split o t = record {
+  one = λ u v w p q.
+      sym p.1.ends
+      ∙ ap (λ d. (rotations_of s).origin ((rotations_of s).twin d))
+      (same_some (parent_dart split u) p.0 q.0 p.1.is_parent q.1.is_parent)
       ∙ q.1.ends;
-  top = λ v p. not_both (parent_dart split t.parents.root) p.0 p.1.is_parent
-      ((t.parents.none t.parents.root (root_below o t)).1 (inl refl));
+  top = λ v p.
+      not_both (parent_dart split t.parents.root) p.0 p.1.is_parent
+      ((t.parents.none t.parents.root (root_below s split o t)).1 (inl refl));
 }
 
 pub faces_upward : (s : OrientedMesh) (split : SplitView) → IsOrientedSurface s → IsSplit s split
@@ -42,10 +45,10 @@ faces_upward s split o t = record {
     r : IsRotationSystem (rotations_of s)
     r = rotation_system s o
 
-pub one_way_up : {s : OrientedMesh} {split : SplitView} → IsOrientedSurface s → IsSplit s split → (f : ℕ) (path other : List ℕ)
+pub one_way_up : (s : OrientedMesh) (split : SplitView) → IsOrientedSurface s → IsSplit s split → (f : ℕ) (path other : List ℕ)
     → IsPath (StepsUp (rotations_of s) split) f path split.root_face → IsPath (StepsUp (rotations_of s) split) f other split.root_face
     → path ≡ other
-one_way_up {s} {split} o t = single_path (faces_upward s split o t)
+one_way_up s split o t = single_path (StepsUp (rotations_of s) split) split.root_face (faces_upward s split o t)
 
 -- the way up from a face
 pub pick : {s : OrientedMesh} {split : SplitView} (t : IsSplit s split) (f : ℕ) → (f < length s.mesh.faces) ⊎ (length s.mesh.faces ≤ f)
@@ -71,9 +74,9 @@ lower_within : {s : OrientedMesh} (split : SplitView) → IsOrientedSurface s �
     → f < length s.mesh.faces
 lower_within {s} split o f g p = subst (λ (x : ℕ). x < length s.mesh.faces) p.1.inside ((names_all s o).face_below p.0 p.1.within)
 
-pub upper_within : {s : OrientedMesh} (split : SplitView) → IsOrientedSurface s → (f g : ℕ) → StepsUp (rotations_of s) split f g
+pub upper_within : (s : OrientedMesh) (split : SplitView) → IsOrientedSurface s → (f g : ℕ) → StepsUp (rotations_of s) split f g
     → g < length s.mesh.faces
-upper_within {s} split o f g p =
+upper_within s split o f g p =
     subst (λ (x : ℕ). x < length s.mesh.faces) p.1.leads
     ((names_all s o).face_below ((rotations_of s).twin p.0) ((rotation_system s o).twin_within p.0 p.1.within))
 
@@ -83,14 +86,15 @@ pub rank_step : (s : OrientedMesh) (split : SplitView) → IsOrientedSurface s �
     → length (above s split t f) ≡ suc (length (above s split t g))
 rank_step s split o t f g p =
     ap (λ (l : List ℕ). length l)
-    (one_way_up o t f (above s split t f) (g ∷ above s split t g) (above_path s split t f (lower_within split o f g p))
-    (p, above_path s split t g (upper_within split o f g p)))
+    (one_way_up s split o t f (above s split t f) (g ∷ above s split t g) (above_path s split t f (lower_within split o f g p))
+    (p, above_path s split t g (upper_within s split o f g p)))
 
 -- no face hangs below itself
 pub not_itself : (s : OrientedMesh) (split : SplitView) → IsOrientedSurface s → (t : IsSplit s split) → (f : ℕ)
     → StepsUp (rotations_of s) split f f → ⊥
 not_itself s split o t f p =
-    no_loop (faces_upward s split o t) f p (t.child_faces.to_root f (lower_within split o f f p))
+    no_loop (StepsUp (rotations_of s) split) split.root_face (faces_upward s split o t) f p
+    (t.child_faces.to_root f (lower_within split o f f p))
 
 -- a way up has fewer steps than there are faces
 pub few_up : (s : OrientedMesh) (split : SplitView) → IsOrientedSurface s → (t : IsSplit s split) → (f : ℕ) (path : List ℕ)

@@ -140,7 +140,7 @@ kept_join {maps} {node} inside {root} {from} r f marked d e l k =
       maps.twin p.0,
       record {
         within = r.twin_within p.0 p.1.within;
-        in_set = ap inside (sym (twin_edge r p.0 p.1.within)) ∙ p.1.in_set;
+        in_set = ap inside (sym (twin_edge maps r p.0 p.1.within)) ∙ p.1.in_set;
         starts = p.1.ends;
         ends = ap node (r.twin_back p.0 p.1.within) ∙ p.1.starts;
       },

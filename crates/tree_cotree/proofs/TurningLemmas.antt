@@ -33,7 +33,7 @@ rerooted {maps} {node} {allowed} {root} {from} d x r below f keeps leads twin = 
   ];
   of_node = λ v y e. elim (kept_now v y e) [ inl new ↦ ap node new.1 ∙ x_node ∙ sym new.0 | inr old ↦ f.of_node v y old ];
   inside = λ v y e. elim (kept_now v y e) [
-    | inl new ↦ ap (λ z. allowed (maps.edge z)) (new.1 ∙ twin) ∙ ap allowed (sym (twin_edge r d d_in)) ∙ f.inside (node d) d keeps
+    | inl new ↦ ap (λ z. allowed (maps.edge z)) (new.1 ∙ twin) ∙ ap allowed (sym (twin_edge maps r d d_in)) ∙ f.inside (node d) d keeps
     | inr old ↦ f.inside v y old
   ];
   to_root = λ e l. (let way = f.to_root e l in turned (node e) way.0 way.1);

@@ -6,25 +6,25 @@ pub record IsUpward (step : ℕ → ℕ → Type 0) (root : ℕ) : Type 0 where
   pub one : (u v w : ℕ) → step u v → step u w → v ≡ w
   pub top : (v : ℕ) → step root v → ⊥
 
-pub single_path : {step : ℕ → ℕ → Type 0} {root : ℕ} → IsUpward step root → (u : ℕ) (path other : List ℕ) → IsPath step u path root
+pub single_path : (step : ℕ → ℕ → Type 0) (root : ℕ) → IsUpward step root → (u : ℕ) (path other : List ℕ) → IsPath step u path root
     → IsPath step u other root → path ≡ other
-single_path h u [] [] p q = refl
-single_path {step} h u [] (w ∷ other) p q = absurd (h.top w (subst (λ (x : ℕ). step x w) p q.0))
-single_path {step} h u (w ∷ path) [] p q = absurd (h.top w (subst (λ (x : ℕ). step x w) q p.0))
-single_path {step} {root} h u (w ∷ path) (x ∷ other) p q =
+single_path step root h u [] [] p q = refl
+single_path step root h u [] (w ∷ other) p q = absurd (h.top w (subst (λ (x : ℕ). step x w) p q.0))
+single_path step root h u (w ∷ path) [] p q = absurd (h.top w (subst (λ (x : ℕ). step x w) q p.0))
+single_path step root h u (w ∷ path) (x ∷ other) p q =
     let same : w ≡ x = h.one u w x p.0 q.0 in
-    let rest : path ≡ other = single_path h w path other p.1 (subst (λ (y : ℕ). IsPath step y other root) (sym same) q.1) in
+    let rest : path ≡ other = single_path step root h w path other p.1 (subst (λ (y : ℕ). IsPath step y other root) (sym same) q.1) in
     cc
 
 -- no step leads to where it begins, or back
-pub no_loop : {step : ℕ → ℕ → Type 0} {root : ℕ} → IsUpward step root → (u : ℕ) → step u u → AreJoined step u root → ⊥
-no_loop h u p way =
-    let same : way.0 ≡ u ∷ way.0 = single_path h u way.0 (u ∷ way.0) way.1 (p, way.1) in
+pub no_loop : (step : ℕ → ℕ → Type 0) (root : ℕ) → IsUpward step root → (u : ℕ) → step u u → AreJoined step u root → ⊥
+no_loop step root h u p way =
+    let same : way.0 ≡ u ∷ way.0 = single_path step root h u way.0 (u ∷ way.0) way.1 (p, way.1) in
     omega (arith, ap (λ (l : List ℕ). length l) same)
 
 pub no_return : {step : ℕ → ℕ → Type 0} {root : ℕ} → IsUpward step root → (u v : ℕ) → step u v → step v u → AreJoined step u root → ⊥
-no_return h u v p q way =
-    let same : way.0 ≡ v ∷ u ∷ way.0 = single_path h u way.0 (v ∷ u ∷ way.0) way.1 (p, (q, way.1)) in
+no_return {step} {root} h u v p q way =
+    let same : way.0 ≡ v ∷ u ∷ way.0 = single_path step root h u way.0 (v ∷ u ∷ way.0) way.1 (p, (q, way.1)) in
     omega (arith, ap (λ (l : List ℕ). length l) same)
 
 -- from what stands on a path the rest of it leads to the root
@@ -42,11 +42,13 @@ pub few_steps : (step : ℕ → ℕ → Type 0) (root bound : ℕ) → IsUpward 
 few_steps step root bound h top_below below u path p = elim (cases_lt (length path) bound) [
   | inl less ↦ less
   | inr many ↦
-      let twice : AreAlike (λ i. get_or (u ∷ path) i 0) (suc bound) = two_alike bound (λ i. get_or (u ∷ path) i 0)
+      let twice : AreAlike (λ i. get_or (u ∷ path) i 0) (suc bound) =
+      two_alike bound (λ i. get_or (u ∷ path) i 0)
       (λ i l. is_below (get_or (u ∷ path) i 0) (rest many i l).0 (rest many i l).1) in
       let one = rest many twice.first (omega (arith, twice.before, twice.within)) in
       let two = rest many twice.second twice.within in
-      let same : one.0 ≡ two.0 = single_path h (get_or (u ∷ path) twice.second 0) one.0 two.0
+      let same : one.0 ≡ two.0 =
+      single_path step root h (get_or (u ∷ path) twice.second 0) one.0 two.0
       (subst (λ (x : ℕ). IsPath step x one.0 root) twice.same one.1) two.1 in
       absurd (omega (arith, one.2, two.2, ap (λ (l : List ℕ). length l) same, twice.before))
 ]

@@ -1,4 +1,4 @@
-use Rattle.connectivity.proofs.Common.{Vec, ◌≡◌, ◌+◌, ◌<◌, ℕ, List, length, refl, ap, sym, ◌∙◌, subst, arith, length-set, with_items_is, with_items}
+use Rattle.connectivity.proofs.Common.{Vec, ◌≡◌, ◌+◌, ◌<◌, ℕ, List, length, refl, ap, sym, ◌∙◌, subst, arith, length-set, with_items_is, with_items, Side}
 use Rattle.std.specs.declared.alloc.Global.{Global}
 use Rattle.connectivity.specs.Links.{link_at, with_ring, AreLinksUpTo}
 use Rattle.connectivity.specs.declared.corners.Link.{Link}
@@ -9,12 +9,13 @@ use Rattle.connectivity.proofs.corners.links.Goals.{then-rings-corner, else-ring
 
 pub add_ring-requires : goal.add_ring-requires
 add_ring-requires c =
+    let mesh = c.args.faces.now in
     omega (
       arith,
       c.loop-corner.invariant.count,
       ap (λ (ls : List Link). length ls) c.deref_mut.ensures.value,
       c.corner-vertex.ensures,
-      corner_below c.count.ensures.valid c.side_at-side.ensures.side,
+      corner_below mesh c.side_at-side.result c.count.ensures.valid c.side_at-side.ensures.side,
     )
 
 pub loop-corner-preserved : goal.loop-corner-preserved
@@ -30,10 +31,11 @@ loop-corner-preserved c =
     elim c.if-rings-corner.branch [
       | then-rings-corner w ↦
           (let v : ℕ = w.corner-vertex.result.0 in
+          let corner : Side = w.side_at-side.result in
           let within : v < mesh.count = omega (
             arith,
             w.corner-vertex.ensures,
-            corner_below c.count.ensures.valid w.side_at-side.ensures.side,
+            corner_below mesh corner c.count.ensures.valid w.side_at-side.ensures.side,
           ) in
           let new : List Link = w.add_ring.new.links in
           let is_new : new ≡ added links v = w.add_ring.ensures ∙ ap (λ (ls : List Link). added ls v) w.deref_mut.ensures.value in

@@ -23,10 +23,11 @@ join_across-requires-clause-partners c =
     let side : Side = at_hand c.loop-face.face c.loop-at.at in
     let next : ℕ = c.other-other.result.0 in
     let found : HasPartner mesh side next ⊎ ((next ≡ c.dart-dart.result.0) × IsAlone mesh side) =
-    partner_or_alone c.requires.table c.requires.few (record { face = omega arith; place = omega arith })
+    partner_or_alone mesh c.args.sides.now side c.dart-dart.result.0 next c.requires.table c.requires.few
+    (record { face = omega arith; place = omega arith })
     c.dart-dart.ensures.number (c.other-other.ensures mesh c.requires.table) in
     elim found [
-      | inl partner ↦ partners_by_number partner c.side_at.ensures.side c.side_at.ensures.number
+      | inl partner ↦ partners_by_number mesh side c.side_at.result next partner c.side_at.ensures.side c.side_at.ensures.number
       | inr alone ↦ absurd (omega (arith, alone.0, c.if-other-dart.true))
     ]
 
@@ -38,7 +39,8 @@ loop-at-preserved c =
     let next : ℕ = c.other-other.result.0 in
     let is : IsSide mesh side = record { face = omega arith; place = omega arith } in
     let found : HasPartner mesh side next ⊎ ((next ≡ c.dart-dart.result.0) × IsAlone mesh side) =
-    partner_or_alone c.requires.table c.requires.few is c.dart-dart.ensures.number (c.other-other.ensures mesh c.requires.table) in
+    partner_or_alone mesh c.args.sides.now side c.dart-dart.result.0 next c.requires.table c.requires.few is c.dart-dart.ensures.number
+    (c.other-other.ensures mesh c.requires.table) in
     let number : c.dart-dart.result.0 ≡ n = c.dart-dart.ensures.number in
     let more : JoinsSidesUpTo mesh c.if-other-dart.corners (n + 1) =
     elim c.if-other-dart.branch [
@@ -46,7 +48,9 @@ loop-at-preserved c =
           elim found [
             | inl partner ↦
                 subst (λ (least : List ℕ). JoinsSidesUpTo mesh least (n + 1)) (sym w.corners-is) (side_joined is refl partner
-                w.join_across.ensures (partners_by_number partner w.side_at.ensures.side w.side_at.ensures.number) c.loop-at.invariant)
+                w.join_across.ensures
+                (partners_by_number mesh side w.side_at.result next partner w.side_at.ensures.side w.side_at.ensures.number)
+                c.loop-at.invariant)
             | inr alone ↦ absurd (omega (arith, alone.0, w.if-other-dart.true))
           ]
       | else-other-dart w ↦

@@ -2,4 +2,4 @@ use Rattle.tree_cotree.proofs.ColourLemmas.{coloured_trees_are_of_a_split, colou
 use Rattle.tree_cotree.proofs.laws.colourings_with_trees_are_of_splits.Goals as goal
 
 pub returns : goal.returns
-returns c = λ surface colouring o. (coloured_trees_are_of_a_split o, colourings_have_trees)
+returns c = λ surface colouring o. (coloured_trees_are_of_a_split o, colourings_have_trees surface colouring)
