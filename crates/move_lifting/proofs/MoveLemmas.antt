@@ -1,8 +1,8 @@
 -- One more move behind a list of moves, and a spur that goes out at the end of the part of a walk that is laid.
-use Rattle.move_lifting.proofs.Common.{greatest_darts-more, greatest_darts-none, one_more, leads_nowhere, spur_goes, ◌≡◌, ℕ, suc, ◌+◌, ◌-◌, ◌<◌, ◌≤◌, max, List, [], ◌∷◌, ◌++◌, length, take, drop, get_or, ap, sym, ◌∙◌, subst, arith, append_assoc, length-append, get_or_append_left, length-take-le, append-nil, drop_more, drop_all, All-push, Some, All, first_answer, stays_walk, by_replacing, list_keeps_ends, FaceList, HasNoSpur, PeakedMoves, apply, apply_all, greatest_darts, darts, HaveCommonEnds, Move, Insert, Remove, Across, VertexName}
+use Rattle.move_lifting.proofs.Common.{greatest_darts-more, greatest_darts-none, one_more, spur_goes, ◌≡◌, ℕ, suc, ◌+◌, ◌-◌, ◌<◌, max, List, [], ◌∷◌, ◌++◌, length, take, get_or, ap, sym, ◌∙◌, subst, arith, append_assoc, length-append, get_or_append_left, length-take-le, All-push, Some, All, first_answer, stays_walk, by_replacing, FaceList, HasNoSpur, PeakedMoves, apply, apply_all, greatest_darts, darts, Move, Insert, Remove, Across, VertexName}
 use Rattle.move_lifting.specs.Lifts.{LeadsAtPeak, IsRemoval}
 use Rattle.move_lifting.specs.Tracks.{TrackView, GoesOn, IsStepBack}
-use Rattle.move_lifting.proofs.ListLemmas.{front_and_last, no_spur_front, read_on}
+use Rattle.move_lifting.proofs.ListLemmas.{front_and_last, no_spur_front}
 
 -- a spur goes out
 goes_back : (mesh : FaceList) (behind : ℕ) (front : List ℕ) (here : ℕ) (via : VertexName) (list more : PeakedMoves)
@@ -53,14 +53,6 @@ step_back_removes behind old new back h =
     ap (λ (l : PeakedMoves). l.moves) back.list in
     subst (All IsRemoval) (sym moves) (All-push IsRemoval old.list.moves (Remove (length old.walk - 2) back.via) h tt)
 
--- the next entry of a walk is put on what is laid of it
-pub goes_along : (mesh : FaceList) (walk old new : List ℕ) (list more : PeakedMoves) (place v behind : ℕ)
-    → GoesOn mesh behind (old ++ v ∷ []) list new more
-    → place < length walk → get_or walk place 0 ≡ v → length (drop (place + 1) walk) ≡ behind
-    → LeadsAtPeak mesh walk list (old ++ drop place walk) → LeadsAtPeak mesh walk more (new ++ drop (place + 1) walk)
-goes_along mesh walk old new list more place v behind goes l is long h =
-    goes walk (drop (place + 1) walk) long (subst (LeadsAtPeak mesh walk list) (read_on old walk place v l is) h)
-
 -- removals pass no walk longer than the first
 pub removals_peak : (mesh : FaceList) (moves : List Move) (first walk : List ℕ) → 0 < length first → All IsRemoval moves
     → apply_all mesh first moves ≡ Some walk → greatest_darts mesh first moves ≡ darts first
@@ -82,27 +74,6 @@ removals_peak mesh (Remove at via ∷ moves) first walk start all e =
     removals_peak mesh moves next walk (stays_walk mesh first next (Remove at via) start told.1) (λ k d l. all (suc k) d (omega arith))
     told.2 in
     omega (arith, rest, from, to, out, one, greatest_darts-more mesh first next (Remove at via) moves told.1)
-
--- lists of moves keep the ends, on every mesh
-pub same_ends : (first walk : List ℕ) (list : PeakedMoves) → 0 < length first → ((mesh : FaceList) → LeadsAtPeak mesh first list walk)
-    → HaveCommonEnds first walk
-same_ends first walk list start h =
-    let none : FaceList = record { count = 0; faces = [] } in
-    list_keeps_ends none list.moves first walk start (h none).leads
-
--- the start of a walk, with the walk behind it
-pub starts_whole : (mesh : FaceList) (walk : List ℕ) (start : ℕ) (list : PeakedMoves) → 0 < length walk → get_or walk 0 0 ≡ start
-    → list ≡ record { moves = []; peak = darts walk } → LeadsAtPeak mesh walk list (start ∷ [] ++ drop 1 walk)
-starts_whole mesh walk start list some is none =
-    let whole : walk ≡ start ∷ [] ++ drop 1 walk = drop_more walk 0 0 some ∙ ap (λ (x : ℕ). x ∷ drop 1 walk) is in
-    subst (LeadsAtPeak mesh walk list) whole (leads_nowhere mesh walk list none)
-
--- the end of a walk, with nothing behind it
-pub ends_whole : (mesh : FaceList) (walk last : List ℕ) (list : PeakedMoves) (n : ℕ) → length walk ≤ n
-    → LeadsAtPeak mesh walk list (last ++ drop n walk)
-    → LeadsAtPeak mesh walk list last
-ends_whole mesh walk last list n past h =
-    subst (LeadsAtPeak mesh walk list) (ap (λ (rest : List ℕ). last ++ rest) (drop_all n walk past) ∙ append-nil last) h
 
 pub step_back_some : (behind : ℕ) (old new : TrackView) → 1 < length old.walk → IsStepBack behind old new → 0 < length new.walk
 step_back_some behind old new some back =

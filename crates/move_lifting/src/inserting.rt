@@ -1,11 +1,11 @@
 //! Turns put into walks: there, round, back, and on.
-ghost use Rattle.std.specs.Prelude.{◌≡◌, ◌≢◌, ◌+◌, ◌*◌, ◌-◌, ◌<◌, ◌≤◌, ◌^◌, ◌∷◌, [], ◌++◌, ℕ, List, length, max, take, drop, slice_index, IfOk, OnOk};
+ghost use Rattle.std.specs.Prelude.{◌≡◌, ◌≢◌, ◌+◌, ◌*◌, ◌-◌, ◌<◌, ◌≤◌, ◌^◌, ◌∷◌, [], ◌++◌, ℕ, List, length, max, take, drop, slice_index, IfOk, OnOk, All};
 ghost use Rattle.surf_model.specs.FaceLists.{FaceList};
 ghost use Rattle.surf_model.specs.FreeWalks.{AreFreelyEqual, HasNoSpur};
 ghost use Rattle.surf_model.specs.Vertices.{numbers};
 ghost use Rattle.surf_model.specs.Walks.{IsWalk, darts};
 ghost use Rattle.polygon_cut.specs.SpokeLoops.{backward, put_behind};
-ghost use Rattle.move_lifting.specs.Lifts.{LeadsAtPeak};
+ghost use Rattle.move_lifting.specs.Lifts.{LeadsAtPeak, IsRemoval};
 ghost use Rattle.move_lifting.specs.LoopsPutIn.{IsApproach};
 ghost use Rattle.move_lifting.specs.Tracks.{GoesOn, last_of};
 ghost use Rattle.move_lifting.specs.TurnPeaks.{RisesWithTurn};
@@ -139,7 +139,7 @@ pub(crate) fn reduce_all(
     moves: MoveList,
 ) -> Result<Track, AllocError>
     requires some { 0 < length walk.now }
-    requires room { length walk.now + behind < 2 ^ 31 }
+    requires room { length walk.now + behind ≤ 2 ^ 31 }
     ensures leads { IfOk result (λ track. (mesh : FaceList) → GoesOn mesh behind (numbers walk.now) moves track.walk track.list) }
     ensures freely { IfOk result (λ track. (mesh : FaceList) → AreFreelyEqual mesh (numbers walk.now) track.walk) }
     ensures no_spur { IfOk result (λ track. HasNoSpur track.walk) }
@@ -147,6 +147,7 @@ pub(crate) fn reduce_all(
     ensures some { IfOk result (λ track. 0 < length track.walk) }
     ensures few { IfOk result (λ track. length track.walk ≤ length walk.now) }
     ensures peak { IfOk result (λ track. track.list.peak ≤ max moves.peak (darts (numbers walk.now) + behind)) }
+    ensures removals { IfOk result (λ track. All IsRemoval moves.moves → All IsRemoval track.list.moves) }
     ensures count { IfOk result (λ track. length track.list.moves + length track.walk ≤ length moves.moves + length walk.now) }
 {
     let mut track = Track::start(alloc, walk[0], walk.len() as u32 - 1, moves)?;

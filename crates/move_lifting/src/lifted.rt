@@ -5,7 +5,8 @@ ghost use Rattle.surf_model.specs.FreeWalks.{HasNoSpur};
 ghost use Rattle.surf_model.specs.Walks.{darts, HaveCommonEnds};
 ghost use Rattle.move_lifting.specs.Lifts.{LeadsAtPeak, IsRemoval};
 
-use crate::track::Track;
+use crate::expanding::vertices_of;
+use crate::inserting::reduce_all;
 use std::alloc::{AllocError, Global};
 use surf_model::{MoveList, Walk};
 
@@ -27,10 +28,8 @@ pub fn reduce_free(alloc: Global, walk: &Walk) -> Result<Lifted, AllocError>
     ensures peak { IfOk result (λ lifted. lifted.moves.peak ≡ darts walk.now) }
     ensures ends { IfOk result (λ lifted. HaveCommonEnds walk.now lifted.walk) }
 {
-    let darts = walk.darts();
-    let mut track = Track::start(alloc, walk.at(0), darts, MoveList::new(alloc, darts))?;
-    for place in 0..darts {
-        track.put(walk.at(place + 1), darts - place - 1)?;
-    }
+    let vertices = vertices_of(alloc, walk)?;
+    let moves = MoveList::new(alloc, walk.darts());
+    let track = reduce_all(alloc, &vertices, 0, moves)?;
     track.finish(alloc)
 }

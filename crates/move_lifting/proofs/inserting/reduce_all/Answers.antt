@@ -19,6 +19,7 @@ loop-place-preserved c =
           c.in_ok-put.ensures.leads
           c.in_ok-put.ensures.some c.in_ok-put.ensures.no_spur c.in_ok-put.ensures.last c.in_ok-put.ensures.long c.in_ok-put.ensures.shape
           c.in_ok-put.ensures.peak;
+      removals = λ all. c.in_ok-put.ensures.removals (c.loop-place.invariant.removals all);
       count = omega (arith, c.in_ok-put.ensures.count, c.loop-place.invariant.count);
       cells = omega (arith, c.in_ok-put.ensures.cells, c.loop-place.invariant.cells);
     }

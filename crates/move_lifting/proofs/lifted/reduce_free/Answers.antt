@@ -1,83 +1,57 @@
-use Rattle.move_lifting.proofs.Common.{◌≡◌, ◌+◌, ◌-◌, ◌<◌, ◌≤◌, List, [], ◌∷◌, ◌++◌, length, drop, ℕ, sym, ap, ◌∙◌, subst, arith, length-drop, IfOk-weaker, All, FaceList, HasNoSpur, PeakedMoves, darts, HaveCommonEnds}
+use Rattle.move_lifting.proofs.Common.{leads_nowhere, ◌≡◌, List, [], length, ℕ, sym, ap, ◌∙◌, subst, arith, refl, append-nil, All-nil, IfOk-weaker, All, list_keeps_ends, FaceList, PeakedMoves, numbers}
 use Rattle.move_lifting.specs.Lifts.{LeadsAtPeak, IsRemoval}
-use Rattle.move_lifting.specs.Tracks.{TrackView}
 use Rattle.move_lifting.specs.declared.lifted.Lifted.{Lifted}
-use Rattle.move_lifting.proofs.ListLemmas.{one_no_spur}
-use Rattle.move_lifting.proofs.MoveLemmas.{starts_whole, ends_whole, goes_along, removals_peak, same_ends}
+use Rattle.move_lifting.proofs.MoveLemmas.{removals_peak}
 use Rattle.move_lifting.proofs.lifted.reduce_free.Goals as goal
-use Rattle.move_lifting.proofs.lifted.reduce_free.Goals.{After-loop-place}
+use Rattle.move_lifting.proofs.lifted.reduce_free.Goals.{In_ok-track}
+use Rattle.move_lifting.proofs.ExpandLemmas.{length-numbers}
 
-pub loop-place-init : goal.loop-place-init
-loop-place-init c =
+-- the moves lead, and take spurs out alone
+leads : (c : In_ok-track) (mesh : FaceList) → LeadsAtPeak mesh c.args.walk.now c.in_ok-track.track.list c.in_ok-track.track.walk
+leads c mesh =
     let walk : List ℕ = c.args.walk.now in
-    let begun : c.in_ok-track.track ≡ record { walk = c.at.result.0 ∷ []; list = c.new.result; spare = c.darts-darts.result } =
-    c.in_ok-track.ensures in
-    let w : c.in_ok-track.track.walk ≡ c.at.result.0 ∷ [] = ap (λ (t : TrackView). t.walk) begun in
-    let l : c.in_ok-track.track.list ≡ record { moves = []; peak = c.darts-darts.result } = ap (λ (t : TrackView). t.list) begun
-    ∙ c.new.ensures in
-    let noted : c.in_ok-track.track.list ≡ record { moves = []; peak = darts walk } =
-    subst (λ (n : ℕ). c.in_ok-track.track.list ≡ record { moves = []; peak = n }) c.darts-darts.ensures.count l in
-    record {
-      no_spur = subst HasNoSpur (sym w) (one_no_spur c.at.result.0);
-      long = subst (λ (x : List ℕ). length x ≤ 1) (sym w) (omega arith);
-      cells = omega (arith, ap (λ (x : List ℕ). length x) w, ap (λ (t : TrackView). t.spare) begun);
-      removals = subst (All IsRemoval) (sym (ap (λ (x : PeakedMoves). x.moves) l)) (λ k d h. absurd (omega arith));
-      leads = λ mesh. subst (λ (x : List ℕ). LeadsAtPeak mesh walk c.in_ok-track.track.list (x ++ drop 1 walk)) (sym w)
-          (starts_whole mesh walk c.at.result.0 c.in_ok-track.track.list c.darts-darts.ensures.starts (sym c.at.ensures) noted);
-    }
+    let read : numbers c.deref.result.now ≡ walk = ap numbers c.deref.ensures.value ∙ c.in_ok-vertices.ensures in
+    let begun : LeadsAtPeak mesh walk c.new-moves.result walk =
+    leads_nowhere mesh walk c.new-moves.result
+    (subst (λ (n : ℕ). c.new-moves.result ≡ record { moves = []; peak = n }) c.darts.ensures.count c.new-moves.ensures) in
+    subst (LeadsAtPeak mesh walk c.in_ok-track.track.list) (append-nil c.in_ok-track.track.walk)
+    (c.in_ok-track.ensures.leads mesh walk [] refl (subst (LeadsAtPeak mesh walk c.new-moves.result) (sym (append-nil _ ∙ read)) begun))
 
-pub loop-place-preserved : goal.loop-place-preserved
-loop-place-preserved c =
-    let walk : List ℕ = c.args.walk.now in
-    let place : ℕ = c.loop-place.place + 1 in
-    let within : place < length walk = omega (arith, c.darts-darts.ensures.count, c.darts-darts.ensures.starts, c.loop-place-test.true) in
-    let behind : length (drop (place + 1) walk) ≡ c.darts-darts.result - c.loop-place.place - 1 =
-    length-drop (place + 1) walk ∙ omega (arith, c.darts-darts.ensures.count, c.darts-darts.ensures.starts) in
-    record {
-      no_spur = c.in_ok-put.ensures.no_spur;
-      long = omega (arith, c.in_ok-put.ensures.long, c.loop-place.invariant.long);
-      cells = omega (arith, c.in_ok-put.ensures.cells, c.loop-place.invariant.cells);
-      removals = c.in_ok-put.ensures.removals c.loop-place.invariant.removals;
-      leads = λ mesh. goes_along mesh walk c.loop-place.track.walk c.put.new.self.walk c.loop-place.track.list c.put.new.self.list place
-          c.at-in-loop-place.result.0 (c.darts-darts.result - c.loop-place.place - 1) (c.in_ok-put.ensures.leads mesh) within
-          (sym c.at-in-loop-place.ensures) behind (c.loop-place.invariant.leads mesh);
-    }
+removals : (c : In_ok-track) → All IsRemoval c.in_ok-track.track.list.moves
+removals c =
+    c.in_ok-track.ensures.removals
+    (subst (All IsRemoval) (sym (ap (λ (l : PeakedMoves). l.moves) c.new-moves.ensures)) (All-nil IsRemoval))
 
--- at the end all of the walk is on the track
-finished : (c : After-loop-place)
-    → ((mesh : FaceList) → LeadsAtPeak mesh c.args.walk.now c.loop-place.track.list c.loop-place.track.walk)
-    × (c.loop-place.track.list.peak ≡ darts c.args.walk.now) × HaveCommonEnds c.args.walk.now c.loop-place.track.walk
-finished c =
-    let none : FaceList = record { count = 0; faces = [] } in
-    let walk : List ℕ = c.args.walk.now in
-    let track : TrackView = c.loop-place.track in
-    let some : 0 < length walk = c.darts-darts.ensures.starts in
-    let past : length walk ≤ c.loop-place.place + 1 = omega (arith, c.darts-darts.ensures.count, c.loop-place-test.false) in
-    let whole : (mesh : FaceList) → LeadsAtPeak mesh walk track.list track.walk =
-    λ mesh. ends_whole mesh walk track.walk track.list (c.loop-place.place + 1) past (c.loop-place.invariant.leads mesh) in (
-      whole,
-      (whole none).peak
-          ∙ removals_peak none track.list.moves walk track.walk some c.loop-place.invariant.removals (whole none).leads,
-      same_ends walk track.walk track.list some whole,
+pub reduce_all-requires-clause-room : goal.reduce_all-requires-clause-room
+reduce_all-requires-clause-room c =
+    omega (
+      arith,
+      length-numbers c.deref.result.now,
+      ap (λ (l : List ℕ). length l) (ap numbers c.deref.ensures.value ∙ c.in_ok-vertices.ensures),
+      c.darts.ensures.count,
+      c.darts.ensures.few,
     )
 
 pub returns-clause-leads : goal.returns-clause-leads
 returns-clause-leads c =
-    IfOk-weaker c.finish.result _ _
-    (λ (x : Lifted) e. subst (λ (y : Lifted). (mesh : FaceList) → LeadsAtPeak mesh c.args.walk.now y.moves y.walk) (sym e)
-    (finished (goal.at.returns-clause-leads c).After-loop-place).0)
-    c.finish.ensures
+    IfOk-weaker c.finish.result _ _ (λ (x : Lifted) e. rw e (leads (goal.at.returns-clause-leads c).In_ok-track)) c.finish.ensures
+
+pub returns-clause-removals : goal.returns-clause-removals
+returns-clause-removals c =
+    IfOk-weaker c.finish.result _ _ (λ (x : Lifted) e. rw e (removals (goal.at.returns-clause-removals c).In_ok-track)) c.finish.ensures
 
 pub returns-clause-peak : goal.returns-clause-peak
 returns-clause-peak c =
+    let none : FaceList = record { count = 0; faces = [] } in
+    let at = (goal.at.returns-clause-peak c).In_ok-track in
     IfOk-weaker c.finish.result _ _
-    (λ (x : Lifted) e. subst (λ (y : Lifted). y.moves.peak ≡ darts c.args.walk.now) (sym e)
-    (finished (goal.at.returns-clause-peak c).After-loop-place).1)
-    c.finish.ensures
+    (λ (x : Lifted) e. rw e ((leads at none).peak
+    ∙ removals_peak none c.in_ok-track.track.list.moves c.args.walk.now c.in_ok-track.track.walk c.darts.ensures.starts (removals at)
+    (leads at none).leads)) c.finish.ensures
 
 pub returns-clause-ends : goal.returns-clause-ends
 returns-clause-ends c =
+    let none : FaceList = record { count = 0; faces = [] } in
     IfOk-weaker c.finish.result _ _
-    (λ (x : Lifted) e. subst (λ (y : Lifted). HaveCommonEnds c.args.walk.now y.walk) (sym e)
-    (finished (goal.at.returns-clause-ends c).After-loop-place).2)
-    c.finish.ensures
+    (λ (x : Lifted) e. rw e (list_keeps_ends none c.in_ok-track.track.list.moves c.args.walk.now c.in_ok-track.track.walk
+    c.darts.ensures.starts (leads (goal.at.returns-clause-ends c).In_ok-track none).leads)) c.finish.ensures
