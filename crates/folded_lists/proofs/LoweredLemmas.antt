@@ -1,21 +1,11 @@
 -- Lists of moves below those on a double cover: one move more, and the peak.
-use Rattle.std.proofs.Common.{◌≡◌, ℕ, ◌+◌, ◌<◌, ◌≤◌, ◌-◌, max, Bool, false, List, [], ◌∷◌, ◌++◌, length, map, take, get_or, refl, ap, sym, ◌∙◌, subst, arith}
-use Rattle.std.proofs.lemmas.Bool.Decides.{nat_tests}
-use Rattle.std.proofs.lemmas.List.{length-map, map-append, take_all, take_more}
-use Rattle.std.specs.Prelude.{Some}
-use Rattle.surf_model.proofs.ContextLemmas.{first_answer, stays_walk}
-use Rattle.surf_model.specs.FaceLists.{FaceList, IsFaceList}
-use Rattle.surf_model.specs.Moves.{PeakedMoves, apply, apply_all, greatest_darts}
-use Rattle.surf_model.specs.PeakedLists.{LeadsAtPeak}
-use Rattle.surf_model.specs.Walks.{darts}
-use Rattle.surf_model.specs.declared.moves.Move.{Move}
-use Rattle.common_ends.proofs.PeakLemmas.{greatest_darts-more, greatest_darts-none}
-use Rattle.double_covers.specs.Covers.{cover_of, under}
-use Rattle.double_covers.proofs.LowerMoves.{lower_move, moves_under}
+use Rattle.folded_lists.proofs.Common.{greatest_darts-more, greatest_darts-none, lower_move, moves_under, ◌≡◌, ℕ, ◌+◌, ◌<◌, ◌≤◌, ◌-◌, max, Bool, false, List, [], ◌∷◌, ◌++◌, length, map, take, get_or, refl, ap, sym, ◌∙◌, subst, arith, length-map, map-append, take_all, take_more, Some, first_answer, stays_walk, FaceList, IsFaceList, PeakedMoves, apply, apply_all, greatest_darts, LeadsAtPeak, darts, Move}
 use Rattle.double_covers.proofs.LiftedWalks.{walk_under}
 use Rattle.double_covers.proofs.Sheets.{length-lifted}
+use Rattle.double_covers.specs.Covers.{cover_of, under}
 use Rattle.orientation_cover.specs.Turns.{turns_by, lift_by}
 use Rattle.orientation_cover.specs.Ways.{told_by}
+use Rattle.std.proofs.lemmas.Bool.Decides.{nat_tests}
 use Rattle.folded_lists.specs.LoweredLists.{LeadsBelow, LeadsBelowLifts}
 
 abbrev pub lower_list : FaceList → PeakedMoves → PeakedMoves

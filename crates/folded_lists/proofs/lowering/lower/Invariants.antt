@@ -1,5 +1,4 @@
-use Rattle.std.proofs.Common.{◌≡◌, length, map, take}
-use Rattle.double_covers.proofs.LowerMoves.{lower_move}
+use Rattle.folded_lists.proofs.Common.{lower_move, ◌≡◌, length, map, take}
 use Rattle.folded_lists.proofs.lowering.lower.Given as goal
 
 abbrev pub invariant-loop-k : goal.invariant-loop-k

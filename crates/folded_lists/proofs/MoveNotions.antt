@@ -1,0 +1,13 @@
+-- What it is that a move of the mesh stands below one of the double.
+use Rattle.folded_lists.proofs.Common.{folded, ◌%◌, ◌/◌, ◌==◌, if◌then◌else◌, FaceList, Replaces, place_of, Move}
+use Rattle.std.specs.Prelude.{◌≡◌, ℕ, ◌+◌, Bool, List}
+
+-- at this place the move does to the fold of a part of a walk what a move of the double does to the part
+pub record IsMoveBelow (mesh : FaceList) (place : ℕ) (part other : List ℕ) (move : Move) : Type 0 where
+  pub place_is : place_of move ≡ place
+  pub replaces : Replaces mesh move (folded mesh.count part) (folded mesh.count other)
+
+-- of so many sides of a quad, from a corner on, those that lead along its edge or the mirror of that: every second one
+abbrev pub along_edge : ℕ → Bool → ℕ → ℕ
+along_edge corner forward taken =
+    if (if forward then corner % 2 == 0 else corner % 2 == 1) then (taken + 1) / 2 else taken / 2
