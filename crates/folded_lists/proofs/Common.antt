@@ -8,13 +8,13 @@ pub use Rattle.doubling.specs.Folds.{fold, folded, steps_behind, without_repeats
 pub use Rattle.std.proofs.Common.{Bool, List, ap, append_assoc, arith, false, get_or, inl, inr, length, map, max, not, refl, subst, suc, sym, take, true, zero, ℕ, [], ◌++◌, ◌+◌, ◌-◌, ◌<◌, ◌∙◌, ◌∷◌, ◌≡◌, ◌≢◌, ◌≤◌, ◌⊎◌}
 pub use Rattle.std.proofs.lemmas.Bool.{cases_eq, eq-eqb, ne_eqb}
 pub use Rattle.std.proofs.lemmas.List.{get_or-map, length-append, length-map, map-append, take_all, take_more}
-pub use Rattle.std.specs.Prelude.{Some, if◌then◌else◌, ◌%◌, ◌/◌, ◌==◌}
+pub use Rattle.std.specs.Prelude.{Some, ◌%◌, ◌==◌}
 pub use Rattle.surf_model.proofs.ContextLemmas.{first_answer, stays_walk}
 pub use Rattle.surf_model.proofs.ReplacementLemmas.{by_replacing}
 pub use Rattle.surf_model.specs.FaceLists.{FaceList, IsFaceList, corners_from, face_at, is_edge, next_corner}
 pub use Rattle.surf_model.specs.Moves.{PeakedMoves, apply, apply_all, greatest_darts}
 pub use Rattle.surf_model.specs.PeakedLists.{LeadsAtPeak}
-pub use Rattle.surf_model.specs.Replacements.{IsReplacement, Replaces, place_of}
+pub use Rattle.surf_model.specs.Replacements.{IsReplacement, Replaces}
 pub use Rattle.surf_model.specs.Walks.{IsWalk, darts}
 pub use Rattle.surf_model.specs.declared.moves.Move.{Move}
 pub use Rattle.surf_model.specs.declared.moves.Move.TheVariants.{Across, Insert, Remove}

@@ -1,7 +1,7 @@
 -- A list of moves of the double, folded move by move.
 use Rattle.folded_lists.proofs.Common.{greatest_darts-more, greatest_darts-none, number_kinds, walk_folds, double_of, fold, folded, ◌≡◌, ◌⊎◌, inl, inr, ℕ, ◌+◌, ◌<◌, ◌≤◌, Bool, List, [], ◌∷◌, ◌++◌, length, get_or, refl, ap, sym, ◌∙◌, subst, arith, append_assoc, cases_eq, length-append, Some, first_answer, stays_walk, by_replacing, FaceList, IsFaceList, face_at, PeakedMoves, apply, apply_all, greatest_darts, LeadsAtPeak, IsReplacement, Replaces, IsWalk, Move, Insert, Remove, Across, VertexName, end_from}
 use Rattle.surf_model.proofs.WayBackLemmas.{AreAlike, alike, at_first}
-use Rattle.folded_lists.proofs.MoveNotions.{IsMoveBelow, along_edge}
+use Rattle.folded_lists.specs.FoldedLists.{IsMoveBelow, along_edge}
 use Rattle.folded_lists.proofs.FoldedParts.{end-last, front_ends, length-folded, move_folds, same_fold}
 use Rattle.folded_lists.proofs.MovesBelow.{across_kept, across_mirror, insert_flat, insert_high, quad_flat, quad_in, quad_out, remove_flat, remove_high}
 use Rattle.folded_lists.proofs.QuadLemmas.{opposite}
@@ -78,7 +78,8 @@ one_folds mesh walk next move valid some e =
     let a : AreAlike r.part r.other = alike (double_of mesh) move r.part r.other r.replaces in
     let v : ℕ = a.first in
     let front : List ℕ = r.before ++ v ∷ [] in
-    let parts : (rest : List ℕ) → front ++ (rest ++ r.after) ≡ r.before ++ (v ∷ (rest ++ r.after)) = λ rest. append_assoc r.before (v ∷ []) (rest ++ r.after) in
+    let parts : (rest : List ℕ) → front ++ (rest ++ r.after) ≡ r.before ++ (v ∷ (rest ++ r.after)) =
+    λ rest. append_assoc r.before (v ∷ []) (rest ++ r.after) in
     let walk_is : walk ≡ front ++ (a.part_rest ++ r.after) =
     r.walk_is ∙ at_first r.before r.part r.after a.part_rest v a.part_begins ∙ sym (parts a.part_rest) in
     let next_is : next ≡ front ++ (a.other_rest ++ r.after) =

@@ -1,6 +1,6 @@
 -- The fold of a walk that is parted at an entry, and of one where a part is replaced by another.
 use Rattle.folded_lists.proofs.Common.{fold, steps_behind, folded, ◌≡◌, inl, inr, ℕ, ◌+◌, ◌<◌, ◌≤◌, true, false, List, [], ◌∷◌, ◌++◌, length, map, refl, ap, sym, ◌∙◌, arith, append_assoc, cases_eq, eq-eqb, ne_eqb, length-append, length-map, map-append, Some, ◌==◌, by_replacing, FaceList, apply, Move, end_from}
-use Rattle.folded_lists.proofs.MoveNotions.{IsMoveBelow}
+use Rattle.folded_lists.specs.FoldedLists.{IsMoveBelow}
 
 -- ---- lists of vertices that follow one another
 
@@ -125,7 +125,12 @@ move_folds mesh before v rest others after place move ends at is =
     let tail : List ℕ = folds_behind count (end_from v rest) after in
     let whole : walk ≡ front.0 ++ folded count (v ∷ rest) ++ tail = in_three count before front.0 v rest after front.1 in
     let some : 0 < length walk =
-    omega (arith, ap length whole, length-append (front.0 ++ folded count (v ∷ rest)) tail, length-append front.0 (folded count (v ∷ rest))) in
+    omega (
+      arith,
+      ap length whole,
+      length-append (front.0 ++ folded count (v ∷ rest)) tail,
+      length-append front.0 (folded count (v ∷ rest)),
+    ) in
     (by_replacing mesh walk next move some).1 (record {
       before = front.0;
       part = folded count (v ∷ rest);

@@ -6,7 +6,7 @@ use Rattle.doubling.proofs.RepeatLemmas.{fold_kept, fold_mirror, linked_folds, l
 use Rattle.surf_model.proofs.EdgeLemmas.{edge_swap, step_within, head_used, tail_used, used_below}
 use Rattle.surf_model.proofs.LinkLemmas.{Linked, round_linked}
 use Rattle.surf_model.proofs.RoundLemmas.{first_corner}
-use Rattle.folded_lists.proofs.MoveNotions.{IsMoveBelow, along_edge}
+use Rattle.folded_lists.specs.FoldedLists.{IsMoveBelow, along_edge}
 use Rattle.folded_lists.proofs.QuadLemmas.{along_both, folded_quad, opposite, quad_way, there_and_back}
 
 -- ---- spurs
@@ -237,6 +237,10 @@ module _ (mesh : FaceList) (ring : List ℕ) (is : IsQuad mesh ring) where
   edge_of_corner (suc (suc (suc zero))) l = edge_swap mesh is.head is.tail ∙ is.edge
   edge_of_corner (suc (suc (suc (suc c)))) l = absurd (omega arith)
 
+pub quad_size : (mesh : FaceList) (f : ℕ) → IsFaceList mesh → length mesh.faces + length mesh.faces ≤ f
+    → f < length (double_of mesh).faces → length (face_at (double_of mesh) f) ≡ 4
+quad_size mesh f valid more l = (is_quad mesh f valid more l).size
+
 -- how the two ways of a move round a quad are folded
 record AreQuadWays (mesh : FaceList) (f corner : ℕ) (forward : Bool) (taken : ℕ) (part other : List ℕ) : Type 0 where
   pub here : ℕ
@@ -267,7 +271,8 @@ quad_ways_of mesh at f corner forward taken part other valid more h =
       other_folds =
           ap (folded mesh.count) (h.4 ∙ ap (λ (n : ℕ). corners_from ring (not forward) corner (n - taken)) is.size)
           ∙ way_folds mesh ring is (not forward) corner (4 - taken) c (omega arith)
-          ∙ ap (there_and_back (get_or (folded_quad is.tail is.head) corner 0) (get_or (folded_quad is.tail is.head) (opposite corner) 0)) rest;
+          ∙ ap (λ (n : ℕ). there_and_back (get_or (folded_quad is.tail is.head) corner 0)
+          (get_or (folded_quad is.tail is.head) (opposite corner) 0) n) rest;
       few = omega (arith, along_both forward corner taken c t);
     }
 

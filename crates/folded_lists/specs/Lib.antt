@@ -1,1 +1,2 @@
 pub mod LoweredLists
+pub mod FoldedLists
