@@ -1,4 +1,4 @@
--- What proofs of this crate cite of others, passed on from one place (by tools/imports). Declares nothing.
+-- What proofs of this crate cite of its definitions and of other crates, passed on from one place (by tools/imports). Declares nothing.
 pub use Rattle.connectivity.proofs.CornerLemmas.{after_in_mesh, corner_below, corner_in_mesh, corner_used, corner_vertex, number_once, partners_swap, used_corner}
 pub use Rattle.connectivity.proofs.EdgeLemmas.{HasSideBetween, edge_differs, edge_swap, side_between}
 pub use Rattle.connectivity.proofs.Joining.{joined_refl, joined_step, joined_sym, joined_trans}
@@ -8,12 +8,13 @@ pub use Rattle.doubling.proofs.DoubleSides.{corner_over, first_head, first_tail,
 pub use Rattle.doubling.proofs.KeptMoves.{kept_edge}
 pub use Rattle.doubling.proofs.RepeatLemmas.{fold_kept, fold_mirror}
 pub use Rattle.doubling.proofs.ValidDoubles.{double_valid}
-pub use Rattle.doubling.specs.Doubles.{double_of, is_rim, mirror, mirror_face, rim_quad, rim_quads}
+pub use Rattle.doubling.specs.Doubles.{double_of, is_rim, mirror, mirror_face, rim_quad}
 pub use Rattle.free_forms.specs.OpenSurfaces.{HasBoundary, IsOpenSurface}
 pub use Rattle.std.proofs.Common.{Bool, List, ap, ap₂, arith, false, get_or, inl, inr, length, length-append, map, not, refl, subst, suc, sym, take, true, zero, ℕ, [], ◌&&◌, ◌*◌, ◌++◌, ◌+◌, ◌-◌, ◌<◌, ◌||◌, ◌∙◌, ◌∷◌, ◌≡◌, ◌≢◌, ◌≤◌, ◌⊎◌}
 pub use Rattle.std.proofs.lemmas.Bool.{cases_Bool, cases_eq, cases_lt, cases_order, eq-eqb, ne_eqb}
 pub use Rattle.std.proofs.lemmas.Bool.Decides.{nat_tests}
-pub use Rattle.std.proofs.lemmas.List.{get_or-append_right, get_or-map, get_or-take, get_or_append_left, get_or_default, length-map, length-take-le}
+pub use Rattle.std.proofs.lemmas.Grind.{common_steps}
+pub use Rattle.std.proofs.lemmas.List.{get_or-append_right, get_or-map, get_or-take, get_or_default, length-map, length-take-le}
 pub use Rattle.std.proofs.lemmas.List.Elements.{All-filter, filter_passes}
 pub use Rattle.std.proofs.lemmas.List.Kept.{AllPairs-filter}
 pub use Rattle.std.specs.Prelude.{All, AllPairs, Contains, filter, flat_map, if◌then◌else◌, pos, ℤ, ◌+ℤ◌, ◌-ℤ◌, ◌==◌}

@@ -1,6 +1,6 @@
 -- How many sides of the double join two vertices: for an edge of the mesh, or of its mirror, one more where it has one; and between a
 -- vertex and its mirror as many as sides on the boundary have an end at the vertex.
-use Rattle.closed_doubles.proofs.Common.{after_in_mesh, corner_below, no_side, rims, is_rim, double_of, ◌≡◌, ◌≢◌, ◌⊎◌, inl, inr, ℕ, suc, ◌+◌, ◌<◌, Bool, true, false, ◌&&◌, ◌||◌, List, [], ◌∷◌, length, get_or, refl, ap, ap₂, sym, ◌∙◌, subst, arith, cases_Bool, nat_tests, filter, ◌==◌, if◌then◌else◌, ends_differ, IsWholeSide, whole_side, sides_between_swap, head_of, side_after, side_name, FaceList, FaceSide, IsFaceList, all_sides, joins, sides_between}
+use Rattle.closed_doubles.proofs.Common.{after_in_mesh, corner_below, no_side, rims, is_rim, double_of, ◌≡◌, ◌≢◌, ◌⊎◌, inl, inr, ℕ, suc, ◌+◌, ◌<◌, Bool, true, false, ◌&&◌, ◌||◌, List, [], ◌∷◌, length, get_or, refl, ap₂, ◌∙◌, arith, cases_Bool, nat_tests, filter, ◌==◌, if◌then◌else◌, ends_differ, whole_side, sides_between_swap, head_of, FaceList, FaceSide, IsFaceList, all_sides, joins, sides_between}
 use Rattle.closed_doubles.proofs.SideSums.{side_sum, mirrored, quad_part, double_sum}
 
 -- ---- sides that join two vertices, as a sum
@@ -21,11 +21,7 @@ joins_cases a b s on = grind (arith, nat_tests)
 
 -- whether a side of an edge is on the boundary is told by the edge
 rim_of_edge : (mesh : FaceList) (a b : ℕ) (s : FaceSide) → joins a b s ≡ true → is_rim mesh s ≡ (sides_between mesh a b == 1)
-rim_of_edge mesh a b s on =
-    elim (joins_cases a b s on) [
-      | inl e ↦ ap₂ (λ x y. sides_between mesh x y == 1) e.0 e.1
-      | inr e ↦ ap₂ (λ x y. sides_between mesh x y == 1) e.0 e.1 ∙ ap (λ n. n == 1) (sides_between_swap mesh b a)
-    ]
+rim_of_edge mesh a b s on = grind (arith, joins_cases, sides_between_swap)
 
 -- of an edge of one side that side is on the boundary, and of another edge none is
 pub rims_all : (mesh : FaceList) (a b : ℕ) (sides : List FaceSide) → (sides_between mesh a b == 1) ≡ true
@@ -63,13 +59,7 @@ abbrev pub rim_part : ℕ → ℕ
 rim_part n = if n == 1 then 1 else 0
 
 pub rims_on : (mesh : FaceList) (a b : ℕ) → side_sum (on_edge a b) (rims mesh) ≡ rim_part (sides_between mesh a b)
-rims_on mesh a b =
-    elim (cases_Bool (sides_between mesh a b == 1)) [
-      | inl one ↦
-          (let is : sides_between mesh a b ≡ 1 = grind (arith, nat_tests) in
-          rw one (rims_all mesh a b (all_sides mesh) one ∙ sym (count_is a b (all_sides mesh)) ∙ is))
-      | inr other ↦ rw other (rims_none mesh a b (all_sides mesh) other)
-    ]
+rims_on mesh a b = grind (arith, rims_all, count_is, rims_none)
 
 -- ---- sides between vertices below a bound
 
@@ -89,16 +79,7 @@ below_from n (s ∷ sides) h =
     (first.tail, first.head, first.apart, below_from n sides (λ k l. h (suc k) (omega arith)))
 
 pub sides_below : (mesh : FaceList) → IsFaceList mesh → AllBelow mesh.count (all_sides mesh)
-sides_below mesh valid = below_from mesh.count (all_sides mesh) (λ k l.
-    let s : FaceSide = get_or (all_sides mesh) k no_side in
-    let whole : IsWholeSide mesh k s = whole_side mesh k no_side l in
-    let head : head_of mesh (side_name s) < mesh.count =
-    corner_below mesh (side_after mesh (side_name s)) valid (after_in_mesh mesh (side_name s) whole.side_of) in
-    record {
-      tail = subst (λ x. x < mesh.count) (sym whole.tail) (corner_below mesh (side_name s) valid whole.side_of);
-      head = subst (λ x. x < mesh.count) (sym whole.head) head;
-      apart = λ same. ends_differ mesh (side_name s) valid whole.side_of (sym whole.tail ∙ same ∙ whole.head);
-    })
+sides_below mesh valid = grind (arith, below_from, no_side, whole_side, head_of, corner_below, after_in_mesh, ends_differ)
 
 pub filter_below : (n : ℕ) (p : FaceSide → Bool) (sides : List FaceSide) → AllBelow n sides → AllBelow n (filter p sides)
 filter_below n p [] h = tt
@@ -139,9 +120,7 @@ pub double_low : (mesh : FaceList) (a b : ℕ) → IsFaceList mesh → a < mesh.
 double_low mesh a b valid la lb =
     let n : ℕ = mesh.count in
     let low : AllBelow n (all_sides mesh) = sides_below mesh valid in
-    let mirrors : side_sum (mirrored n (on_edge a b)) (all_sides mesh) ≡ 0 =
-    sum_none n (mirrored n (on_edge a b)) (all_sides mesh) low
-    (λ x y lx ly. on_edge-apart a b (y + n) (x + n) (λ e. omega (arith, e, la)) (λ e. omega (arith, e, lb))) in
+    let mirrors : side_sum (mirrored n (on_edge a b)) (all_sides mesh) ≡ 0 = grind (arith, sum_none, on_edge, on_edge-apart) in
     let quads : side_sum (quad_part n (on_edge a b)) (rims mesh) ≡ side_sum (on_edge a b) (rims mesh) =
     sums_agree n (quad_part n (on_edge a b)) (on_edge a b) (rims mesh) (filter_below n (is_rim mesh) (all_sides mesh) low)
     (λ x y lx ly apart.
@@ -161,8 +140,7 @@ double_high mesh a b valid =
     let n : ℕ = mesh.count in
     let g : ℕ → ℕ → ℕ = on_edge (a + n) (b + n) in
     let low : AllBelow n (all_sides mesh) = sides_below mesh valid in
-    let kept : side_sum g (all_sides mesh) ≡ 0 =
-    sum_none n g (all_sides mesh) low (λ x y lx ly. on_edge-apart (a + n) (b + n) x y (λ e. omega (arith, e)) (λ e. omega (arith, e))) in
+    let kept : side_sum g (all_sides mesh) ≡ 0 = grind (arith, sum_none, on_edge-apart) in
     let mirrors : side_sum (mirrored n g) (all_sides mesh) ≡ side_sum (on_edge a b) (all_sides mesh) =
     sums_agree n (mirrored n g) (on_edge a b) (all_sides mesh) low
     (λ x y lx ly apart. on_edge-mirror n a b y x ∙ on_edge-turned a b x y) in

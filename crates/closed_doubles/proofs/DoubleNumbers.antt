@@ -1,11 +1,11 @@
 -- The numbers of the double of a mesh no edge of which has three sides, and whose corners at each vertex make one ring or one fan.
-use Rattle.closed_doubles.proofs.Common.{used_corner, NoEdgeHasThreeSides, EachVertexHasOneRing, rims, kept_edge, fold_kept, fold_mirror, double_valid, mirror_face, rim_quad, rim_quads, double_of, ◌≡◌, ℕ, zero, suc, ◌+◌, ◌*◌, ◌-◌, ◌<◌, Bool, true, false, List, [], ◌∷◌, ◌++◌, length, map, get_or, refl, ap, ap₂, sym, ◌∙◌, subst, arith, length-append, length-map, ℤ, pos, ◌+ℤ◌, ◌-ℤ◌, if◌then◌else◌, step_edge, tail_used, length-all_sides, FaceList, FaceSide, IsFaceList, all_sides, total_sides, face_at, next_corner, is_edge, is_used, EachEdgeHasTwoSides}
+use Rattle.closed_doubles.proofs.Common.{used_corner, NoEdgeHasThreeSides, EachVertexHasOneRing, rims, kept_edge, fold_kept, fold_mirror, double_valid, double_of, ◌≡◌, ℕ, zero, suc, ◌+◌, ◌*◌, ◌-◌, ◌<◌, Bool, true, false, List, [], ◌∷◌, length, get_or, refl, ap, ap₂, sym, ◌∙◌, subst, arith, common_steps, ℤ, pos, ◌+ℤ◌, ◌-ℤ◌, if◌then◌else◌, step_edge, tail_used, length-all_sides, FaceList, FaceSide, IsFaceList, all_sides, total_sides, face_at, next_corner, is_edge, is_used, EachEdgeHasTwoSides}
+use Rattle.closed_doubles.specs.DoubledNumbers.{boundary_size, AreDoubled}
 use Rattle.std.proofs.lemmas.Int.{ints}
 use Rattle.surf_model.proofs.EdgeTables.{some_table}
 use Rattle.surf_model.specs.Genera.{AreNumbersOf, HasGenus}
 use Rattle.surf_model.specs.Numbers.{count_below}
 use Rattle.surf_model.specs.declared.numbers.SurfaceNumbers.{SurfaceNumbers}
-use Rattle.closed_doubles.specs.DoubledNumbers.{boundary_size, AreDoubled}
 use Rattle.closed_doubles.proofs.SideSums.{side_sum, double_sum}
 use Rattle.closed_doubles.proofs.EdgeSums.{edges_twice, edges_with_rims}
 use Rattle.closed_doubles.proofs.TwoSides.{double_two_sides}
@@ -20,9 +20,7 @@ count_alike test other (suc n) same =
     (ap (λ (b : Bool). if b then 1 else 0) (same n (omega arith)))
 
 pub count_parts : (test : ℕ → Bool) (n k : ℕ) → count_below test (k + n) ≡ count_below test n + count_below (λ v. test (v + n)) k
-count_parts test n zero =
-    let same : 0 + n ≡ n = omega arith in
-    ap (count_below test) same ∙ omega arith
+count_parts test n zero = grind arith
 count_parts test n (suc k) =
     let up : suc k + n ≡ suc (k + n) = omega arith in
     ap (count_below test) up ∙ omega (arith, count_parts test n k)
@@ -30,8 +28,7 @@ count_parts test n (suc k) =
 -- two sheets, or a mesh and its mirror
 pub count_twice : (test other : ℕ → Bool) (n : ℕ) → ((v : ℕ) → v < n → other v ≡ test v) → ((v : ℕ) → v < n → other (v + n) ≡ test v)
     → count_below other (n + n) ≡ count_below test n + count_below test n
-count_twice test other n low high =
-    count_parts other n n ∙ ap₂ (λ a b. a + b) (count_alike other test n low) (count_alike (λ v. other (v + n)) test n high)
+count_twice test other n low high = grind (arith, count_parts, count_alike)
 
 -- ---- the double
 
@@ -68,15 +65,7 @@ mirror_used mesh v valid l =
     tail_used (double_of mesh) (v + mesh.count) (edge.0 + mesh.count) (mirror_edge mesh v edge.0 valid edge.1))
 
 double_faces : (mesh : FaceList) → length (double_of mesh).faces ≡ length mesh.faces + length mesh.faces + boundary_size mesh
-double_faces mesh =
-    let mirrors : List (List ℕ) = map (mirror_face mesh.count) mesh.faces in
-    omega (
-      arith,
-      length-append (mesh.faces ++ mirrors) (rim_quads mesh),
-      length-append mesh.faces mirrors,
-      length-map mesh.faces (mirror_face mesh.count),
-      length-map (rims mesh) (rim_quad mesh.count),
-    )
+double_faces mesh = grind (arith, common_steps)
 
 pub ones : (sides : List FaceSide) → side_sum (λ a b. 1) sides ≡ length sides
 ones [] = refl
@@ -105,10 +94,7 @@ euler_twice v e f b w d g euler other p q r s t = omega (arith, ints)
 pub double_numbers : (mesh : FaceList) (numbers others : SurfaceNumbers) → IsFaceList mesh → NoEdgeHasThreeSides mesh
     → EachVertexHasOneRing mesh → AreNumbersOf mesh numbers → AreNumbersOf (double_of mesh) others → AreDoubled mesh numbers others
 double_numbers mesh numbers others valid few ring is are =
-    let v : others.vertices ≡ numbers.vertices + numbers.vertices =
-    are.vertices
-    ∙ count_twice (is_used mesh) (is_used (double_of mesh)) mesh.count (λ v l. kept_used mesh v valid l) (λ v l. mirror_used mesh v valid l)
-    ∙ sym (ap₂ (λ a b. a + b) is.vertices is.vertices) in
+    let v : others.vertices ≡ numbers.vertices + numbers.vertices = grind (arith, count_twice, kept_used, mirror_used) in
     let two : EachEdgeHasTwoSides (double_of mesh) = double_two_sides mesh valid few ring in
     let e : others.edges ≡ numbers.edges + numbers.edges + boundary_size mesh =
     omega (

@@ -1,46 +1,19 @@
 -- Round a vertex of the double: the corners of the mesh, or of the mirrors over them, hang together as they do in the mesh, and each corner
 -- of a quad is one step from one of these, across the side on the boundary that the quad belongs to.
-use Rattle.closed_doubles.proofs.Common.{after_in_mesh, corner_below, corner_used, partners_swap, joined_refl, joined_step, joined_trans, joined_sym, EachVertexHasOneRing, rims, kept_side, kept_tail, kept_after, kept_head, corner_over, side_over, over_after, over_side_in_double, over_side_tail, over_head, over_once, rim_side, quad_side, rim_in_mesh, quad_in_double, quad_after, first_tail, second_tail, third_tail, fourth_tail, first_head, third_head, side_kinds, double_of, ◌≡◌, ◌⊎◌, inl, inr, ℕ, zero, suc, ◌+◌, ◌<◌, length, refl, ap, sym, ◌∙◌, subst, arith, IsSide, side_after, tail_of, head_of, FaceList, IsFaceList, AreJoined, ArePartners, IsCornerAt, IsCornerOfSide, IsStepAround, Side}
+use Rattle.closed_doubles.proofs.Common.{after_in_mesh, corner_below, corner_used, partners_swap, joined_refl, joined_step, joined_trans, joined_sym, EachVertexHasOneRing, rims, kept_side, kept_tail, kept_after, kept_head, corner_over, side_over, over_after, over_side_in_double, over_side_tail, over_head, over_once, rim_side, quad_side, rim_in_mesh, quad_in_double, quad_after, first_tail, second_tail, third_tail, fourth_tail, first_head, third_head, side_kinds, double_of, ◌≡◌, ◌⊎◌, inl, inr, ℕ, zero, suc, ◌+◌, ◌<◌, length, refl, ap, sym, ◌∙◌, subst, arith, common_steps, IsSide, side_after, tail_of, head_of, FaceList, IsFaceList, AreJoined, ArePartners, IsCornerAt, IsCornerOfSide, IsStepAround, Side}
 use Rattle.closed_doubles.proofs.JoinedDoubles.{joined_map}
 
 -- ---- steps of the mesh, and of the mirrors
 
 step_back : (mesh : FaceList) (v : ℕ) (corner other : Side) → IsStepAround mesh v corner other → IsStepAround mesh v other corner
-step_back mesh v corner other step = record {
-  side = step.partner;
-  partner = step.side;
-  partners = partners_swap mesh step.side step.partner step.partners;
-  from = step.to;
-  to = step.from;
-}
+step_back mesh v corner other step = grind (arith, partners_swap)
 
 pub kept_partners : (mesh : FaceList) (side partner : Side) → ArePartners mesh side partner → ArePartners (double_of mesh) side partner
-kept_partners mesh side partner h = record {
-  first = kept_side mesh side h.first;
-  second = kept_side mesh partner h.second;
-  different = h.different;
-  one_edge =
-      elim h.one_edge [
-        | inl e ↦
-            inl (
-              kept_tail mesh side h.first ∙ e.0 ∙ sym (kept_tail mesh partner h.second),
-              kept_head mesh side h.first ∙ e.1 ∙ sym (kept_head mesh partner h.second),
-            )
-        | inr e ↦
-            inr (
-              kept_tail mesh side h.first ∙ e.0 ∙ sym (kept_head mesh partner h.second),
-              kept_head mesh side h.first ∙ e.1 ∙ sym (kept_tail mesh partner h.second),
-            )
-      ];
-}
+kept_partners mesh side partner h = grind (arith, common_steps, kept_side, kept_tail, kept_head)
 
 kept_corner : (mesh : FaceList) (v : ℕ) (side corner : Side) → IsSide mesh side → IsCornerOfSide mesh v side corner
     → IsCornerOfSide (double_of mesh) v side corner
-kept_corner mesh v side corner is h =
-    elim h [
-      | inl e ↦ inl (kept_tail mesh side is ∙ e.0, e.1)
-      | inr e ↦ inr (kept_head mesh side is ∙ e.0, e.1 ∙ sym (kept_after mesh side is))
-    ]
+kept_corner mesh v side corner is h = grind (arith, kept_tail, kept_head, kept_after)
 
 kept_step : (mesh : FaceList) (v : ℕ) (corner other : Side) → IsStepAround mesh v corner other
     → IsStepAround (double_of mesh) v corner other
@@ -55,41 +28,15 @@ kept_step mesh v corner other step = record {
 -- sides with one corner behind them are one
 after_once : (mesh : FaceList) (side other : Side) → IsSide mesh side → IsSide mesh other → side_over mesh side ≡ side_over mesh other
     → side ≡ other
-after_once mesh side other is it same =
-    over_once mesh side other is it (sym (over_after mesh side is) ∙ ap (side_after (double_of mesh)) same ∙ over_after mesh other it)
+after_once mesh side other is it same = grind (arith, over_once, over_after)
 
 pub over_partners : (mesh : FaceList) (side partner : Side) → ArePartners mesh side partner
     → ArePartners (double_of mesh) (side_over mesh side) (side_over mesh partner)
-over_partners mesh side partner h = record {
-  first = over_side_in_double mesh side h.first;
-  second = over_side_in_double mesh partner h.second;
-  different = λ same. h.different (after_once mesh side partner h.first h.second same);
-  one_edge =
-      elim h.one_edge [
-        | inl e ↦
-            inl (
-              over_side_tail mesh side h.first ∙ ap (λ x. x + mesh.count) e.1 ∙ sym (over_side_tail mesh partner h.second),
-              over_head mesh side h.first ∙ ap (λ x. x + mesh.count) e.0 ∙ sym (over_head mesh partner h.second),
-            )
-        | inr e ↦
-            inr (
-              over_side_tail mesh side h.first ∙ ap (λ x. x + mesh.count) e.1 ∙ sym (over_head mesh partner h.second),
-              over_head mesh side h.first ∙ ap (λ x. x + mesh.count) e.0 ∙ sym (over_side_tail mesh partner h.second),
-            )
-      ];
-}
+over_partners mesh side partner h = grind (arith, over_side_in_double, after_once, over_side_tail, over_head)
 
 over_corner : (mesh : FaceList) (v : ℕ) (side corner : Side) → IsSide mesh side → IsCornerOfSide mesh v side corner
     → IsCornerOfSide (double_of mesh) (v + mesh.count) (side_over mesh side) (corner_over mesh corner)
-over_corner mesh v side corner is h =
-    elim h [
-      | inl e ↦
-          inr (
-            over_head mesh side is ∙ ap (λ x. x + mesh.count) e.0,
-            ap (corner_over mesh) e.1 ∙ sym (over_after mesh side is),
-          )
-      | inr e ↦ inl (over_side_tail mesh side is ∙ ap (λ x. x + mesh.count) e.0, ap (corner_over mesh) e.1)
-    ]
+over_corner mesh v side corner is h = grind (arith, over_head, over_after, over_side_tail)
 
 over_step : (mesh : FaceList) (v : ℕ) (corner other : Side) → IsStepAround mesh v corner other
     → IsStepAround (double_of mesh) (v + mesh.count) (corner_over mesh corner) (corner_over mesh other)
@@ -188,8 +135,7 @@ AtEither mesh v corner = ((v < mesh.count) × IsNear mesh v corner) ⊎ ((a : �
 
 one_step : (mesh : FaceList) (w v : ℕ) (corner kept : Side) → w ≡ v → IsStepAround mesh w corner kept
     → AreJoined (IsStepAround mesh v) corner kept
-one_step mesh w v corner kept same step =
-    subst (λ x. AreJoined (IsStepAround mesh x) corner kept) same (joined_step (IsStepAround mesh w) corner kept step)
+one_step mesh w v corner kept same step = grind (arith, joined_step)
 
 quad_near : (mesh : FaceList) (v k i : ℕ) → IsFaceList mesh → k < length (rims mesh) → i < 4
     → tail_of (double_of mesh) (quad_side mesh k i) ≡ v → AtEither mesh v (quad_side mesh k i)
@@ -244,34 +190,7 @@ quad_near mesh v k (suc (suc (suc (suc i)))) valid l b e = absurd (omega arith)
 
 near : (mesh : FaceList) (v : ℕ) (corner : Side) → IsFaceList mesh → IsCornerAt (double_of mesh) v corner → AtEither mesh v corner
 near mesh v corner valid h =
-    elim (side_kinds mesh corner h.side) [
-      | inl is ↦
-          (let here : tail_of mesh corner ≡ v = sym (kept_tail mesh corner is) ∙ h.vertex in
-          inl (
-            subst (λ x. x < mesh.count) here (corner_below mesh corner valid is),
-            record {
-              kept = corner;
-              at = record { side = is; vertex = here };
-              joined = joined_refl (IsStepAround (double_of mesh) v) corner corner refl;
-            },
-          ))
-      | inr others ↦ elim others [
-        | inl over ↦
-            inr (
-              head_of mesh over.under,
-              sym h.vertex ∙ ap (tail_of (double_of mesh)) over.is ∙ over_side_tail mesh over.under over.in_mesh,
-              record {
-                kept = side_after mesh over.under;
-                at = record { side = after_in_mesh mesh over.under over.in_mesh; vertex = refl };
-                joined = joined_refl (IsStepAround (double_of mesh) (head_of mesh over.under + mesh.count)) corner
-                    (side_over mesh over.under) over.is;
-              },
-            )
-        | inr quad ↦
-            subst (AtEither mesh v) (sym quad.is)
-            (quad_near mesh v quad.quad quad.at valid quad.in_list quad.in_quad (ap (tail_of (double_of mesh)) (sym quad.is) ∙ h.vertex))
-      ]
-    ]
+    grind (arith, side_kinds, kept_tail, corner_below, joined_refl, head_of, over_side_tail, after_in_mesh, quad_near)
 
 -- so all corners at a vertex are joined
 joined_near : (mesh : FaceList) (v : ℕ) (corner other : Side) → EachVertexHasOneRing mesh → IsNear mesh v corner → IsNear mesh v other

@@ -1,9 +1,9 @@
 -- Signs of the faces of a mesh give signs of the faces of its double: a mirror of a flipped face is flipped, and a quad has the sign of the
 -- face at its edge. No two sides of the double then run the same way, so the two sides of an edge run oppositely.
-use Rattle.closed_doubles.proofs.Common.{after_in_mesh, corner_below, number_once, NoEdgeHasThreeSides, EachVertexHasOneRing, rims, no_side, double_size, rim_whole, kept_tail, kept_head, side_over, over_side_tail, over_head, rim_side, quad_side, rim_in_mesh, side_kinds, first_tail, second_tail, third_tail, fourth_tail, first_head, second_head, third_head, fourth_head, is_rim, double_of, ◌≡◌, ◌≢◌, ◌⊎◌, inl, inr, ℕ, zero, suc, ◌+◌, ◌-◌, ◌<◌, ◌≤◌, Bool, true, false, not, List, ◌++◌, length, map, take, get_or, refl, ap, ap₂, sym, ◌∙◌, subst, arith, length-append, cases_Bool, cases_eq, cases_order, length-take-le, get_or-take, length-map, get_or-map, get_or_append_left, get_or-append_right, filter_passes, AllPairs-filter, if◌then◌else◌, AllPairs, ends_differ, whole_side, IsSide, side_number, side_after, tail_of, head_of, side_name, FaceList, FaceSide, IsFaceList, all_sides, ArePartners, is_flipped, start_under, end_under, RunOppositely, IsCoherent, IsOrientable, Side}
+use Rattle.closed_doubles.proofs.Common.{after_in_mesh, corner_below, number_once, NoEdgeHasThreeSides, EachVertexHasOneRing, rims, no_side, double_size, rim_whole, kept_tail, kept_head, side_over, over_side_tail, over_head, rim_side, quad_side, rim_in_mesh, side_kinds, first_tail, second_tail, third_tail, fourth_tail, first_head, second_head, third_head, fourth_head, is_rim, double_of, ◌≡◌, ◌≢◌, ◌⊎◌, inl, inr, ℕ, zero, suc, ◌+◌, ◌-◌, ◌<◌, ◌≤◌, Bool, true, false, not, List, ◌++◌, length, map, take, get_or, refl, ap, ap₂, sym, ◌∙◌, subst, arith, length-append, cases_Bool, cases_eq, cases_order, common_steps, length-take-le, get_or-take, length-map, get_or-map, get_or-append_right, filter_passes, AllPairs-filter, if◌then◌else◌, AllPairs, ends_differ, whole_side, IsSide, side_number, tail_of, head_of, side_name, FaceList, FaceSide, IsFaceList, all_sides, ArePartners, is_flipped, start_under, end_under, RunOppositely, IsCoherent, IsOrientable, Side}
 use Rattle.closed_doubles.proofs.DoubleRings.{kept_partners}
 use Rattle.closed_doubles.proofs.SidePlaces.{IsAlone}
-use Rattle.closed_doubles.proofs.Fans.{side_before, head_before, IsAt, other_side, other_of_start, other_of_end, Exits, reached_rim}
+use Rattle.closed_doubles.proofs.Fans.{head_before, IsAt, other_side, other_of_start, other_of_end, Exits, reached_rim}
 use Rattle.closed_doubles.proofs.TwoSides.{rim_is_alone, at_used}
 
 -- ---- round a vertex, from a side that starts there to one that ends there
@@ -24,27 +24,9 @@ starts_flipped mesh signs side e = (rw e refl, rw e refl)
 other_turns : (mesh : FaceList) (signs : List Bool) (v : ℕ) (first : Bool) (side : Side) → IsFaceList mesh → IsSide mesh side
     → end_at mesh signs first side ≡ v → end_at mesh signs (not first) (other_side mesh v side) ≡ v
 other_turns mesh signs v true side valid is e =
-    elim (cases_Bool (is_flipped signs side.face.0)) [
-      | inl flipped ↦
-          (let here : head_of mesh side ≡ v = sym (starts_flipped mesh signs side flipped).0 ∙ e in
-          subst (λ s. end_under mesh signs s ≡ v) (sym (other_of_end mesh v side valid is here))
-          ((starts_flipped mesh signs (side_after mesh side) flipped).1 ∙ here))
-      | inr plain ↦
-          (let here : tail_of mesh side ≡ v = sym (starts_plain mesh signs side plain).0 ∙ e in
-          subst (λ s. end_under mesh signs s ≡ v) (sym (other_of_start mesh v side here))
-          ((starts_plain mesh signs (side_before mesh side) plain).1 ∙ head_before mesh side is ∙ here))
-    ]
+    grind (arith, head_of, starts_flipped, other_of_end, starts_plain, other_of_start, head_before)
 other_turns mesh signs v false side valid is e =
-    elim (cases_Bool (is_flipped signs side.face.0)) [
-      | inl flipped ↦
-          (let here : tail_of mesh side ≡ v = sym (starts_flipped mesh signs side flipped).1 ∙ e in
-          subst (λ s. start_under mesh signs s ≡ v) (sym (other_of_start mesh v side here))
-          ((starts_flipped mesh signs (side_before mesh side) flipped).0 ∙ head_before mesh side is ∙ here))
-      | inr plain ↦
-          (let here : head_of mesh side ≡ v = sym (starts_plain mesh signs side plain).1 ∙ e in
-          subst (λ s. start_under mesh signs s ≡ v) (sym (other_of_end mesh v side valid is here))
-          ((starts_plain mesh signs (side_after mesh side) plain).0 ∙ here))
-    ]
+    grind (arith, starts_flipped, other_of_start, head_before, head_of, starts_plain, other_of_end)
 
 partner_turns : (mesh : FaceList) (signs : List Bool) (v : ℕ) (first : Bool) (side partner : Side) → IsCoherent mesh signs
     → ArePartners mesh side partner → end_at mesh signs first side ≡ v → end_at mesh signs (not first) partner ≡ v
@@ -57,18 +39,12 @@ AreEndsOf tail head start end = ((tail ≡ start) × (head ≡ end)) ⊎ ((tail 
 
 either_way : (mesh : FaceList) (signs : List Bool) (side : Side)
     → AreEndsOf (tail_of mesh side) (head_of mesh side) (start_under mesh signs side) (end_under mesh signs side)
-either_way mesh signs side =
-    elim (cases_Bool (is_flipped signs side.face.0)) [
-      | inl flipped ↦ (let e = starts_flipped mesh signs side flipped in inr (sym e.1, sym e.0))
-      | inr plain ↦ (let e = starts_plain mesh signs side plain in inl (sym e.0, sym e.1))
-    ]
+either_way mesh signs side = grind (arith, starts_flipped, starts_plain)
 
 -- which differ
 ends_apart : (mesh : FaceList) (signs : List Bool) (side : Side) → IsFaceList mesh → IsSide mesh side
     → start_under mesh signs side ≢ end_under mesh signs side
-ends_apart mesh signs side valid is same =
-    ends_differ mesh side valid is
-    (elim (either_way mesh signs side) [ inl e ↦ e.0 ∙ same ∙ sym e.1 | inr e ↦ e.0 ∙ sym same ∙ sym e.1 ])
+ends_apart mesh signs side valid is same = grind (arith, ends_differ, either_way)
 
 both_ends : (mesh : FaceList) (signs : List Bool) (v : ℕ) (first : Bool) (side : Side) → IsFaceList mesh → IsSide mesh side
     → end_at mesh signs first side ≡ v → end_at mesh signs (not first) side ≡ v → ⊥
@@ -77,14 +53,8 @@ both_ends mesh signs v false side valid is e f = ends_apart mesh signs side vali
 
 at_end : (mesh : FaceList) (signs : List Bool) (v : ℕ) (first : Bool) (side : Side) → IsSide mesh side → end_at mesh signs first side ≡ v
     → IsAt mesh v side
-at_end mesh signs v true side is e = record {
-  side_of = is;
-  end = elim (either_way mesh signs side) [ inl f ↦ inl (f.0 ∙ e) | inr f ↦ inr (f.1 ∙ e) ];
-}
-at_end mesh signs v false side is e = record {
-  side_of = is;
-  end = elim (either_way mesh signs side) [ inl f ↦ inr (f.1 ∙ e) | inr f ↦ inl (f.0 ∙ e) ];
-}
+at_end mesh signs v true side is e = grind (arith, either_way)
+at_end mesh signs v false side is e = grind (arith, either_way)
 
 run_along : (t h s e t' h' s' e' : ℕ) → AreEndsOf t h s e → AreEndsOf t' h' s' e' → s ≡ s' → e ≡ e' → AreEndsOf t h t' h'
 run_along t h s e t' h' s' e' one two starts ends = grind arith
@@ -98,13 +68,7 @@ alike_or_against t h s e t' h' s' e' one two edge = grind arith
 
 ends_below : (mesh : FaceList) (signs : List Bool) (side : Side) → IsFaceList mesh → IsSide mesh side
     → (start_under mesh signs side < mesh.count) × (end_under mesh signs side < mesh.count)
-ends_below mesh signs side valid is =
-    let tail : tail_of mesh side < mesh.count = corner_below mesh side valid is in
-    let head : head_of mesh side < mesh.count = corner_below mesh (side_after mesh side) valid (after_in_mesh mesh side is) in
-    elim (either_way mesh signs side) [
-      | inl e ↦ (subst (λ x. x < mesh.count) e.0 tail, subst (λ x. x < mesh.count) e.1 head)
-      | inr e ↦ (subst (λ x. x < mesh.count) e.1 head, subst (λ x. x < mesh.count) e.0 tail)
-    ]
+ends_below mesh signs side valid is = grind (arith, corner_below, head_of, after_in_mesh, either_way)
 
 module _ (mesh : FaceList) (signs : List Bool) (valid : IsFaceList mesh) (few : NoEdgeHasThreeSides mesh) (ring : EachVertexHasOneRing mesh)
     (coherent : IsCoherent mesh signs)
@@ -199,19 +163,10 @@ Runs mesh signs side start end = (start_there mesh signs side ≡ start) × (end
 
 module _ (mesh : FaceList) (signs : List Bool) (size : length signs ≡ length mesh.faces) where
   sign_kept : (f : ℕ) → f < length mesh.faces → is_flipped (double_signs mesh signs) f ≡ is_flipped signs f
-  sign_kept f l =
-      get_or_append_left (signs ++ signs) (map (λ (s : FaceSide). is_flipped signs s.face) (rims mesh)) false f
-      (omega (arith, l, size, length-append signs signs))
-      ∙ get_or_append_left signs signs false f (omega (arith, l, size))
+  sign_kept f l = grind (arith, common_steps)
 
   sign_over : (f : ℕ) → f < length mesh.faces → is_flipped (double_signs mesh signs) (length mesh.faces + f) ≡ is_flipped signs f
-  sign_over f l =
-      let n : ℕ = length mesh.faces in
-      let there : n + f - n ≡ f = omega arith in
-      get_or_append_left (signs ++ signs) (map (λ (s : FaceSide). is_flipped signs s.face) (rims mesh)) false (n + f)
-      (omega (arith, l, size, length-append signs signs))
-      ∙ get_or-append_right signs signs n (n + f) false size (omega arith)
-      ∙ ap (λ k. get_or signs k false) there
+  sign_over f l = grind (arith, common_steps)
 
   sign_quad : (k : ℕ) → k < length (rims mesh)
       → is_flipped (double_signs mesh signs) (length mesh.faces + length mesh.faces + k) ≡ quad_sign mesh signs k
@@ -227,25 +182,14 @@ module _ (mesh : FaceList) (signs : List Bool) (size : length signs ≡ length m
   runs_by : (side : Side) (b : Bool) (tail head : ℕ) → is_flipped (double_signs mesh signs) side.face.0 ≡ b
       → tail_of (double_of mesh) side ≡ tail → head_of (double_of mesh) side ≡ head
       → Runs mesh signs side (if b then head else tail) (if b then tail else head)
-  runs_by side b tail head sign e f = (
-    ap (λ c. if c then head_of (double_of mesh) side else tail_of (double_of mesh) side) sign ∙ ap₂ (λ x y. if b then x else y) f e,
-    ap (λ c. if c then tail_of (double_of mesh) side else head_of (double_of mesh) side) sign ∙ ap₂ (λ x y. if b then x else y) e f,
-  )
+  runs_by side b tail head sign e f = grind (arith, head_of)
 
   kept_runs : (side : Side) → IsSide mesh side → Runs mesh signs side (start_under mesh signs side) (end_under mesh signs side)
-  kept_runs side is =
-      runs_by side (is_flipped signs side.face.0) (tail_of mesh side) (head_of mesh side) (sign_kept side.face.0 is.face)
-      (kept_tail mesh side is) (kept_head mesh side is)
+  kept_runs side is = grind (arith, common_steps, head_of, kept_tail, kept_head)
 
   over_runs : (side : Side) → IsSide mesh side
       → Runs mesh signs (side_over mesh side) (end_under mesh signs side + mesh.count) (start_under mesh signs side + mesh.count)
-  over_runs side is =
-      let b : Bool = is_flipped signs side.face.0 in
-      let runs = runs_by (side_over mesh side) b (head_of mesh side + mesh.count) (tail_of mesh side + mesh.count)
-      (sign_over side.face.0 is.face) (over_side_tail mesh side is) (over_head mesh side is) in (
-        runs.0 ∙ choose-plus b (tail_of mesh side) (head_of mesh side) mesh.count,
-        runs.1 ∙ choose-plus b (head_of mesh side) (tail_of mesh side) mesh.count,
-      )
+  over_runs side is = grind (arith, common_steps, head_of, over_side_tail, over_head, choose-plus)
 
   module _ (k : ℕ) (l : k < length (rims mesh)) where
     back_runs : Runs mesh signs (quad_side mesh k 0) (end_under mesh signs (rim_side mesh k)) (start_under mesh signs (rim_side mesh k))
@@ -344,8 +288,7 @@ rims_rise : (mesh : FaceList) (i j : ℕ) → i < j → j < length (rims mesh)
     → side_number mesh (rim_side mesh i) < side_number mesh (rim_side mesh j)
 rims_rise mesh i j less l =
     let Rises : FaceSide → FaceSide → Type 0 = λ s t. side_number mesh (side_name s) < side_number mesh (side_name t) in
-    let rise : AllPairs Rises (all_sides mesh) =
-    λ p q e s t. omega (arith, (whole_side mesh p e (omega arith)).number, (whole_side mesh q e t).number) in
+    let rise : AllPairs Rises (all_sides mesh) = λ p q e s t. grind (arith, whole_side) in
     AllPairs-filter Rises (is_rim mesh) (all_sides mesh) rise i j no_side less l
 
 rim_once : (mesh : FaceList) (k j : ℕ) → k < length (rims mesh) → j < length (rims mesh) → rim_side mesh k ≡ rim_side mesh j → k ≡ j

@@ -1,5 +1,5 @@
 -- Sides by their edges: each side is of one edge of the table, so sums over the edges of how many sides they have count the sides.
-use Rattle.closed_doubles.proofs.Common.{NoEdgeHasThreeSides, rims, is_rim, ◌≡◌, ◌≢◌, inl, inr, ℕ, zero, suc, ◌+◌, ◌<◌, ◌≤◌, true, List, [], ◌∷◌, length, get_or, refl, ap₂, sym, ◌∙◌, subst, arith, cases_Bool, cases_order, nat_tests, get_or_default, All-filter, All, length-all_sides, table_edge, table_pair, Edge, IsTableOf, IsPairBefore, edge_in, FaceList, FaceSide, all_sides, total_sides, joins, sides_between, EachEdgeHasTwoSides}
+use Rattle.closed_doubles.proofs.Common.{NoEdgeHasThreeSides, rims, is_rim, ◌≡◌, ◌≢◌, inl, inr, ℕ, zero, suc, ◌+◌, ◌<◌, ◌≤◌, true, List, [], ◌∷◌, length, get_or, refl, ap₂, sym, ◌∙◌, subst, arith, cases_Bool, nat_tests, get_or_default, All-filter, All, length-all_sides, table_edge, table_pair, Edge, IsTableOf, IsPairBefore, edge_in, FaceList, FaceSide, all_sides, total_sides, joins, sides_between, EachEdgeHasTwoSides}
 use Rattle.closed_doubles.proofs.SideSums.{side_sum}
 use Rattle.closed_doubles.proofs.DoubleEdges.{on_edge, count_is, rim_part, rims_on}
 use Rattle.closed_doubles.proofs.SidePlaces.{some_side}
@@ -58,17 +58,7 @@ not_itself a b c d h low high = grind arith
 module _ (mesh : FaceList) (table : List Edge) (h : IsTableOf mesh table) where
   joined_once : (s : FaceSide) (j k : ℕ) → j < length table → k < length table → joins (edge_in table j).low (edge_in table j).high s ≡ true
       → joins (edge_in table k).low (edge_in table k).high s ≡ true → j ≡ k
-  joined_once s j k lj lk p q =
-      let e : Edge = edge_in table j in
-      let f : Edge = edge_in table k in
-      let ends = same_ends e.low e.high f.low f.high s p q (table_edge mesh table j h lj).ordered (table_edge mesh table k h lk).ordered in
-      elim (cases_order j k) [
-        | inl same ↦ same
-        | inr differ ↦ elim differ [
-          | inl less ↦ absurd (not_itself e.low e.high f.low f.high (h.rising j k no_edge less lk) ends.0 ends.1)
-          | inr more ↦ absurd (not_itself f.low f.high e.low e.high (h.rising k j no_edge more lj) (sym ends.0) (sym ends.1))
-        ]
-      ]
+  joined_once s j k lj lk p q = grind (arith, same_ends, table_edge, not_itself)
 
   one_edge : (s : FaceSide) (k : ℕ) → k < length table → joins (edge_in table k).low (edge_in table k).high s ≡ true
       → edge_sum (λ e. on_edge e.low e.high s.tail s.head) table ≡ 1

@@ -1,6 +1,6 @@
 -- Round a vertex, from a side on the boundary: across the corner to its other side, over the edge of that to the next corner, and so on.
 -- Where the corners make one fan this comes to every corner, and it ends at a side on the boundary: so there is at most one more.
-use Rattle.closed_doubles.proofs.Common.{after_in_mesh, corner_vertex, corner_in_mesh, partners_swap, NoEdgeHasThreeSides, ◌≡◌, ◌≢◌, ◌⊎◌, inl, inr, ℕ, zero, suc, ◌<◌, true, false, List, [], ◌∷◌, length, refl, ap, sym, ◌∙◌, subst, arith, cases_eq, cases_order, eq-eqb, ne_eqb, ◌==◌, if◌then◌else◌, ends_differ, back_within, there_and_back, IsSide, side_after, tail_of, head_of, FaceList, IsFaceList, face_at, next_corner, IsPath, AreJoined, ArePartners, IsCornerOfSide, IsStepAround, HasOneRing, Side, next_back}
+use Rattle.closed_doubles.proofs.Common.{after_in_mesh, corner_vertex, corner_in_mesh, partners_swap, NoEdgeHasThreeSides, ◌≡◌, ◌≢◌, ◌⊎◌, inl, inr, ℕ, zero, suc, ◌<◌, true, false, List, [], ◌∷◌, length, refl, ap, sym, ◌∙◌, subst, arith, cases_eq, cases_order, eq-eqb, ◌==◌, if◌then◌else◌, ends_differ, back_within, there_and_back, IsSide, side_after, tail_of, head_of, FaceList, IsFaceList, face_at, next_corner, IsPath, AreJoined, ArePartners, IsCornerOfSide, IsStepAround, HasOneRing, Side, next_back}
 use Rattle.closed_doubles.proofs.SidePlaces.{IsAlone, one_partner}
 
 -- ---- the two sides of a corner
@@ -12,18 +12,10 @@ pub before_in_mesh : (mesh : FaceList) (side : Side) → IsSide mesh side → Is
 before_in_mesh mesh side h = record { face = h.face; place = back_within (length (face_at mesh side.face.0)) side.at h.place }
 
 pub after_before : (mesh : FaceList) (side : Side) → IsSide mesh side → side_after mesh (side_before mesh side) ≡ side
-after_before mesh side h =
-    let place = there_and_back (length (face_at mesh side.face.0)) side.at h.place in
-    let same : (t : ℕ) → t ≡ side.at → record { face = side.face; at = t } ≡ side =
-    λ t e. ap (λ (k : ℕ). record { face = side.face; at = k }) e in
-    same _ place
+after_before mesh side h = grind (arith, there_and_back)
 
 before_after : (mesh : FaceList) (side : Side) → IsSide mesh side → side_before mesh (side_after mesh side) ≡ side
-before_after mesh side h =
-    let place = next_back true (length (face_at mesh side.face.0)) side.at h.place in
-    let same : (t : ℕ) → t ≡ side.at → record { face = side.face; at = t } ≡ side =
-    λ t e. ap (λ (k : ℕ). record { face = side.face; at = k }) e in
-    same _ place
+before_after mesh side h = grind (arith, next_back)
 
 -- a side with an end at the vertex
 pub record IsAt (mesh : FaceList) (v : ℕ) (side : Side) : Type 0 where
@@ -39,63 +31,25 @@ other_of_start mesh v side e = let test : (tail_of mesh side == v) ≡ true = eq
 
 pub other_of_end : (mesh : FaceList) (v : ℕ) (side : Side) → IsFaceList mesh → IsSide mesh side → head_of mesh side ≡ v
     → other_side mesh v side ≡ side_after mesh side
-other_of_end mesh v side valid is e =
-    let test : (tail_of mesh side == v) ≡ false = ne_eqb (tail_of mesh side) v (λ tail. ends_differ mesh side valid is (tail ∙ sym e)) in
-    rw test refl
+other_of_end mesh v side valid is e = grind (arith, ends_differ)
 
 pub head_before : (mesh : FaceList) (side : Side) → IsSide mesh side → head_of mesh (side_before mesh side) ≡ tail_of mesh side
 head_before mesh side is = ap (tail_of mesh) (after_before mesh side is)
 
 other_at : (mesh : FaceList) (v : ℕ) (side : Side) → IsFaceList mesh → IsAt mesh v side → IsAt mesh v (other_side mesh v side)
-other_at mesh v side valid h =
-    elim h.end [
-      | inl e ↦
-          subst (IsAt mesh v) (sym (other_of_start mesh v side e))
-          (record { side_of = before_in_mesh mesh side h.side_of; end = inr (head_before mesh side h.side_of ∙ e) })
-      | inr e ↦
-          subst (IsAt mesh v) (sym (other_of_end mesh v side valid h.side_of e))
-          (record { side_of = after_in_mesh mesh side h.side_of; end = inl e })
-    ]
+other_at mesh v side valid h = grind (arith, other_of_start, before_in_mesh, head_before, other_of_end, after_in_mesh)
 
 other_back : (mesh : FaceList) (v : ℕ) (side : Side) → IsFaceList mesh → IsAt mesh v side
     → other_side mesh v (other_side mesh v side) ≡ side
-other_back mesh v side valid h =
-    elim h.end [
-      | inl e ↦
-          ap (other_side mesh v) (other_of_start mesh v side e)
-          ∙ other_of_end mesh v (side_before mesh side) valid (before_in_mesh mesh side h.side_of) (head_before mesh side h.side_of ∙ e)
-          ∙ after_before mesh side h.side_of
-      | inr e ↦
-          ap (other_side mesh v) (other_of_end mesh v side valid h.side_of e)
-          ∙ other_of_start mesh v (side_after mesh side) e
-          ∙ before_after mesh side h.side_of
-    ]
+other_back mesh v side valid h = grind (arith, other_of_start, other_of_end, before_in_mesh, head_before, after_before, before_after)
 
 other_corner : (mesh : FaceList) (v : ℕ) (side corner : Side) → IsFaceList mesh → IsSide mesh side → IsCornerOfSide mesh v side corner
     → IsCornerOfSide mesh v (other_side mesh v side) corner
-other_corner mesh v side corner valid is h =
-    elim h [
-      | inl e ↦
-          subst (λ s. IsCornerOfSide mesh v s corner) (sym (other_of_start mesh v side e.0))
-          (inr (head_before mesh side is ∙ e.0, e.1 ∙ sym (after_before mesh side is)))
-      | inr e ↦
-          subst (λ s. IsCornerOfSide mesh v s corner) (sym (other_of_end mesh v side valid is e.0)) (inl (e.0, e.1))
-    ]
+other_corner mesh v side corner valid is h = grind (arith, other_of_start, head_before, after_before, other_of_end)
 
 two_sides : (mesh : FaceList) (v : ℕ) (side another corner : Side) → IsFaceList mesh → IsSide mesh side → IsSide mesh another
     → IsCornerOfSide mesh v side corner → IsCornerOfSide mesh v another corner → (another ≡ side) ⊎ (another ≡ other_side mesh v side)
-two_sides mesh v side another corner valid is it h k =
-    elim h [
-      | inl e ↦ elim k [
-        | inl f ↦ inl (sym f.1 ∙ e.1)
-        | inr f ↦
-            inr (sym (before_after mesh another it) ∙ ap (side_before mesh) (sym f.1 ∙ e.1) ∙ sym (other_of_start mesh v side e.0))
-      ]
-      | inr e ↦ elim k [
-        | inl f ↦ inr (sym f.1 ∙ e.1 ∙ sym (other_of_end mesh v side valid is e.0))
-        | inr f ↦ inl (sym (before_after mesh another it) ∙ ap (side_before mesh) (sym f.1 ∙ e.1) ∙ before_after mesh side is)
-      ]
-    ]
+two_sides mesh v side another corner valid is it h k = grind (arith, before_after, other_of_start, other_of_end)
 
 corner_of : (mesh : FaceList) (v : ℕ) (side : Side) → IsAt mesh v side → (corner : Side) × IsCornerOfSide mesh v side corner
 corner_of mesh v side h = elim h.end [ inl e ↦ (side, inl (e, refl)) | inr e ↦ (side_after mesh side, inr (e, refl)) ]

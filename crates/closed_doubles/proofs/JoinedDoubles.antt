@@ -1,5 +1,5 @@
 -- The double of a mesh in one piece with a boundary is in one piece: each vertex is joined to one on the boundary, or to the mirror of it.
-use Rattle.closed_doubles.proofs.Common.{used_corner, edge_swap, edge_differs, joined_refl, joined_step, joined_trans, joined_sym, kept_edge, fold_kept, double_valid, double_of, HasBoundary, ◌≡◌, ◌≢◌, ◌⊎◌, inl, inr, ℕ, zero, suc, ◌+◌, ◌<◌, ◌≤◌, true, List, [], ◌∷◌, length, get_or, refl, ap, subst, arith, cases_Bool, cases_lt, eq-eqb, nat_tests, ◌==◌, step_edge, tail_used, head_used, used_below, FaceList, IsFaceList, face_at, next_corner, is_edge, is_used, IsPath, AreJoined, sides_between}
+use Rattle.closed_doubles.proofs.Common.{used_corner, edge_swap, edge_differs, joined_refl, joined_step, joined_trans, joined_sym, kept_edge, fold_kept, double_valid, double_of, HasBoundary, ◌≡◌, ◌≢◌, ◌⊎◌, inl, inr, ℕ, zero, suc, ◌+◌, ◌<◌, ◌≤◌, true, List, [], ◌∷◌, length, get_or, ap, subst, arith, cases_lt, nat_tests, step_edge, tail_used, head_used, used_below, FaceList, IsFaceList, face_at, next_corner, is_edge, is_used, IsPath, AreJoined, sides_between}
 use Rattle.connectivity.proofs.EdgeCounts.{no_edge_no_side}
 use Rattle.connectivity.proofs.WalkLemmas.{walk_from_joined, joined_from_walk}
 use Rattle.connectivity.specs.Partitions.{IsEdgeStep}
@@ -19,16 +19,11 @@ joined_map step other f leads x (z ∷ path) y p =
     joined_trans other (f x) (f z) (f y) (joined_step other (f x) (f z) (leads x z p.0)) (joined_map step other f leads z path y p.1)
 
 edge_of_sides : (mesh : FaceList) (u v : ℕ) → 0 < sides_between mesh u v → is_edge mesh u v ≡ true
-edge_of_sides mesh u v some =
-    elim (cases_Bool (is_edge mesh u v)) [
-      | inl is ↦ is
-      | inr off ↦ absurd (omega (arith, some, no_edge_no_side mesh u v off))
-    ]
+edge_of_sides mesh u v some = grind (arith, no_edge_no_side)
 
 pub mirror_edge : (mesh : FaceList) (u v : ℕ) → IsFaceList mesh → is_edge mesh u v ≡ true
     → is_edge (double_of mesh) (u + mesh.count) (v + mesh.count) ≡ true
-mirror_edge mesh u v valid is =
-    edge_of_sides (double_of mesh) (u + mesh.count) (v + mesh.count) (omega (arith, double_high mesh u v valid, some_side mesh u v is))
+mirror_edge mesh u v valid is = grind (arith, edge_of_sides, double_high, some_side)
 
 -- ---- vertices on the boundary
 
@@ -73,11 +68,7 @@ boundary_rims mesh (u, v, one) valid =
 
 -- between a vertex on the boundary and its mirror
 up : (mesh : FaceList) (a : ℕ) → IsFaceList mesh → a < mesh.count → sides_between (double_of mesh) a (a + mesh.count) ≡ rim_count mesh a
-up mesh a valid l =
-    let test : (a == a) ≡ true = eq-eqb a a refl in
-    let is = double_across mesh a a valid l in
-    let size : sides_between (double_of mesh) a (a + mesh.count) ≡ rim_count mesh a = rw test at is in
-    size
+up mesh a valid l = grind (arith, double_across)
 
 -- ---- what is used
 
@@ -94,8 +85,7 @@ fold_of_edge mesh x y valid is =
           (let a : ℕ = fold mesh.count x in
           elim (both_folds mesh.count x y same (edge_differs (double_of mesh) x y (double_valid mesh valid) is)) [
             | inl e ↦
-                (let edge : is_edge (double_of mesh) a (a + mesh.count) ≡ true =
-                subst (λ z. is_edge (double_of mesh) a z ≡ true) e.1 (subst (λ z. is_edge (double_of mesh) z y ≡ true) e.0 is) in
+                (let edge : is_edge (double_of mesh) a (a + mesh.count) ≡ true = grind arith in
                 rim_used mesh a valid (omega (arith, up mesh a valid e.2, some_side (double_of mesh) a (a + mesh.count) edge)))
             | inr e ↦
                 (let back : is_edge (double_of mesh) y x ≡ true = edge_swap (double_of mesh) x y is in

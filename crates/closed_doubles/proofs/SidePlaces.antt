@@ -1,5 +1,5 @@
 -- The sides of one edge, by their places among all that join its ends.
-use Rattle.closed_doubles.proofs.Common.{HasSideBetween, side_between, NoEdgeHasThreeSides, no_side, ◌≡◌, ◌⊎◌, inl, ℕ, ◌<◌, true, get_or, refl, ap, sym, ◌∙◌, arith, nat_tests, get_or_default, Contains, filter, face_side, HasSideEnds, IsSide, tail_of, head_of, side_name, FaceList, FaceSide, face_at, all_sides, joins, is_edge, sides_between, ArePartners, Side}
+use Rattle.closed_doubles.proofs.Common.{HasSideBetween, side_between, NoEdgeHasThreeSides, no_side, ◌≡◌, ◌⊎◌, inl, ℕ, ◌<◌, true, get_or, refl, ap, ◌∙◌, arith, nat_tests, get_or_default, Contains, filter, face_side, HasSideEnds, IsSide, tail_of, head_of, side_name, FaceList, FaceSide, face_at, all_sides, joins, is_edge, sides_between, ArePartners, Side}
 use Rattle.surf_model.proofs.TableLemmas.{face_side_in, Contains-filter}
 
 -- where a side stands among those that join two vertices
@@ -14,9 +14,7 @@ ends_join u v side h = grind (arith, nat_tests)
 pub placed : (mesh : FaceList) (u v : ℕ) (side : Side) → IsSide mesh side → HasSideEnds mesh u v side → IsPlaced mesh u v side
 placed mesh u v side is ends =
     let whole : FaceSide = face_side side.face.0 (face_at mesh side.face.0) side.at in
-    let kept : Contains (filter (joins u v) (all_sides mesh)) whole =
-    Contains-filter (joins u v) (all_sides mesh) whole (ends_join u v whole ends)
-    (face_side_in mesh side.face.0 side.at is.face is.place) in
+    let kept : Contains (filter (joins u v) (all_sides mesh)) whole = grind (arith, Contains-filter, ends_join, face_side_in) in
     record {
       place = kept.0;
       within = kept.1;
@@ -25,8 +23,7 @@ placed mesh u v side is ends =
 
 pub one_place : (mesh : FaceList) (u v : ℕ) (side other : Side) (p : IsPlaced mesh u v side) (q : IsPlaced mesh u v other)
     → p.place ≡ q.place → side ≡ other
-one_place mesh u v side other p q same =
-    sym p.here ∙ ap (λ k. side_name (get_or (filter (joins u v) (all_sides mesh)) k no_side)) same ∙ q.here
+one_place mesh u v side other p q same = grind (arith, no_side)
 
 -- an edge has a side
 pub some_side : (mesh : FaceList) (u v : ℕ) → is_edge mesh u v ≡ true → 0 < sides_between mesh u v
@@ -42,8 +39,7 @@ own_place mesh side is = placed mesh (tail_of mesh side) (head_of mesh side) sid
 
 partner_place : (mesh : FaceList) (side partner : Side) → ArePartners mesh side partner
     → IsPlaced mesh (tail_of mesh side) (head_of mesh side) partner
-partner_place mesh side partner h =
-    placed mesh (tail_of mesh side) (head_of mesh side) partner h.second (ends_of_partner _ _ _ _ h.one_edge)
+partner_place mesh side partner h = grind (arith, placed, head_of, ends_of_partner)
 
 -- a side alone in its edge has no partner
 abbrev pub IsAlone : FaceList → Side → Type 0

@@ -1,5 +1,5 @@
 -- Sums over all sides of numbers that darts have, face by face; and over those of the double, kind by kind.
-use Rattle.closed_doubles.proofs.Common.{rims, length-mirror_face, mirror_corner, mirror_next, mirror, mirror_face, rim_quad, rim_quads, double_of, ◌≡◌, ℕ, zero, suc, ◌+◌, ◌-◌, ◌<◌, true, false, List, [], ◌∷◌, ◌++◌, length, map, get_or, refl, ap, ap₂, sym, ◌∙◌, arith, nat_tests, flat_map, step_within, face_side, FaceList, FaceSide, all_sides, sides_of_face, next_corner, next_back}
+use Rattle.closed_doubles.proofs.Common.{rims, length-mirror_face, mirror_corner, mirror_next, mirror, mirror_face, rim_quad, double_of, ◌≡◌, ℕ, zero, suc, ◌+◌, ◌-◌, ◌<◌, true, false, List, [], ◌∷◌, ◌++◌, length, map, get_or, refl, ap, ap₂, sym, ◌∙◌, arith, nat_tests, flat_map, step_within, face_side, FaceList, FaceSide, all_sides, sides_of_face, next_corner, next_back}
 use Rattle.std.specs.List.{enumerate_from, range_with_len}
 
 -- ---- sums of the first numbers
@@ -29,8 +29,7 @@ below-reverse : (f : ℕ → ℕ) (n : ℕ) → below (λ k. f (n - 1 - k)) n �
 below-reverse f zero = refl
 below-reverse f (suc n) =
     let top : f (suc n - 1 - 0) ≡ f n = ap f (omega arith) in
-    let rest : below (λ k. f (suc n - 1 - suc k)) n ≡ below (λ k. f (n - 1 - k)) n =
-    below-alike (λ k. f (suc n - 1 - suc k)) (λ k. f (n - 1 - k)) n (λ k l. ap f (omega arith)) in
+    let rest : below (λ k. f (suc n - 1 - suc k)) n ≡ below (λ k. f (n - 1 - k)) n = grind (arith, below-alike) in
     omega (arith, below-first (λ k. f (suc n - 1 - k)) n, top, rest, below-reverse f n)
 
 -- each at the corner behind
@@ -39,10 +38,7 @@ below-next f zero = refl
 below-next f (suc n) =
     let last : next_corner true (suc n) n ≡ 0 = grind (arith, nat_tests) in
     let home : f (next_corner true (suc n) n) ≡ f 0 = ap f last in
-    let most : below (λ t. f (next_corner true (suc n) t)) n ≡ below (λ t. f (suc t)) n =
-    below-alike (λ t. f (next_corner true (suc n) t)) (λ t. f (suc t)) n (λ t l.
-    let next : next_corner true (suc n) t ≡ suc t = grind (arith, nat_tests) in
-    ap f next) in
+    let most : below (λ t. f (next_corner true (suc n) t)) n ≡ below (λ t. f (suc t)) n = grind (arith, below-alike) in
     omega (arith, home, most, below-first f n)
 
 -- ---- sums over sides
@@ -77,9 +73,7 @@ faces_sum-append g (x ∷ xs) ys = omega (arith, faces_sum-append g xs ys)
 -- over the sides of one face, from one on
 sides_from : (g : ℕ → ℕ → ℕ) (f : ℕ) (face : List ℕ) (t k : ℕ)
     → below (dart_at g face) t + side_sum g (map (face_side f face) (range_with_len t k)) ≡ below (dart_at g face) (t + k)
-sides_from g f face t zero =
-    let same : below (dart_at g face) (t + 0) ≡ below (dart_at g face) t = ap (below (dart_at g face)) (omega arith) in
-    omega (arith, same)
+sides_from g f face t zero = grind (arith, below)
 sides_from g f face t (suc k) =
     let up : t + 1 ≡ suc t = omega arith in
     let next : below (dart_at g face) (t + 1) ≡ below (dart_at g face) (suc t) = ap (below (dart_at g face)) up in
@@ -147,15 +141,4 @@ quads_sum count g (s ∷ sides) =
 pub double_sum : (mesh : FaceList) (g : ℕ → ℕ → ℕ)
     → side_sum g (all_sides (double_of mesh))
     ≡ side_sum g (all_sides mesh) + side_sum (mirrored mesh.count g) (all_sides mesh) + side_sum (quad_part mesh.count g) (rims mesh)
-double_sum mesh g =
-    let mirrors : List (List ℕ) = map (mirror_face mesh.count) mesh.faces in
-    omega (
-      arith,
-      by_faces g (double_of mesh),
-      faces_sum-append g (mesh.faces ++ mirrors) (rim_quads mesh),
-      faces_sum-append g mesh.faces mirrors,
-      by_faces g mesh,
-      mirrors_sum mesh.count g mesh.faces,
-      by_faces (mirrored mesh.count g) mesh,
-      quads_sum mesh.count g (rims mesh),
-    )
+double_sum mesh g = grind (arith, by_faces, faces_sum-append, mirrors_sum, quads_sum)

@@ -1,5 +1,5 @@
 -- Each edge of the double has two sides, where no edge of the mesh has three and the corners at each vertex make one ring or one fan.
-use Rattle.closed_doubles.proofs.Common.{after_in_mesh, corner_used, NoEdgeHasThreeSides, EachVertexHasOneRing, no_side, rims, is_rim, double_of, ◌≡◌, ◌≢◌, ◌⊎◌, inl, inr, ℕ, ◌+◌, ◌-◌, ◌<◌, ◌≤◌, true, false, ◌||◌, List, [], ◌∷◌, length, get_or, refl, ap, ap₂, sym, ◌∙◌, subst, arith, cases_eq, cases_lt, eq-eqb, ne_eqb, nat_tests, All-filter, filter_passes, AllPairs-filter, AllPairs, filter, ◌==◌, IsWholeSide, whole_side, sides_between_swap, side_number, side_after, side_name, FaceList, FaceSide, IsFaceList, all_sides, sides_between, EachEdgeHasTwoSides, HasOneRing, Side}
+use Rattle.closed_doubles.proofs.Common.{after_in_mesh, corner_used, NoEdgeHasThreeSides, EachVertexHasOneRing, no_side, rims, is_rim, double_of, ◌≡◌, ◌≢◌, ◌⊎◌, inl, inr, ℕ, ◌+◌, ◌-◌, ◌<◌, ◌≤◌, true, false, ◌||◌, List, [], ◌∷◌, length, get_or, refl, ap, ap₂, sym, ◌∙◌, subst, arith, cases_eq, cases_lt, eq-eqb, ne_eqb, nat_tests, All-filter, filter_passes, AllPairs-filter, AllPairs, filter, ◌==◌, IsWholeSide, whole_side, sides_between_swap, side_number, side_name, FaceList, FaceSide, IsFaceList, all_sides, sides_between, EachEdgeHasTwoSides, HasOneRing, Side}
 use Rattle.std.specs.Prelude.{Bool}
 use Rattle.closed_doubles.proofs.SideSums.{side_sum}
 use Rattle.closed_doubles.proofs.DoubleEdges.{AllBelow, sides_below, filter_below, touches, rim_count, rim_part, double_low, double_high, double_across}
@@ -73,17 +73,11 @@ rims_rise : (mesh : FaceList) (a i j : ℕ) → i < j → j < length (rims_at me
     → side_number mesh (side_name (get_or (rims_at mesh a) i no_side)) < side_number mesh (side_name (get_or (rims_at mesh a) j no_side))
 rims_rise mesh a i j less l =
     let Rises : FaceSide → FaceSide → Type 0 = λ s t. side_number mesh (side_name s) < side_number mesh (side_name t) in
-    let rise : AllPairs Rises (all_sides mesh) =
-    λ p q e s t. omega (arith, (whole_side mesh p e (omega arith)).number, (whole_side mesh q e t).number) in
+    let rise : AllPairs Rises (all_sides mesh) = λ p q e s t. grind (arith, whole_side) in
     AllPairs-filter Rises (touching a) (rims mesh) (AllPairs-filter Rises (is_rim mesh) (all_sides mesh) rise) i j no_side less l
 
 pub at_used : (mesh : FaceList) (a : ℕ) (side : Side) → IsAt mesh a side → EachVertexHasOneRing mesh → HasOneRing mesh a
-at_used mesh a side h ring =
-    ring a
-    (elim h.end [
-      | inl e ↦ corner_used mesh a side (record { side = h.side_of; vertex = e })
-      | inr e ↦ corner_used mesh a (side_after mesh side) (record { side = after_in_mesh mesh side h.side_of; vertex = e })
-    ])
+at_used mesh a side h ring = grind (arith, corner_used, after_in_mesh)
 
 -- at most two
 few_rims : (mesh : FaceList) (a : ℕ) → IsFaceList mesh → NoEdgeHasThreeSides mesh → EachVertexHasOneRing mesh
@@ -108,8 +102,7 @@ pub two_rims : (mesh : FaceList) (a : ℕ) → IsFaceList mesh → NoEdgeHasThre
     → 0 < rim_count mesh a → rim_count mesh a ≡ 2
 two_rims mesh a valid few ring some =
     let even : IsEven (rim_count mesh a) = rims_even mesh a valid few in
-    let size : rim_count mesh a ≡ length (rims_at mesh a) =
-    touch_count mesh.count a (rims mesh) (filter_below mesh.count (is_rim mesh) (all_sides mesh) (sides_below mesh valid)) in
+    let size : rim_count mesh a ≡ length (rims_at mesh a) = grind (arith, touch_count, filter_below, sides_below) in
     omega (arith, some, size, few_rims mesh a valid few ring, even.even)
 
 -- ---- each edge of the double
@@ -119,18 +112,7 @@ becomes_two n few some = grind (arith, nat_tests)
 
 across_two : (mesh : FaceList) (a b : ℕ) → IsFaceList mesh → NoEdgeHasThreeSides mesh → EachVertexHasOneRing mesh → a < mesh.count
     → 0 < sides_between (double_of mesh) a (b + mesh.count) → sides_between (double_of mesh) a (b + mesh.count) ≡ 2
-across_two mesh a b valid few ring la some =
-    let is = double_across mesh a b valid la in
-    elim (cases_eq a b) [
-      | inl same ↦
-          (let test : (a == b) ≡ true = eq-eqb a b same in
-          let size : sides_between (double_of mesh) a (b + mesh.count) ≡ rim_count mesh a = rw test at is in
-          size ∙ two_rims mesh a valid few ring (omega (arith, some, size)))
-      | inr other ↦
-          (let test : (a == b) ≡ false = ne_eqb a b other in
-          let size : sides_between (double_of mesh) a (b + mesh.count) ≡ 0 = rw test at is in
-          absurd (omega (arith, some, size)))
-    ]
+across_two mesh a b valid few ring la some = grind (arith, double_across, two_rims)
 
 pub double_two_sides : (mesh : FaceList) → IsFaceList mesh → NoEdgeHasThreeSides mesh → EachVertexHasOneRing mesh
     → EachEdgeHasTwoSides (double_of mesh)
@@ -158,8 +140,7 @@ double_two_sides mesh valid few ring u v is =
                 (across_two mesh v (u - n) valid few ring below (subst (λ w. 0 < sides_between (double_of mesh) v w) (sym up) back)))
             | inr above ↦
                 (let over : v - n + n ≡ v = omega (arith, above) in
-                let ends : sides_between (double_of mesh) (u - n + n) (v - n + n) ≡ sides_between (double_of mesh) u v =
-                ap₂ (sides_between (double_of mesh)) up over in
+                let ends : sides_between (double_of mesh) (u - n + n) (v - n + n) ≡ sides_between (double_of mesh) u v = grind arith in
                 let size = double_high mesh (u - n) (v - n) valid in
                 sym ends ∙ size
                 ∙ becomes_two (sides_between mesh (u - n) (v - n)) (few (u - n) (v - n)) (omega (arith, some, size, ends)))

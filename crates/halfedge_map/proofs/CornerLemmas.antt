@@ -1,6 +1,5 @@
 -- Going round a face, by rising and by falling places.
-use Rattle.halfedge_map.proofs.Common.{◌≡◌, ℕ, zero, suc, ◌+◌, ◌-◌, ◌<◌, Bool, true, false, not, ap, sym, ◌∙◌, subst, arith, nat_tests, next_corner}
-use Rattle.halfedge_map.specs.Orbits.{IsReached}
+use Rattle.halfedge_map.proofs.Common.{IsReached, ◌≡◌, ℕ, zero, suc, ◌+◌, ◌-◌, ◌<◌, Bool, true, false, not, ap, ◌∙◌, subst, arith, nat_tests, next_corner}
 use Rattle.halfedge_map.proofs.OrbitLemmas.{IsPermutationBelow, reached_trans, reached_undone}
 
 pub corner_within : (rising : Bool) (m t : ℕ) → t < m → next_corner rising m t < m
@@ -13,11 +12,7 @@ corner_back true m t l = grind (arith, nat_tests)
 corner_back false m t l = grind (arith, nat_tests)
 
 pub corners_permuted : (rising : Bool) (m : ℕ) → IsPermutationBelow m (next_corner rising m)
-corners_permuted rising m =
-    record {
-      within = corner_within rising m;
-      injective = λ t u l k e. sym (corner_back rising m t l) ∙ ap (next_corner (not rising) m) e ∙ corner_back rising m u k;
-    }
+corners_permuted rising m = grind (arith, corner_within, corner_back)
 
 rising_one : (m t : ℕ) → t + 1 < m → next_corner true m t ≡ t + 1
 rising_one m t l = grind (arith, nat_tests)
@@ -29,8 +24,7 @@ rising_up : (m t k : ℕ) → t + k < m → IsReached (next_corner true m) t (t 
 rising_up m t zero l = record { steps = 0; leads = omega arith }
 rising_up m t (suc k) l =
     let before : IsReached (next_corner true m) t (t + k) = rising_up m t k (omega arith) in
-    let one : next_corner true m (t + k) ≡ t + suc k = rising_one m (t + k) (omega arith)
-    ∙ (let e : t + k + 1 ≡ t + suc k = omega arith in e) in
+    let one : next_corner true m (t + k) ≡ t + suc k = grind (arith, rising_one) in
     record { steps = suc before.steps; leads = ap (next_corner true m) before.leads ∙ one }
 
 rising_reached : (m t u : ℕ) → t < m → u < m → IsReached (next_corner true m) t u

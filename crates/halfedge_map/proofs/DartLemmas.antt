@@ -1,9 +1,5 @@
 -- The dart of a side, in a kept face and in a flipped one: here alone the flip is looked at.
-use Rattle.halfedge_map.proofs.Common.{◌≡◌, ℕ, ◌+◌, ◌<◌, Bool, true, false, not, cond, List, length, get_or, refl, ap, sym, ◌∙◌, subst, cond-true, cond-false, face_side, first_side, IsSide, side_number, side_after, FaceSide, face_at, all_sides, next_corner, is_flipped, start_under, end_under, Side}
-use Rattle.halfedge_map.specs.OrientedMeshes.{OrientedMesh}
-use Rattle.halfedge_map.specs.DartMaps.{darts_of, side_of, face_of, origin_of, target_of, next_of, start_corner_of, end_corner_of}
-use Rattle.halfedge_map.specs.DartMaps.{dart_at_corner, StartsAtCorner, IsDartOfSide}
-use Rattle.halfedge_map.specs.Orbits.{after_steps, IsReached}
+use Rattle.halfedge_map.proofs.Common.{darts_of, side_of, face_of, origin_of, target_of, next_of, start_corner_of, end_corner_of, dart_at_corner, StartsAtCorner, IsDartOfSide, after_steps, IsReached, OrientedMesh, arith, ◌≡◌, ℕ, ◌+◌, ◌<◌, Bool, true, false, not, cond, List, length, get_or, refl, ap, sym, ◌∙◌, subst, cond-true, cond-false, face_side, first_side, IsSide, side_number, side_after, FaceSide, face_at, next_corner, is_flipped, start_under, end_under, Side}
 use Rattle.halfedge_map.proofs.OrbitLemmas.{IsPermutationBelow}
 use Rattle.halfedge_map.proofs.CornerLemmas.{corner_within, corner_back, corners_permuted, corner_reached}
 use Rattle.halfedge_map.proofs.NumberLemmas.{IsNumberOf, HasPlace, side_numbered, number_below, placed}
@@ -18,9 +14,7 @@ vertex_at s f corner = get_or (face_at s.mesh f) corner 0
 
 pub side_at : (s : OrientedMesh) (f t d : ℕ) → IsNumberOf s.mesh f t d → side_of s d ≡ face_side f (face_at s.mesh f) t
 unfolding side_of
-side_at s f t d h =
-    ap (λ n. get_or (all_sides s.mesh) n (record { face = 0; at = 0; tail = 0; head = 0 })) (sym h.is)
-    ∙ side_numbered s.mesh f t (record { face = 0; at = 0; tail = 0; head = 0 }) h.face h.place
+side_at s f t d h = grind (arith, side_numbered)
 
 pub face_at_number : (s : OrientedMesh) (f t d : ℕ) → IsNumberOf s.mesh f t d → face_of s d ≡ f
 unfolding face_of
@@ -124,12 +118,7 @@ next_at s f t d h =
 
 pub next_numbered : (s : OrientedMesh) (f t d : ℕ) → IsNumberOf s.mesh f t d
     → IsNumberOf s.mesh f (next_corner (not (is_flipped s.signs f)) (corners s f) t) (next_of s d)
-next_numbered s f t d h =
-    record {
-      face = h.face;
-      place = corner_within (not (is_flipped s.signs f)) (corners s f) t h.place;
-      is = sym (next_at s f t d h);
-    }
+next_numbered s f t d h = grind (arith, corner_within, next_at)
 
 -- steps in a face are steps round its corners
 steps_numbered : (s : OrientedMesh) (f t d k : ℕ) → IsNumberOf s.mesh f t d
@@ -157,8 +146,7 @@ next_injective s d e l k same =
     let face : q.face ≡ f = one_face s q.face _ f _ (next_of s e) at_e at_d in
     let e_here : IsNumberOf s.mesh f q.place e = subst (λ g. IsNumberOf s.mesh g q.place e) face q.numbered in
     let places : next_corner (not (is_flipped s.signs f)) (corners s f) p.place ≡ next_corner (not (is_flipped s.signs f))
-    (corners s f) q.place =
-    one_place s f _ f _ (next_of s e) at_d (next_numbered s f q.place e e_here) in
+    (corners s f) q.place = grind (arith, one_place, next_numbered) in
     let place : p.place ≡ q.place = (corners_permuted (not (is_flipped s.signs f))
     (corners s f)).injective p.place q.place p.numbered.place e_here.place places in
     sym p.numbered.is ∙ ap (λ t. first_side s.mesh f + t) place ∙ e_here.is
@@ -180,8 +168,7 @@ face_reached s d e l k same =
     let f : ℕ = p.face in
     let face : q.face ≡ f = sym (face_at_number s q.face q.place e q.numbered) ∙ sym same ∙ face_at_number s f p.place d p.numbered in
     let e_here : IsNumberOf s.mesh f q.place e = subst (λ g. IsNumberOf s.mesh g q.place e) face q.numbered in
-    let way : IsReached (next_corner (not (is_flipped s.signs f)) (corners s f)) p.place q.place =
-    corner_reached (not (is_flipped s.signs f)) (corners s f) p.place q.place p.numbered.place e_here.place in
+    let way : IsReached (next_corner (not (is_flipped s.signs f)) (corners s f)) p.place q.place = grind (arith, corner_reached) in
     record {
       steps = way.steps;
       leads =
@@ -239,14 +226,12 @@ numbered s side h = record { face = h.face; place = h.place; is = refl }
 pub origin_under : (s : OrientedMesh) (side : Side) → IsSide s.mesh side
     → origin_of s (side_number s.mesh side) ≡ start_under s.mesh s.signs side
 unfolding origin_of
-origin_under s side h = ap (λ (x : FaceSide). cond (is_flipped s.signs x.face) x.head x.tail)
-    (side_at s side.face.0 side.at (side_number s.mesh side) (numbered s side h))
+origin_under s side h = grind (arith, side_at, numbered)
 
 pub target_under : (s : OrientedMesh) (side : Side) → IsSide s.mesh side
     → target_of s (side_number s.mesh side) ≡ end_under s.mesh s.signs side
 unfolding target_of
-target_under s side h = ap (λ (x : FaceSide). cond (is_flipped s.signs x.face) x.tail x.head)
-    (side_at s side.face.0 side.at (side_number s.mesh side) (numbered s side h))
+target_under s side h = grind (arith, side_at, numbered)
 
 -- one place on in a kept face, one place back in a flipped one
 turned_place : (flipped : Bool) (first m t d after : ℕ) → t < m → first + t ≡ d

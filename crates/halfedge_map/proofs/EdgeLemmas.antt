@@ -1,12 +1,9 @@
 -- The edges of the table and their darts.
-use Rattle.halfedge_map.proofs.Common.{◌≡◌, ◌≢◌, ◌⊎◌, inl, inr, ℕ, zero, suc, ◌<◌, Bool, true, false, cond, List, length, get_or, refl, ap, sym, ◌∙◌, subst, arith, cases_order, cases_lt, get_or_default, get_or-map, length-map, Any-from_list_any, list_any_at, ◌↔◌, Contains, Some, filter, slice_get, unwrap_or, face_side, length-all_sides, IsSide, side_number, Edge, IsEdgeOf, IsTableOf, IsPairBefore, HasEnds, edge_in, side_name, FaceList, FaceSide, face_at, all_sides, next_corner, joins, is_edge, is_flipped, Side}
+use Rattle.halfedge_map.proofs.Common.{darts_of, side_of, origin_of, target_of, twin_of, edge_of, OrientedMesh, IsOrientedSurface, rotations_of, IsDartFrom, IsEdgeWithEnds, ◌≡◌, ◌≢◌, ◌⊎◌, inl, inr, ℕ, zero, suc, ◌<◌, Bool, true, false, cond, List, length, get_or, refl, ap, sym, ◌∙◌, subst, arith, cases_lt, common_steps, get_or_default, get_or-map, length-map, Any-from_list_any, list_any_at, ◌↔◌, Contains, Some, filter, slice_get, unwrap_or, face_side, length-all_sides, IsSide, side_number, Edge, IsEdgeOf, IsTableOf, IsPairBefore, HasEnds, edge_in, side_name, FaceList, FaceSide, face_at, all_sides, next_corner, joins, is_edge, is_flipped, Side}
 use Rattle.std.proofs.lemmas.Option.{slice_get_within, get_or_from_slice_get}
 use Rattle.surf_model.proofs.PartnerLemmas.{IsSideOfEdge, side_of_edge, table_edge, edge_sides_rise}
 use Rattle.surf_model.proofs.TableLemmas.{edge_from_table}
 use Rattle.surf_model.specs.EdgeDarts.{IsNextInEdge, darts_of as edge_darts_of}
-use Rattle.halfedge_map.specs.OrientedMeshes.{OrientedMesh, IsOrientedSurface}
-use Rattle.halfedge_map.specs.DartMaps.{darts_of, side_of, origin_of, target_of, twin_of, edge_of}
-use Rattle.halfedge_map.specs.RotationSystems.{rotations_of, IsDartFrom, IsEdgeWithEnds}
 use Rattle.halfedge_map.proofs.NumberLemmas.{IsNumberOf, number_below}
 use Rattle.halfedge_map.proofs.DartLemmas.{side_at, numbered}
 use Rattle.halfedge_map.proofs.ListLemmas.{IsFirstBelow, first_passes}
@@ -15,17 +12,7 @@ use Rattle.halfedge_map.proofs.TwinLemmas.{joins_from, joins_own, joins_both, si
 
 -- a side that joins the ends of one that joins u and v joins them too
 joins_on : (u v : ℕ) (a b : FaceSide) → joins u v a ≡ true → joins a.tail a.head b ≡ true → joins u v b ≡ true
-joins_on u v a b h k =
-    elim (joins_read u v a h) [
-      | inl x ↦ elim (joins_read a.tail a.head b k) [
-        | inl y ↦ joins_from u v b (inl (y.0 ∙ x.0, y.1 ∙ x.1))
-        | inr y ↦ joins_from u v b (inr (y.0 ∙ x.1, y.1 ∙ x.0))
-      ]
-      | inr x ↦ elim (joins_read a.tail a.head b k) [
-        | inl y ↦ joins_from u v b (inr (y.0 ∙ x.0, y.1 ∙ x.1))
-        | inr y ↦ joins_from u v b (inl (y.0 ∙ x.1, y.1 ∙ x.0))
-      ]
-    ]
+joins_on u v a b h k = grind (arith, joins_read, joins_from)
 
 -- a side joins the ends of one pair alone
 record AreSame (a b c d : ℕ) : Type 0 where
@@ -33,17 +20,7 @@ record AreSame (a b c d : ℕ) : Type 0 where
   high : b ≡ d
 
 one_pair : (a b c d : ℕ) (x : FaceSide) → a < b → c < d → joins a b x ≡ true → joins c d x ≡ true → AreSame a b c d
-one_pair a b c d x l k h i =
-    elim (joins_read a b x h) [
-      | inl p ↦ elim (joins_read c d x i) [
-        | inl q ↦ record { low = omega (arith, p.0, q.0); high = omega (arith, p.1, q.1) }
-        | inr q ↦ absurd (omega (arith, l, k, p.0, p.1, q.0, q.1))
-      ]
-      | inr p ↦ elim (joins_read c d x i) [
-        | inl q ↦ absurd (omega (arith, l, k, p.0, p.1, q.0, q.1))
-        | inr q ↦ record { low = omega (arith, p.1, q.1); high = omega (arith, p.0, q.0) }
-      ]
-    ]
+one_pair a b c d x l k h i = grind (arith, joins_read)
 
 -- the edge in a table whose ends a side joins
 pub joins_edge : List Edge → ℕ → FaceSide → Bool
@@ -63,18 +40,7 @@ pub one_edge : (mesh : FaceList) (table : List Edge) (i j : ℕ) (side : FaceSid
     → j < length table
     → joins_edge table i side ≡ true → joins_edge table j side ≡ true → i ≡ j
 unfolding joins_edge
-one_edge mesh table i j side h l k p q =
-    let e : Edge = edge_in table i in
-    let f : Edge = edge_in table j in
-    let same : AreSame e.low e.high f.low f.high = one_pair e.low e.high f.low f.high side (edge_ordered mesh table i h l)
-    (edge_ordered mesh table j h k) p q in
-    elim (cases_order i j) [
-      | inl is ↦ is
-      | inr other ↦ elim other [
-        | inl less ↦ absurd (not_before e.low e.high f.low f.high same (h.rising i j _ less k))
-        | inr more ↦ absurd (not_after e.low e.high f.low f.high same (h.rising j i _ more l))
-      ]
-    ]
+one_edge mesh table i j side h l k p q = grind (arith, one_pair, edge_ordered, not_before, not_after)
 
 -- what the edge of a dart is
 pub record IsEdgeOfDart (s : OrientedMesh) (d k : ℕ) : Type 0 where
@@ -89,8 +55,7 @@ dart_has_edge s h d l =
     let k : ℕ = some.0 in
     let edge : edge_in s.table k ≡ some.1 = get_or_default s.table k _ some.1 some.2 ∙ some.3 in
     let read : joins some.1.low some.1.high side ≡ true = ap (joins some.1.low some.1.high) (sym (side_is s d side l)) ∙ some.4 in
-    let here : joins (edge_in s.table k).low (edge_in s.table k).high side ≡ true =
-    ap (λ (e : Edge). joins e.low e.high side) edge ∙ read in
+    let here : joins (edge_in s.table k).low (edge_in s.table k).high side ≡ true = grind arith in
     let first : IsFirstBelow (λ k. joins (edge_in s.table k).low (edge_in s.table k).high side) (length s.table) =
     first_passes (λ k. joins (edge_in s.table k).low (edge_in s.table k).high side) (length s.table) k some.2 here in
     let is : edge_of s d ≡ first.number = ap (λ r. unwrap_or r 0) first.is in
@@ -106,10 +71,7 @@ edge_is s h d k l b joined =
 along_same : (s : OrientedMesh) → IsOrientedSurface s → (d e : ℕ) → d < darts_of s → e < darts_of s → along s d e ≡ true
     → edge_of s d ≡ edge_of s e
 unfolding along joins_edge
-along_same s h d e l k together =
-    let own : IsEdgeOfDart s d (edge_of s d) = dart_has_edge s h d l in
-    edge_is s h e (edge_of s d) k own.within
-    (joins_on (edge_in s.table (edge_of s d)).low (edge_in s.table (edge_of s d)).high (side_of s d) (side_of s e) own.joined together)
+along_same s h d e l k together = grind (arith, common_steps, dart_has_edge, edge_is, joins_on)
 
 pub edge-twin : (s : OrientedMesh) → IsOrientedSurface s → (d : ℕ) → d < darts_of s → edge_of s (twin_of s d) ≡ edge_of s d
 edge-twin s h d l = along_same s h (twin_of s d) d (twin_within s h d l) l (twin_along s h d l)
@@ -174,9 +136,7 @@ pub edge_of_dart : (s : OrientedMesh) → IsOrientedSurface s → (u v d : ℕ) 
 unfolding is_edge
 edge_of_dart s h u v d from =
     let target : target_of s d ≡ v = sym (origin-twin s h d from.within) ∙ from.ends in
-    let here : joins u v (side_of s d) ≡ true =
-    subst (λ x. joins x v (side_of s d) ≡ true) from.starts
-    (subst (λ x. joins (origin_of s d) x (side_of s d) ≡ true) target (dart_joins s d)) in
+    let here : joins u v (side_of s d) ≡ true = grind (arith, dart_joins) in
     list_any_at (joins u v) (all_sides s.mesh) d (side_of s d) (omega (arith, from.within, length-all_sides s.mesh))
     (ap (joins u v) (side_is s d (side_of s d) from.within) ∙ here)
 
@@ -186,9 +146,7 @@ pub one_dart : (s : OrientedMesh) → IsOrientedSurface s → (d e : ℕ) → d 
 unfolding along
 one_dart s h d e l k starts ends =
     let targets : target_of s d ≡ target_of s e = sym (origin-twin s h d l) ∙ ends ∙ origin-twin s h e k in
-    let there : joins (origin_of s e) (target_of s e) (side_of s d) ≡ true =
-    subst (λ x. joins x (target_of s e) (side_of s d) ≡ true) starts
-    (subst (λ x. joins (origin_of s d) x (side_of s d) ≡ true) targets (dart_joins s d)) in
+    let there : joins (origin_of s e) (target_of s e) (side_of s d) ≡ true = grind (arith, dart_joins) in
     elim (along_edge s h d e l k (joins_both (origin_of s e) (target_of s e) (side_of s d) (side_of s e) there (dart_joins s e))) [
       | inl is ↦ sym is
       | inr twin ↦ absurd (no_loop s h d l (sym (origin-twin s h d l) ∙ ap (origin_of s) (sym twin) ∙ sym starts))
@@ -228,26 +186,14 @@ two_sides s h k l =
 -- another dart of the edge of d is its twin
 pub twin_is : (s : OrientedMesh) → IsOrientedSurface s → (d e : ℕ) → d < darts_of s → e < darts_of s → edge_of s d ≡ edge_of s e
     → e ≢ d → e ≡ twin_of s d
-twin_is s h d e l k same other =
-    elim ((edge_darts s h d e l k).0 same) [ inl is ↦ absurd (other is) | inr twin ↦ twin ]
+twin_is s h d e l k same other = grind (arith, edge_darts)
 
 -- the edge between two vertices and the ends of its darts
 pub between_is : (s : OrientedMesh) → IsOrientedSurface s → (u v k d : ℕ) → k < length s.table → HasEnds u v (edge_in s.table k)
     → d < darts_of s → edge_of s d ≡ k
     → ((origin_of s d ≡ u) × (target_of s d ≡ v)) ⊎ ((origin_of s d ≡ v) × (target_of s d ≡ u))
 unfolding joins_edge
-between_is s h u v k d l ends b is =
-    let edge : Edge = edge_in s.table k in
-    let own : joins edge.low edge.high (side_of s d) ≡ true = (subst (IsEdgeOfDart s d) is (dart_has_edge s h d b)).joined in
-    elim ends [
-      | inl x ↦ dart_ends s d u v (subst (λ b. joins u b (side_of s d) ≡ true) x.1
-          (subst (λ a. joins a edge.high (side_of s d) ≡ true) x.0 own))
-      | inr x ↦ elim (dart_ends s d v u (subst (λ b. joins v b (side_of s d) ≡ true) x.1
-          (subst (λ a. joins a edge.high (side_of s d) ≡ true) x.0 own))) [
-            | inl y ↦ inr y
-            | inr y ↦ inl y
-          ]
-    ]
+between_is s h u v k d l ends b is = grind (arith, dart_has_edge, dart_ends)
 
 -- a side that was read from an edge
 pub side_got : (s : OrientedMesh) → IsOrientedSurface s → (k j : ℕ) (side : Side) → k < length s.table
@@ -293,8 +239,7 @@ next_is_twin s h d e l next =
     let read : (j : ℕ) → j < length edge.sides → get_or (edge_darts_of s.mesh edge) j 0 ≡ side_number s.mesh (get_or edge.sides j none) =
     λ j b. get_or-map (side_number s.mesh) edge.sides j none 0 b in
     let d_is : side_number s.mesh (get_or edge.sides p none) ≡ d = sym (read p p_in) ∙ next.here in
-    let e_is : side_number s.mesh (get_or edge.sides q none) ≡ e =
-    sym (read q q_in) ∙ ap (λ m. get_or (edge_darts_of s.mesh edge) (next_corner true m p) 0) (sym long) ∙ next.there in
+    let e_is : side_number s.mesh (get_or edge.sides q none) ≡ e = grind arith in
     let one : IsSideInTable s k (get_or edge.sides p none) = side_in_table s h k p none next.in_table p_in in
     let other : IsSideInTable s k (get_or edge.sides q none) = side_in_table s h k q none next.in_table q_in in
     let e_in : e < darts_of s = subst (λ x. x < darts_of s) e_is other.within in
@@ -331,11 +276,7 @@ leads_back s h u v k d at ends other =
 
 -- the edge of a dart joins the ends of the dart
 same_ends : (a b u v : ℕ) (side : FaceSide) → joins a b side ≡ true → joins u v side ≡ true → ((a ≡ u) × (b ≡ v)) ⊎ ((a ≡ v) × (b ≡ u))
-same_ends a b u v side h k =
-    elim (joins_read a b side h) [
-      | inl x ↦ elim (joins_read u v side k) [ inl y ↦ inl (sym x.0 ∙ y.0, sym x.1 ∙ y.1) | inr y ↦ inr (sym x.0 ∙ y.0, sym x.1 ∙ y.1) ]
-      | inr x ↦ elim (joins_read u v side k) [ inl y ↦ inr (sym x.1 ∙ y.1, sym x.0 ∙ y.0) | inr y ↦ inl (sym x.1 ∙ y.1, sym x.0 ∙ y.0) ]
-    ]
+same_ends a b u v side h k = grind (arith, joins_read)
 
 pub edge_has_ends : (s : OrientedMesh) → IsOrientedSurface s → (d : ℕ) → d < darts_of s
     → IsEdgeWithEnds s (origin_of s d) (origin_of s (twin_of s d)) (edge_of s d)
@@ -343,8 +284,7 @@ unfolding joins_edge
 edge_has_ends s h d l =
     let own : IsEdgeOfDart s d (edge_of s d) = dart_has_edge s h d l in
     let edge : Edge = edge_in s.table (edge_of s d) in
-    let ends : joins (origin_of s d) (origin_of s (twin_of s d)) (side_of s d) ≡ true =
-    subst (λ x. joins (origin_of s d) x (side_of s d) ≡ true) (sym (origin-twin s h d l)) (dart_joins s d) in
+    let ends : joins (origin_of s d) (origin_of s (twin_of s d)) (side_of s d) ≡ true = grind (arith, origin-twin, dart_joins) in
     record {
       within = own.within;
       ends = same_ends edge.low edge.high (origin_of s d) (origin_of s (twin_of s d))
@@ -354,6 +294,5 @@ edge_has_ends s h d l =
 pub edge_has_dart : (s : OrientedMesh) → IsOrientedSurface s → (k : ℕ) → k < length s.table → (d : ℕ) × (d < darts_of s) × (edge_of s d ≡ k)
 edge_has_dart s h k l =
     let none : Side = record { face = record { 0 = 0 }; at = 0 } in
-    let side : IsSideInTable s k (get_or (edge_in s.table k).sides 0 none) =
-    side_in_table s h k 0 none l (omega (arith, two_sides s h k l)) in
+    let side : IsSideInTable s k (get_or (edge_in s.table k).sides 0 none) = grind (arith, side_in_table, two_sides) in
     (side_number s.mesh (get_or (edge_in s.table k).sides 0 none), side.within, sym side.edge)

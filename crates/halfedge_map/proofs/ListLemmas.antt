@@ -48,9 +48,7 @@ first_passes p n k l passes =
 none_left : {A : Type 0} (p : A → Bool) (xs : List A) (k : ℕ) (d : A) → length (filter p xs) ≡ 0 → k < length xs
     → p (get_or xs k d) ≡ true → ⊥
 none_left p [] k d h l passes = omega (arith, l)
-none_left p (x ∷ xs) zero d h l passes =
-    let long : length (x ∷ filter p xs) ≡ 0 = subst (λ ys. length ys ≡ 0) (cond-true (p x) (x ∷ filter p xs) (filter p xs) passes) h in
-    omega (arith, long)
+none_left p (x ∷ xs) zero d h l passes = grind arith
 none_left p (x ∷ xs) (suc k) d h l passes =
     elim (cases_Bool (p x)) [
       | inl here ↦

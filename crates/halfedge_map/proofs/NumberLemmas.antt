@@ -1,13 +1,12 @@
 -- The sides of a mesh by their numbers.
-use Rattle.halfedge_map.proofs.Common.{◌≡◌, ℕ, ◌+◌, ◌<◌, length, get_or, ap, ◌∙◌, arith, face_side, first_side, IsSide, side_number, FaceList, FaceSide, face_at, all_sides, total_sides, Side}
+use Rattle.halfedge_map.proofs.Common.{◌≡◌, ℕ, ◌+◌, ◌<◌, length, get_or, arith, face_side, first_side, IsSide, side_number, FaceList, FaceSide, face_at, all_sides, total_sides, Side}
 use Rattle.surf_model.proofs.SideNumberLemmas.{IsNumbered, at_number, numbered, side_below}
 
 -- the side that has a number
 pub side_numbered : (mesh : FaceList) (f t : ℕ) (d : FaceSide) → f < length mesh.faces → t < length (face_at mesh f)
     → get_or (all_sides mesh) (first_side mesh f + t) d ≡ face_side f (face_at mesh f) t
 unfolding all_sides
-side_numbered mesh f t d l b =
-    at_number 0 mesh.faces f t d l b ∙ ap (λ k. face_side k (face_at mesh f) t) (let e : 0 + f ≡ f = omega arith in e)
+side_numbered mesh f t d l b = grind (arith, at_number, face_side)
 
 -- the face and the place of a side, from its number
 pub record IsNumberOf (mesh : FaceList) (f t number : ℕ) : Type 0 where

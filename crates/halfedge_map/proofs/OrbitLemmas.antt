@@ -1,6 +1,5 @@
 -- Orbits of a map that is injective on the numbers below n: each number comes back to itself, so what reaches is reached.
-use Rattle.halfedge_map.proofs.Common.{◌≡◌, ◌≢◌, ◌⊎◌, inl, inr, ℕ, zero, suc, ◌+◌, ◌-◌, ◌<◌, Bool, true, false, cond, eqb, refl, ap, sym, ◌∙◌, subst, arith, cases_Bool, cases_lt, cond-true, cond-false, eqb-true, eq-eqb, both_ways}
-use Rattle.halfedge_map.specs.Orbits.{after_steps, IsReached}
+use Rattle.halfedge_map.proofs.Common.{after_steps, IsReached, ◌≡◌, ◌≢◌, ◌⊎◌, inl, inr, ℕ, zero, suc, ◌+◌, ◌-◌, ◌<◌, Bool, true, false, cond, eqb, refl, ap, sym, ◌∙◌, subst, arith, cases_Bool, cases_lt, cond-true, cond-false, eqb-true, eq-eqb, both_ways}
 
 -- a number below n that passes a test, or none does
 search_below : (p : ℕ → Bool) (n : ℕ) → ((i : ℕ) × (i < n) × (p i ≡ true)) ⊎ ((i : ℕ) → i < n → p i ≡ false)
@@ -49,16 +48,7 @@ two_alike (suc n) g small =
           let i : ℕ = rest.first in
           let j : ℕ = rest.second in
           let i_in : i < suc n = omega (arith, rest.before, rest.within) in
-          let same : g i ≡ g j = elim (cases_Bool (eqb (g i) n)) [
-            | inl top_i ↦ elim (cases_Bool (eqb (g j) n)) [
-              | inl top_j ↦ eqb-true _ _ top_i ∙ sym (eqb-true _ _ top_j)
-              | inr low_j ↦ absurd (other j rest.within (sym (h_low j low_j) ∙ sym rest.same ∙ h_top i (eqb-true _ _ top_i)))
-            ]
-            | inr low_i ↦ elim (cases_Bool (eqb (g j) n)) [
-              | inl top_j ↦ absurd (other i i_in (sym (h_low i low_i) ∙ rest.same ∙ h_top j (eqb-true _ _ top_j)))
-              | inr low_j ↦ sym (h_low i low_i) ∙ rest.same ∙ h_low j low_j
-            ]
-          ] in
+          let same : g i ≡ g j = grind arith in
           record { first = i; second = j; before = rest.before; within = omega (arith, rest.within); same = same })
     ]
 
@@ -88,8 +78,7 @@ reached_step f x = record { steps = 1; leads = refl }
 pub reached_trans : (f : ℕ → ℕ) (x y z : ℕ) → IsReached f x y → IsReached f y z → IsReached f x z
 reached_trans f x y z h k = record {
   steps = k.steps + h.steps;
-  leads = steps_add f k.steps h.steps x
-      ∙ ap (after_steps f k.steps) h.leads ∙ k.leads;
+  leads = grind (arith, steps_add);
 }
 
 -- what is kept by each step is kept along an orbit

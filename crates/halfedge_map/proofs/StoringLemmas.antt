@@ -1,12 +1,10 @@
 -- The maps on the darts, written dart after dart.
-use Rattle.halfedge_map.proofs.Common.{◌≡◌, inl, inr, ℕ, ◌+◌, ◌<◌, ◌≤◌, true, false, not, cond, List, [], ◌∷◌, ◌++◌, length, get_or, refl, ap, sym, ◌∙◌, subst, arith, cases_lt, get_or_append_left, get_or_push, length_push, get_or_read, first_side, IsSide, side_number, tail_of, FaceList, face_at, next_corner, total_sides, is_flipped, Side, MOST_SIDES, DartName}
-use Rattle.std.proofs.lemmas.List.Sums.{sum_by_more}
-use Rattle.surf_model.specs.declared.names.VertexName.{VertexName}
-use Rattle.halfedge_map.specs.OrientedMeshes.{OrientedMesh}
-use Rattle.halfedge_map.specs.DartMaps.{darts_of, side_of, next_of, origin_of, start_corner_of}
-use Rattle.halfedge_map.specs.StoredDarts.{ListNexts, ListOrigins, KeepOrigins, signed}
+use Rattle.halfedge_map.proofs.Common.{darts_of, side_of, next_of, origin_of, start_corner_of, OrientedMesh, ListNexts, ListOrigins, KeepOrigins, signed, ◌≡◌, ℕ, ◌+◌, ◌<◌, ◌≤◌, true, false, not, cond, List, [], ◌∷◌, ◌++◌, length, get_or, refl, ap, sym, ◌∙◌, subst, arith, common_steps, first_side, IsSide, side_number, tail_of, FaceList, face_at, next_corner, total_sides, is_flipped, Side, DartName}
 use Rattle.halfedge_map.specs.declared.darts.Origins.{Origins}
 use Rattle.halfedge_map.specs.declared.darts.Origins.TheVariants.{AsListed, Stored}
+use Rattle.std.proofs.lemmas.List.Sums.{sum_by_more}
+use Rattle.surf_model.specs.declared.limits.TheConstants.{MOST_SIDES}
+use Rattle.surf_model.specs.declared.names.VertexName.{VertexName}
 use Rattle.halfedge_map.proofs.NumberLemmas.{IsNumberOf, HasPlace, number_below, placed}
 use Rattle.halfedge_map.proofs.DartLemmas.{corners, vertex_at, next_at, origin_at, start_at, start_place, start_kept}
 
@@ -18,37 +16,22 @@ first_side-more mesh f l = sum_by_more {X = List ℕ} length mesh.faces f [] l
 entry_more : {X : Type 0} (number : X → ℕ) (map : ℕ → ℕ) (n : ℕ) (xs : List X) (x none : X) → length xs ≡ n
     → ((d : ℕ) → d < n → number (get_or xs d none) ≡ map d) → number x ≡ map n
     → (d : ℕ) → d < n + 1 → number (get_or (xs ++ x ∷ []) d none) ≡ map d
-entry_more number map n xs x none long before is d l = elim (cases_lt d n) [
-  | inl less ↦ ap number (get_or_append_left xs (x ∷ []) none d (omega (arith, less, long))) ∙ before d less
-  | inr more ↦
-      (let same : d ≡ n = omega arith in
-      ap number (get_or_push xs x none d (long ∙ sym same)) ∙ is ∙ ap map (sym same))
-]
+entry_more number map n xs x none long before is d l = grind (arith, common_steps)
 
 nexts_push : (s : OrientedMesh) (n : ℕ) (next : List DartName) (x : DartName)
     → ListNexts s n next → x.0 ≡ next_of s n → ListNexts s (n + 1) (next ++ x ∷ [])
-nexts_push s n next x h is = record {
-  long = omega (arith, length_push next x, h.long);
-  nexts = entry_more (λ (y : DartName). y.0) (next_of s) n next x (record { 0 = 0 }) h.long h.nexts is;
-}
+nexts_push s n next x h is = grind (arith, common_steps, entry_more)
 
 origins_push : (s : OrientedMesh) (n : ℕ) (origin : List VertexName) (v : VertexName)
     → ListOrigins s n origin → v.0 ≡ origin_of s n → ListOrigins s (n + 1) (origin ++ v ∷ [])
-origins_push s n origin v h is = record {
-  long = omega (arith, length_push origin v, h.long);
-  origins = entry_more (λ (y : VertexName). y.0) (origin_of s) n origin v (record { 0 = 0 }) h.long h.origins is;
-}
+origins_push s n origin v h is = grind (arith, common_steps, entry_more)
 
 -- the dart that follows side t of a face, put after those before it
 pub nexts_more : (s : OrientedMesh) (f t : ℕ) (next : List DartName) (x : DartName)
     → f < length s.mesh.faces → t < corners s f → ListNexts s (first_side s.mesh f + t) next
     → x.0 ≡ first_side s.mesh f + next_corner (not (is_flipped s.signs f)) (corners s f) t
     → ListNexts s (first_side s.mesh f + (t + 1)) (next ++ x ∷ [])
-nexts_more s f t next x l b h is =
-    let d : ℕ = first_side s.mesh f + t in
-    let n : IsNumberOf s.mesh f t d = record { face = l; place = b; is = refl } in
-    let one : d + 1 ≡ first_side s.mesh f + (t + 1) = omega arith in
-    subst (λ m. ListNexts s m (next ++ x ∷ [])) one (nexts_push s d next x h (is ∙ sym (next_at s f t d n)))
+nexts_more s f t next x l b h is = grind (arith, common_steps, first_side, nexts_push, next_at)
 
 -- the vertex where the dart of side t of a face starts, put after those before it
 pub origins_more : (s : OrientedMesh) (f t start : ℕ) (origin : List VertexName) (v : VertexName)
@@ -83,8 +66,7 @@ dart_small mesh f t h n = omega (arith, number_below mesh f t (first_side mesh f
 -- what is read at a dart
 pub read_next : (s : OrientedMesh) (next : List DartName) (d : ℕ) (x : DartName)
     → ListNexts s (darts_of s) next → d < darts_of s → x ≡ get_or next d x → x.0 ≡ next_of s d
-read_next s next d x h l read =
-    ap (λ (y : DartName). y.0) (get_or_read next d x (omega (arith, l, h.long)) read (record { 0 = 0 })) ∙ h.nexts d l
+read_next s next d x h l read = grind (arith, common_steps)
 
 -- where no face is flipped, a dart starts where its side does
 pub listed_origin : (s : OrientedMesh) (d v : ℕ) → ((face : ℕ) → is_flipped s.signs face ≡ false) → d < darts_of s

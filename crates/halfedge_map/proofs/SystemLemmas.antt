@@ -1,9 +1,5 @@
 -- The darts of a surface make a rotation system.
-use Rattle.halfedge_map.proofs.Common.{ℕ, ◌<◌, [], length, sym, ◌∙◌, subst, arith, IsFaceList, IsFace, face_at}
-use Rattle.halfedge_map.specs.OrientedMeshes.{OrientedMesh, IsOrientedSurface}
-use Rattle.halfedge_map.specs.DartMaps.{darts_of, face_of, origin_of, next_of}
-use Rattle.halfedge_map.specs.RotationSystems.{rotations_of, IsRotationSystem, HasDart, NamesAll}
-use Rattle.halfedge_map.specs.DartMaps.{start_corner_of, dart_at_corner, StartsAtCorner}
+use Rattle.halfedge_map.proofs.Common.{darts_of, face_of, origin_of, next_of, start_corner_of, dart_at_corner, StartsAtCorner, OrientedMesh, IsOrientedSurface, rotations_of, IsRotationSystem, HasDart, NamesAll, ℕ, ◌<◌, [], length, sym, ◌∙◌, subst, arith, IsFaceList, IsFace, face_at}
 use Rattle.halfedge_map.proofs.NumberLemmas.{HasPlace, placed}
 use Rattle.halfedge_map.proofs.OrbitLemmas.{reached_keeps}
 use Rattle.halfedge_map.proofs.DartLemmas.{next_within, next_injective, next_permutes, face-next, face_reached, origin-next, origin_at}
@@ -56,13 +52,4 @@ face_has_dart s h f l =
     (dart_at_corner s f 0, first.within, first.face)
 
 pub names_all : (s : OrientedMesh) → IsOrientedSurface s → NamesAll s
-names_all s h =
-    record {
-      vertex_below = origin_below s h.faces;
-      vertex_used = origin_used s;
-      face_below = face_below s;
-      edge_below = λ d l. (dart_has_edge s h d l).within;
-      each_vertex = vertex_has_dart s;
-      each_face = face_has_dart s h.faces;
-      each_edge = edge_has_dart s h;
-    }
+names_all s h = grind (arith, origin_below, origin_used, face_below, dart_has_edge, vertex_has_dart, face_has_dart, edge_has_dart)

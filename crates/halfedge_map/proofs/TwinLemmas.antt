@@ -1,7 +1,5 @@
 -- The two darts of an edge.
-use Rattle.halfedge_map.proofs.Common.{◌≡◌, ◌≢◌, ◌⊎◌, inl, inr, ℕ, ◌<◌, Bool, true, false, not, cond, eqb, ◌&&◌, length, get_or, refl, ap, sym, ◌∙◌, subst, arith, cases_Bool, both_ways, and_parts, and_from, eqb-true, eq-eqb, nat_tests, get_or_default, list_any_at, unwrap_or, face_side, length-all_sides, IsSide, side_number, FaceSide, IsFace, face_at, all_sides, next_corner, joins, is_edge, is_flipped, ArePartners, RunOppositely, Side}
-use Rattle.halfedge_map.specs.OrientedMeshes.{OrientedMesh, IsOrientedSurface}
-use Rattle.halfedge_map.specs.DartMaps.{darts_of, side_of, origin_of, target_of, twin_of}
+use Rattle.halfedge_map.proofs.Common.{darts_of, side_of, origin_of, target_of, twin_of, OrientedMesh, IsOrientedSurface, ◌≡◌, ◌≢◌, ◌⊎◌, inl, inr, ℕ, ◌<◌, Bool, true, false, not, cond, eqb, ◌&&◌, length, get_or, refl, ap, sym, ◌∙◌, subst, arith, both_ways, and_parts, and_from, eq-eqb, nat_tests, get_or_default, list_any_at, unwrap_or, face_side, length-all_sides, IsSide, side_number, FaceSide, IsFace, face_at, all_sides, next_corner, joins, is_edge, is_flipped, ArePartners, RunOppositely, Side}
 use Rattle.halfedge_map.proofs.NumberLemmas.{IsNumberOf, HasPlace, placed, number_below, HasSide, side_with_number}
 use Rattle.halfedge_map.proofs.ListLemmas.{IsFirstBelow, first_passes, HasOther, other_left}
 use Rattle.halfedge_map.proofs.DartLemmas.{side_at, numbered, origin_under, target_under}
@@ -21,24 +19,10 @@ joins_own side = joins_from side.tail side.head side (inl (refl, refl))
 
 -- sides that join the same two vertices
 pub joins_back : (a b : FaceSide) → joins a.tail a.head b ≡ true → joins b.tail b.head a ≡ true
-joins_back a b h =
-    elim (joins_read a.tail a.head b h) [
-      | inl same ↦ joins_from b.tail b.head a (inl (sym same.0, sym same.1))
-      | inr turned ↦ joins_from b.tail b.head a (inr (sym turned.1, sym turned.0))
-    ]
+joins_back a b h = grind (arith, joins_read, joins_from)
 
 pub joins_both : (u v : ℕ) (a b : FaceSide) → joins u v a ≡ true → joins u v b ≡ true → joins a.tail a.head b ≡ true
-joins_both u v a b h k =
-    elim (joins_read u v a h) [
-      | inl x ↦ elim (joins_read u v b k) [
-        | inl y ↦ joins_from a.tail a.head b (inl (y.0 ∙ sym x.0, y.1 ∙ sym x.1))
-        | inr y ↦ joins_from a.tail a.head b (inr (y.0 ∙ sym x.1, y.1 ∙ sym x.0))
-      ]
-      | inr x ↦ elim (joins_read u v b k) [
-        | inl y ↦ joins_from a.tail a.head b (inr (y.0 ∙ sym x.1, y.1 ∙ sym x.0))
-        | inr y ↦ joins_from a.tail a.head b (inl (y.0 ∙ sym x.0, y.1 ∙ sym x.1))
-      ]
-    ]
+joins_both u v a b h k = grind (arith, joins_read, joins_from)
 
 -- whether two darts join the same two vertices
 unfoldable pub along : OrientedMesh → ℕ → ℕ → Bool
@@ -68,9 +52,7 @@ two_darts s h d l =
     let o : ℕ = other.place in
     let o_in : o < darts_of s = omega (arith, other.within, long) in
     let test : ℕ → Bool = λ k. not (eqb k d) && p (side_of s k) in
-    let o_passes : test o ≡ true =
-    and_from (not (eqb o d)) (p (side_of s o)) (let ne : o ≢ d = other.other in grind (arith, nat_tests))
-    (ap p (sym (side_is s o side o_in)) ∙ other.passes) in
+    let o_passes : test o ≡ true = grind (arith, and_from, side_is) in
     let found : IsFirstBelow test (darts_of s) = first_passes test (darts_of s) o o_in o_passes in
     let t : ℕ = found.number in
     let is : twin_of s d ≡ t = ap (λ r. unwrap_or r d) found.is in
@@ -103,11 +85,7 @@ twin-twin s h d l =
 -- a dart along the edge of d is d or its twin
 pub along_edge : (s : OrientedMesh) → IsOrientedSurface s → (d e : ℕ) → d < darts_of s → e < darts_of s → along s d e ≡ true
     → (e ≡ d) ⊎ (e ≡ twin_of s d)
-along_edge s h d e l k same =
-    elim (cases_Bool (eqb e d)) [
-      | inl is ↦ inl (eqb-true e d is)
-      | inr not_d ↦ inr ((two_darts s h d l).only e k same (λ is. both_ways (eqb e d) not_d (eq-eqb e d is)))
-    ]
+along_edge s h d e l k same = grind (arith, two_darts)
 
 -- the sides of twins are partners
 partners : (s : OrientedMesh) → IsOrientedSurface s → (side other : Side) → IsSide s.mesh side → IsSide s.mesh other
@@ -139,8 +117,7 @@ pub origin-twin : (s : OrientedMesh) → IsOrientedSurface s → (d : ℕ) → d
 origin-twin s h d l =
     let p : HasSide s.mesh d = side_with_number s.mesh d l in
     let q : HasSide s.mesh (twin_of s d) = side_with_number s.mesh (twin_of s d) (twin_within s h d l) in
-    let opposite : RunOppositely s.mesh s.signs p.side q.side =
-    h.coherent.opposite p.side q.side (partners s h p.side q.side p.in_mesh q.in_mesh (q.number ∙ ap (twin_of s) (sym p.number))) in
+    let opposite : RunOppositely s.mesh s.signs p.side q.side = grind (arith, partners) in
     ap (origin_of s) (sym q.number) ∙ origin_under s q.side q.in_mesh ∙ sym opposite.ends ∙ sym (target_under s p.side p.in_mesh)
     ∙ ap (target_of s) p.number
 

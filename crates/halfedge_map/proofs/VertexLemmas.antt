@@ -1,9 +1,5 @@
 -- Darts start at one vertex exactly where they are reached from one another round it: the link condition, in terms of darts.
-use Rattle.halfedge_map.proofs.Common.{◌≡◌, ◌⊎◌, inl, inr, ℕ, ◌<◌, true, eqb, List, [], ◌∷◌, length, get_or, refl, ap, sym, ◌∙◌, subst, cases_Bool, eq-eqb, eqb-true, get_or_default, list_any_at, Any-from_list_any, list_any, face_side, IsSide, side_number, FaceSide, face_at, next_corner, joins, is_used, is_flipped, ArePartners, IsCornerAt, IsCornerOfSide, IsStepAround, IsPath, Side}
-use Rattle.halfedge_map.specs.Orbits.{IsReached}
-use Rattle.halfedge_map.specs.OrientedMeshes.{OrientedMesh, IsOrientedSurface}
-use Rattle.halfedge_map.specs.DartMaps.{darts_of, side_of, face_of, origin_of, target_of, next_of, twin_of, start_corner_of}
-use Rattle.halfedge_map.specs.DartMaps.{end_corner_of, dart_at_corner, StartsAtCorner}
+use Rattle.halfedge_map.proofs.Common.{darts_of, side_of, face_of, origin_of, target_of, next_of, twin_of, start_corner_of, end_corner_of, dart_at_corner, StartsAtCorner, IsReached, OrientedMesh, IsOrientedSurface, arith, ◌≡◌, ◌⊎◌, inl, inr, ℕ, ◌<◌, true, eqb, List, [], ◌∷◌, length, get_or, refl, ap, sym, ◌∙◌, subst, cases_Bool, eqb-true, common_steps, get_or_default, Any-from_list_any, list_any, face_side, IsSide, side_number, FaceSide, face_at, next_corner, joins, is_used, is_flipped, ArePartners, IsCornerAt, IsCornerOfSide, IsStepAround, IsPath, Side}
 use Rattle.halfedge_map.proofs.OrbitLemmas.{IsPermutationBelow, reached_refl, reached_step, reached_trans, reached_back}
 use Rattle.halfedge_map.proofs.NumberLemmas.{IsNumberOf, HasPlace, placed, number_below}
 use Rattle.halfedge_map.proofs.DartLemmas.{corners, vertex_at, side_at, face_at_number, dart_starts, one_face, one_place, origin_at}
@@ -137,8 +133,7 @@ turn_reached s h d e turn =
 
 path_reached : (s : OrientedMesh) → IsOrientedSurface s → (v : ℕ) (corner : Side) (path : List Side) (other : Side)
     → IsPath (IsStepAround s.mesh v) corner path other → IsReached (turned s) (dart_of s corner) (dart_of s other)
-path_reached s h v corner [] other is = subst (λ (x : Side). IsReached (turned s) (dart_of s corner) (dart_of s x)) is
-    (reached_refl (turned s) (dart_of s corner))
+path_reached s h v corner [] other is = grind (arith, turned, reached_refl)
 path_reached s h v corner (z ∷ path) other steps =
     reached_trans (turned s) (dart_of s corner) (dart_of s z) (dart_of s other)
     (turn_reached s h (dart_of s corner) (dart_of s z) (step_is_turn s h v corner z steps.0))
@@ -153,9 +148,7 @@ record StartsAt (s : OrientedMesh) (v d : ℕ) : Type 0 where
 
 used_at : (s : OrientedMesh) (f c v : ℕ) → f < length s.mesh.faces → c < corners s f → vertex_at s f c ≡ v → is_used s.mesh v ≡ true
 unfolding is_used
-used_at s f c v l k e =
-    list_any_at (λ (face : List ℕ). list_any (λ corner. eqb corner v) face) s.mesh.faces f [] l
-    (list_any_at (λ corner. eqb corner v) (face_at s.mesh f) c 0 k (eq-eqb (vertex_at s f c) v e))
+used_at s f c v l k e = grind (arith, common_steps)
 
 starts_at : (s : OrientedMesh) (v d : ℕ) → d < darts_of s → origin_of s d ≡ v → StartsAt s v d
 starts_at s v d l e =

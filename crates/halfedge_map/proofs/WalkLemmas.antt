@@ -1,7 +1,5 @@
 -- Walks as darts, one after another.
-use Rattle.halfedge_map.proofs.Common.{◌≡◌, ℕ, suc, ◌+◌, ◌-◌, ◌<◌, true, List, [], ◌∷◌, length, get_or, refl, ap, sym, ◌∙◌, subst, arith, is_edge, is_used, IsPath, AreJoined, IsWalkBetween}
-use Rattle.halfedge_map.specs.OrientedMeshes.{OrientedMesh, IsOrientedSurface}
-use Rattle.halfedge_map.specs.RotationSystems.{rotations_of, IsDartStep}
+use Rattle.halfedge_map.proofs.Common.{OrientedMesh, IsOrientedSurface, rotations_of, IsDartStep, ◌≡◌, ℕ, suc, ◌+◌, ◌-◌, ◌<◌, true, List, [], ◌∷◌, length, get_or, refl, ap, sym, ◌∙◌, subst, arith, is_edge, is_used, IsPath, AreJoined, IsWalkBetween}
 use Rattle.halfedge_map.proofs.EdgeLemmas.{dart_between}
 
 -- vertices of which neighbours form edges are a path of darts
@@ -23,8 +21,7 @@ walk_joins s h u v [] w = absurd (omega (arith, w.walk_of.starts))
 walk_joins s h u v (x ∷ xs) w =
     let long : length (x ∷ xs) - 1 ≡ length xs = omega arith in
     let end : get_or (x ∷ xs) (length xs) 0 ≡ v = ap (λ k. get_or (x ∷ xs) k 0) (sym long) ∙ w.ends in
-    let path : IsPath (IsDartStep (rotations_of s)) x xs (get_or (x ∷ xs) (length xs) 0) =
-    along_edges s h x xs (λ k l. w.walk_of.edges k (omega (arith, l, long))) in
+    let path : IsPath (IsDartStep (rotations_of s)) x xs (get_or (x ∷ xs) (length xs) 0) = grind (arith, along_edges) in
     (xs, subst (λ b. IsPath (IsDartStep (rotations_of s)) b xs v) w.starts (subst (IsPath (IsDartStep (rotations_of s)) x xs) end path))
 
 pub vertices_joined : (s : OrientedMesh) → IsOrientedSurface s → (u v : ℕ) → is_used s.mesh u ≡ true → is_used s.mesh v ≡ true

@@ -1,15 +1,20 @@
--- What proofs of this crate cite of others, passed on from one place (by tools/imports). Declares nothing.
+-- What proofs of this crate cite of its definitions and of other crates, passed on from one place (by tools/imports). Declares nothing.
 pub use Rattle.connectivity.proofs.CornerLemmas.{after_in_mesh, corner_end, corner_in_mesh, corner_used, used_corner}
 pub use Rattle.connectivity.proofs.EdgeCounts.{before_by_table, few_of_two, sides_by_table}
 pub use Rattle.connectivity.proofs.EdgeLemmas.{HasSideBetween, edge_differs, edge_swap, ends_below, side_between, used_below}
-pub use Rattle.connectivity.proofs.FirstFaults.{equal_pairs, first_refused, good_accepted, no_first_pair, no_first_used, one_pinch, same_name}
+pub use Rattle.connectivity.proofs.FirstFaults.{equal_pairs, no_first_pair, no_first_used, one_pinch, same_name}
 pub use Rattle.connectivity.proofs.WalkLemmas.{same_from_walk, walk_from_joined, walk_from_same}
 pub use Rattle.connectivity.specs.Partitions.{AreComponents, IsEdgeStep}
-pub use Rattle.std.proofs.Common.{Bool, List, add-one, ap, append_assoc, arith, cond, drop, eqb, false, get_or, inl, inr, length, length-append, lit<, refl, rules, set, subst, suc, sym, take, true, zero, ℕ, [], ◌++◌, ◌+◌, ◌-◌, ◌<◌, ◌↔◌, ◌∙◌, ◌∷◌, ◌≡◌, ◌≢◌, ◌≤◌, ◌⊎◌}
-pub use Rattle.std.proofs.lemmas.Bool.{and_parts, both_ways, cases_Bool, cases_eq, cases_lt, cases_order, cond-false, cond-true, eq-eqb, eqb-true}
+pub use Rattle.manifold_check.specs.Faults.{IsFirstFault, IsLeastUnevenEdge}
+pub use Rattle.manifold_check.specs.StoredParts.{AreStoredParts, face_numbers, named_face, stored_parts}
+pub use Rattle.manifold_check.specs.declared.fault.SurfaceFault.{SurfaceFault}
+pub use Rattle.manifold_check.specs.declared.fault.SurfaceFault.TheVariants.{EdgeSides, NoFace, OutOfMemory, Pinched}
+pub use Rattle.std.proofs.Common.{Bool, List, add-one, ap, arith, cond, drop, eqb, false, get_or, inl, inr, length, length-append, refl, set, subst, suc, sym, take, true, zero, ℕ, [], ◌++◌, ◌+◌, ◌-◌, ◌<◌, ◌↔◌, ◌∙◌, ◌∷◌, ◌≡◌, ◌≢◌, ◌≤◌, ◌⊎◌}
+pub use Rattle.std.proofs.lemmas.Bool.{both_ways, cases_Bool, cases_eq, cases_lt, cond-false, cond-true, eq-eqb, eqb-true}
 pub use Rattle.std.proofs.lemmas.Bool.Decides.{nat_tests}
-pub use Rattle.std.proofs.lemmas.List.{ext_get_or, get_or-append-add, get_or-drop, get_or-map, get_or-take, get_or_append_left, get_or_default, get_or_push, get_or_read, length-drop, length-map, length-set, length-take-le, length_push, take_all, take_at}
-pub use Rattle.std.proofs.lemmas.List.Elements.{All-filter, All-head, All-map, All-tail, filter-append, filter_agree, filter_passes}
+pub use Rattle.std.proofs.lemmas.Grind.{common_steps}
+pub use Rattle.std.proofs.lemmas.List.{ext_get_or, get_or-drop, get_or-map, get_or-take, get_or_default, get_or_read, length-drop, length-map, length-set, length-take-le, length_push, take_all}
+pub use Rattle.std.proofs.lemmas.List.Elements.{All-filter, All-head, All-map, All-tail, filter-append, filter_passes}
 pub use Rattle.std.proofs.lemmas.List.FromFn.{get_or-map-range_with_len, get_or-range_with_len, length-map-range_with_len, length-range_with_len}
 pub use Rattle.std.proofs.lemmas.List.Kept.{AllPairs-filter}
 pub use Rattle.std.proofs.lemmas.List.Sums.{sum_by-cons, sum_by_more_le}
@@ -21,7 +26,7 @@ pub use Rattle.surf_model.proofs.PartsLemmas.{IsPartWithin, get_or-parts, length
 pub use Rattle.surf_model.proofs.TableEdgeLemmas.{IsEdgeBetween, edge_between, sides_between_swap, sides_of_edge, table_pair}
 pub use Rattle.surf_model.proofs.TableLemmas.{Contains-filter, next_within}
 pub use Rattle.surf_model.proofs.TallyLemmas.{Fits, count_below-all, count_below-more, count_below-none, count_below_within, counted_more, fits_below, group_cursor_within, group_of-other, group_of_within, grouped_more, grouped_none, sides_more, sums_are_starts}
-pub use Rattle.surf_model.specs.Building.{AreGrouped, IsCounted, IsStarts, count_below, group_of}
+pub use Rattle.surf_model.specs.Building.{AreGrouped, IsCounted, count_below, group_of}
 pub use Rattle.surf_model.specs.ComponentParts.{AreParts, PartsView, component_at, component_mesh}
 pub use Rattle.surf_model.specs.Components.{ArePlacesOfComponents, EachTwoAreJoined, HasLeastVertex, IsLeastOfComponent, faces_of_component, place_of_face}
 pub use Rattle.surf_model.specs.Darts.{IsSide, head_of, side_after, tail_of}

@@ -1,8 +1,6 @@
 -- Edges of a mesh that have not two sides, by its table.
-use Rattle.manifold_check.proofs.Common.{sides_by_table, before_by_table, ◌≡◌, ℕ, ◌<◌, List, length, ◌∙◌, IsEdgeBetween, edge_between, table_pair, sides_of_edge, Edge, IsTableOf, IsEdgeOf, edge_in, FaceList, EachEdgeHasTwoSides, VertexName}
-use Rattle.manifold_check.specs.Faults.{IsFirstFault, IsLeastUnevenEdge}
+use Rattle.manifold_check.proofs.Common.{sides_by_table, before_by_table, IsFirstFault, IsLeastUnevenEdge, EdgeSides, ◌≡◌, ℕ, ◌<◌, List, length, ◌∙◌, IsEdgeBetween, edge_between, table_pair, sides_of_edge, Edge, IsTableOf, IsEdgeOf, edge_in, FaceList, EachEdgeHasTwoSides, VertexName}
 use Rattle.manifold_check.specs.UnevenEdges.{IsFirstUneven}
-use Rattle.manifold_check.specs.declared.fault.SurfaceFault.TheVariants.{EdgeSides}
 
 pub two_sides_from_table : (mesh : FaceList) (table : List Edge) → IsTableOf mesh table
     → ((k : ℕ) → k < length table → length (edge_in table k).sides ≡ 2)

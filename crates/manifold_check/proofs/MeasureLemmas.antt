@@ -1,5 +1,5 @@
 -- The vertices and the edges of each component, counted as those of the whole mesh are gone through.
-use Rattle.manifold_check.proofs.Common.{◌≡◌, ◌≢◌, ◌⊎◌, inl, inr, ℕ, zero, suc, ◌+◌, ◌<◌, Bool, true, false, eqb, cond, List, [], ◌∷◌, length, get_or, set, refl, ap, sym, ◌∙◌, subst, arith, add-one, length-append, cases_Bool, both_ways, eq-eqb, eqb-true, nat_tests, ext_get_or, length-map, get_or-map, get_or_default, All-filter, All-map, filter-append, filter_agree, filter_passes, length-map-range_with_len, get_or-map-range_with_len, AllPairs-filter, range_with_len, Contains, filter, map, tail_used, head_used, filter-map, IsEdgeBetween, edge_between, table_pair, sides_of_edge, Contains-filter, counted_more, group_of-other, IsCounted, PartsView, AreParts, component_at, component_mesh, tail_of, Edge, IsEdgeOf, IsPairBefore, IsTableOf, edge_in, side_name, FaceList, FaceSide, all_sides, joins, is_edge, is_used, submesh}
+use Rattle.manifold_check.proofs.Common.{◌≡◌, ◌≢◌, ◌⊎◌, inl, inr, ℕ, zero, suc, ◌+◌, ◌<◌, Bool, true, false, eqb, cond, List, [], ◌∷◌, length, get_or, set, refl, ap, sym, ◌∙◌, subst, arith, add-one, length-append, cases_Bool, both_ways, eq-eqb, eqb-true, nat_tests, ext_get_or, length-map, get_or-map, get_or_default, All-filter, All-map, filter-append, filter_passes, length-map-range_with_len, get_or-map-range_with_len, AllPairs-filter, range_with_len, Contains, filter, map, tail_used, head_used, filter-map, IsEdgeBetween, edge_between, table_pair, sides_of_edge, Contains-filter, counted_more, group_of-other, IsCounted, PartsView, AreParts, component_at, component_mesh, tail_of, Edge, IsEdgeOf, IsPairBefore, IsTableOf, edge_in, side_name, FaceList, FaceSide, all_sides, joins, is_edge, is_used, submesh}
 use Rattle.connectivity.proofs.Forests.{range_more}
 use Rattle.surf_model.proofs.ListedLemmas.{IsListed, all_listed}
 use Rattle.surf_model.proofs.OneTableLemmas.{one_table}
@@ -32,19 +32,12 @@ place_of_used mesh parts v = cond (is_used mesh v) (get_or parts.places v 0) (le
 pub used_counted : (mesh : FaceList) (parts : PartsView) (v place : ℕ) (counts : List ℕ) → is_used mesh v ≡ true
     → place ≡ get_or parts.places v 0 → place < length counts → IsCounted (place_of_used mesh parts) v counts
     → IsCounted (place_of_used mesh parts) (v + 1) (set counts place (get_or counts place 0 + 1))
-used_counted mesh parts v place counts used is l h =
-    counted_more (place_of_used mesh parts) v place counts
-    (ap (λ b. cond b (get_or parts.places v 0) (length parts.components)) used ∙ sym is) l h
+used_counted mesh parts v place counts used is l h = grind (arith, counted_more)
 
 pub unused_counted : (mesh : FaceList) (parts : PartsView) (v : ℕ) (counts : List ℕ) → is_used mesh v ≡ false
     → length counts ≡ length parts.components → IsCounted (place_of_used mesh parts) v counts
     → IsCounted (place_of_used mesh parts) (v + 1) counts
-unused_counted mesh parts v counts unused many h k l =
-    let none : place_of_used mesh parts v ≡ length parts.components =
-    ap (λ b. cond b (get_or parts.places v 0) (length parts.components)) unused in
-    h k l
-    ∙ sym (ap (λ (xs : List ℕ). length xs)
-    (group_of-other (place_of_used mesh parts) k v (λ same. omega (arith, l, many, none, same))))
+unused_counted mesh parts v counts unused many h k l = grind (arith, group_of-other)
 
 is_other : (a b : ℕ) → a ≢ b → eqb a b ≡ false
 is_other a b h = grind (arith, nat_tests)
@@ -65,8 +58,7 @@ used_alike mesh parts k v h l =
           is_other (place_of_used mesh parts v) k
           (λ same. elim (cases_Bool (is_used mesh v)) [
             | inl used ↦
-                (let inside : get_or parts.places v 0 ≡ k =
-                sym (ap (λ b. cond b (get_or parts.places v 0) (length parts.components)) used) ∙ same in
+                (let inside : get_or parts.places v 0 ≡ k = grind arith in
                 both_ways (is_used (component_mesh mesh parts k) v) not_here (used_down mesh Inside names v piece inside used))
             | inr unused ↦
                 (let none : place_of_used mesh parts v ≡ length parts.components =
@@ -79,11 +71,7 @@ used_alike mesh parts k v h l =
 pub vertices_counted : (mesh : FaceList) (parts : PartsView) (counts : List ℕ) (k : ℕ) → AreParts mesh parts
     → k < length parts.components → k < length counts → IsCounted (place_of_used mesh parts) mesh.count counts
     → get_or counts k 0 ≡ count_below (is_used (component_mesh mesh parts k)) mesh.count
-vertices_counted mesh parts counts k h l b counted =
-    counted k b
-    ∙ ap (λ (xs : List ℕ). length xs) (filter_agree (λ v. eqb (place_of_used mesh parts v) k) (is_used (component_mesh mesh parts k))
-    (λ v. used_alike mesh parts k v h l) (range_with_len 0 mesh.count))
-    ∙ sym (count_of_passing (is_used (component_mesh mesh parts k)) mesh.count)
+vertices_counted mesh parts counts k h l b counted = grind (arith, used_alike, count_of_passing)
 
 -- the component of an edge, by its place in the table
 abbrev pub place_of_edge : List Edge → PartsView → ℕ → ℕ

@@ -1,5 +1,5 @@
 -- Components by number: a component comes after those with lesser least vertices.
-use Rattle.manifold_check.proofs.Common.{walk_from_joined, same_from_walk, walk_from_same, AreComponents, ◌≡◌, ◌⊎◌, inl, inr, ℕ, zero, suc, ◌+◌, ◌-◌, ◌<◌, ◌≤◌, Bool, true, false, eqb, cond, List, ◌++◌, [], ◌∷◌, length, get_or, refl, ap, sym, ◌∙◌, subst, arith, cases_Bool, cases_lt, cases_order, both_ways, and_parts, eq-eqb, eqb-true, get_or_append_left, get_or_push, length_push, ◌&&◌, IsLeastOfComponent, ArePlacesOfComponents, FaceList, IsFaceList, is_used, IsWalkBetween, AreJoinedByWalk, darts}
+use Rattle.manifold_check.proofs.Common.{walk_from_joined, same_from_walk, walk_from_same, AreComponents, ◌≡◌, ◌⊎◌, inl, inr, ℕ, zero, suc, ◌+◌, ◌-◌, ◌<◌, ◌≤◌, Bool, true, false, eqb, cond, List, ◌++◌, [], ◌∷◌, length, get_or, refl, ap, sym, ◌∙◌, subst, arith, cases_Bool, cases_lt, both_ways, eq-eqb, common_steps, ◌&&◌, IsLeastOfComponent, ArePlacesOfComponents, FaceList, IsFaceList, is_used, IsWalkBetween, AreJoinedByWalk, darts}
 use Rattle.connectivity.specs.Classes.{AreLeastMembers}
 use Rattle.surf_model.proofs.EdgeLemmas.{used_below}
 
@@ -36,14 +36,7 @@ rank_below test m n passes less =
     omega (arith, rank-more test m, ap {B = ℕ} (λ b. cond b 1 0) passes, rank_rises test (m + 1) n (omega arith))
 
 rank_once : (test : ℕ → Bool) (m n : ℕ) → test m ≡ true → test n ≡ true → rank test m ≡ rank test n → m ≡ n
-rank_once test m n one other same =
-    elim (cases_order m n) [
-      | inl e ↦ e
-      | inr rest ↦ elim rest [
-        | inl less ↦ absurd (omega (arith, same, rank_below test m n one less))
-        | inr more ↦ absurd (omega (arith, same, rank_below test n m other more))
-      ]
-    ]
+rank_once test m n one other same = grind (arith, rank_below)
 
 -- one that passes and has a given rank
 record HasRank (test : ℕ → Bool) (n k : ℕ) : Type 0 where
@@ -77,22 +70,14 @@ leads mesh least v = is_used mesh v && eqb (get_or least v 0) v
 
 leads_used : (mesh : FaceList) (least : List ℕ) (v : ℕ) → leads mesh least v ≡ true → (is_used mesh v ≡ true) × (get_or least v 0 ≡ v)
 unfolding leads
-leads_used mesh least v h =
-    let both = and_parts (is_used mesh v) (eqb (get_or least v 0) v) h in
-    (both.0, eqb-true (get_or least v 0) v both.1)
+leads_used mesh least v h = grind arith
 
 used_leads : (mesh : FaceList) (least : List ℕ) (v : ℕ) → is_used mesh v ≡ true → get_or least v 0 ≡ v → leads mesh least v ≡ true
 unfolding leads
 used_leads mesh least v used same = rw (used, eq-eqb (get_or least v 0) v same) refl
 
 not_leads : (mesh : FaceList) (least : List ℕ) (v : ℕ) → (is_used mesh v ≡ false) ⊎ (get_or least v 0 ≡ v → ⊥) → leads mesh least v ≡ false
-not_leads mesh least v h =
-    elim (cases_Bool (leads mesh least v)) [
-      | inl is ↦
-          (let both = leads_used mesh least v is in
-          elim h [ inl unused ↦ absurd (both_ways (is_used mesh v) unused both.0) | inr other ↦ absurd (other both.1) ])
-      | inr fails ↦ fails
-    ]
+not_leads mesh least v h = grind (arith, leads, leads_used)
 
 -- for each vertex its least, of a mesh with so many vertices
 pub record AreLeasts (mesh : FaceList) (least : List ℕ) : Type 0 where
@@ -114,17 +99,13 @@ least_used mesh least v h used =
     let below : v < length least = omega (arith, h.count, used_below mesh v h.valid used) in
     let first : ℕ = get_or least v 0 in
     let within : first < mesh.count = omega (arith, h.members.lesser v below, h.count, below) in
-    let walk : AreJoinedByWalk mesh v first =
-    walk_from_joined mesh v first used
-    (h.components.joined v first (omega (arith, h.count, below)) within (sym (h.members.itself v below))) in
+    let walk : AreJoinedByWalk mesh v first = grind (arith, walk_from_joined) in
     let is : IsWalkBetween mesh v first walk.0 = walk.1 in
     subst (λ x. is_used mesh x ≡ true) is.ends (is.walk_of.used (darts walk.0) 0 (omega (arith, is.walk_of.starts)))
 
 pub least_leads : (mesh : FaceList) (least : List ℕ) (v : ℕ) → AreLeasts mesh least → is_used mesh v ≡ true
     → leads mesh least (get_or least v 0) ≡ true
-least_leads mesh least v h used =
-    let below : v < length least = omega (arith, h.count, used_below mesh v h.valid used) in
-    used_leads mesh least (get_or least v 0) (least_used mesh least v h used) (h.members.itself v below)
+least_leads mesh least v h used = grind (arith, used_below, used_leads, least_used)
 
 -- a vertex leads exactly where it is the least of its component
 leads_is_least : (mesh : FaceList) (least : List ℕ) (v : ℕ) → AreLeasts mesh least → leads mesh least v ≡ true → IsLeastOfComponent mesh v
@@ -158,15 +139,7 @@ places_of_components mesh least count places h n =
     λ v used. n.ranked v (used_below mesh v h.valid used) used in
     record {
       each_vertex = n.long;
-      below = λ v used.
-          let below : v < length least = omega (arith, h.count, used_below mesh v h.valid used) in
-          omega (
-            arith,
-            at v used,
-            n.counted,
-            rank_below test (get_or least v 0) mesh.count (least_leads mesh least v h used)
-                (omega (arith, h.members.lesser v below, h.count, below)),
-          );
+      below = λ v used. grind (arith, used_below, rank_below, least_leads);
       joined = λ u v used_u used_v. (
         λ same.
             walk_from_same mesh least u v h.valid h.components used_u used_v
@@ -203,17 +176,7 @@ numbered_none mesh least = record { long = refl; ranked = λ v l. absurd (omega 
 numbered_more : (mesh : FaceList) (least : List ℕ) (n count place more : ℕ) (places : List ℕ) → AreNumbered mesh least n count places
     → (is_used mesh n ≡ true → place ≡ rank (leads mesh least) (get_or least n 0)) → more ≡ count + cond (leads mesh least n) 1 0
     → AreNumbered mesh least (n + 1) more (places ++ place ∷ [])
-numbered_more mesh least n count place more places h here next = record {
-  long = omega (arith, length_push places place, h.long);
-  ranked = λ v l used. elim (cases_lt v n) [
-    | inl less ↦ get_or_append_left places (place ∷ []) 0 v (omega (arith, less, h.long)) ∙ h.ranked v less used
-    | inr le ↦
-        (let same : n ≡ v = omega (arith, l, le) in
-        get_or_push places place 0 v (omega (arith, h.long, same))
-        ∙ here (subst (λ w. is_used mesh w ≡ true) (sym same) used) ∙ ap (λ w. rank (leads mesh least) (get_or least w 0)) same)
-  ];
-  counted = omega (arith, next, h.counted, rank-more (leads mesh least) n);
-}
+numbered_more mesh least n count place more places h here next = grind (arith, common_steps, rank, leads, rank-more)
 
 -- a vertex that leads gets the next number
 pub numbered_first : (mesh : FaceList) (least : List ℕ) (n count : ℕ) (places : List ℕ) → AreNumbered mesh least n count places

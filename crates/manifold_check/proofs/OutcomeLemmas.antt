@@ -1,8 +1,5 @@
 -- No face list is without the one or the other: it is a closed manifold, or it has a first fault. Nothing is decided for this.
-use Rattle.manifold_check.proofs.Common.{edge_swap, edge_differs, used_below, no_first_pair, no_first_used, ◌≡◌, inl, inr, ℕ, ◌<◌, true, length, refl, ◌∙◌, arith, cases_lt, cases_eq, sides_between_swap, FaceList, IsFaceList, is_edge, is_used, IsClosedManifold, EachEdgeHasTwoSides, HasOneRing, sides_between}
-use Rattle.manifold_check.specs.Faults.{IsFirstFault}
-use Rattle.manifold_check.specs.declared.fault.SurfaceFault.{SurfaceFault}
-use Rattle.manifold_check.specs.declared.fault.SurfaceFault.TheVariants.{NoFace, EdgeSides, Pinched}
+use Rattle.manifold_check.proofs.Common.{edge_swap, edge_differs, used_below, no_first_pair, no_first_used, IsFirstFault, SurfaceFault, NoFace, EdgeSides, Pinched, ◌≡◌, inl, inr, ℕ, ◌<◌, true, length, arith, cases_eq, sides_between_swap, FaceList, IsFaceList, is_edge, is_used, IsClosedManifold, EachEdgeHasTwoSides, HasOneRing, sides_between}
 
 -- nothing is a first fault of the mesh
 abbrev HasNoFault : FaceList → Type 0
@@ -22,25 +19,12 @@ fair mesh some none =
           absurd
           (none (EdgeSides (record { 0 = a }) (record { 0 = b }) (sides_between mesh a b)) (record {
             some_face = some;
-            edge = record {
-              ordered = up;
-              edge = is;
-              number = refl;
-              uneven = other;
-              least = λ x y rise is_xy pair. before x y pair rise is_xy;
-            };
+            edge = grind arith;
           }))
     ])
 
 each_two_sides : (mesh : FaceList) → IsFaceList mesh → 0 < length mesh.faces → HasNoFault mesh → EachEdgeHasTwoSides mesh
-each_two_sides mesh valid some none u v is =
-    elim (cases_lt u v) [
-      | inl less ↦ fair mesh some none u v less is
-      | inr more ↦ elim (cases_eq u v) [
-        | inl same ↦ absurd (edge_differs mesh u v valid is same)
-        | inr other ↦ sides_between_swap mesh u v ∙ fair mesh some none v u (omega arith) (edge_swap mesh u v is)
-      ]
-    ]
+each_two_sides mesh valid some none u v is = grind (arith, fair, edge_differs, sides_between_swap, edge_swap)
 
 -- no face list is neither a closed manifold nor at fault
 pub closed_or_fault : (mesh : FaceList) → IsFaceList mesh → (IsClosedManifold mesh → ⊥)

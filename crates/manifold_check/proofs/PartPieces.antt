@@ -1,5 +1,5 @@
 -- Each component of a mesh is a part that no edge joins to the rest.
-use Rattle.manifold_check.proofs.Common.{used_corner, walk_from_joined, IsEdgeStep, ◌≡◌, inl, inr, ℕ, zero, suc, ◌+◌, ◌<◌, ◌≤◌, true, eqb, List, [], length, get_or, refl, ap, sym, ◌∙◌, subst, arith, add-one, cases_lt, eq-eqb, eqb-true, nat_tests, get_or_default, All, step_edge, tail_used, head_used, PartsView, AreParts, component_at, component_mesh, ArePlacesOfComponents, HasLeastVertex, EachTwoAreJoined, place_of_face, faces_of_component, FaceList, IsFace, IsFaceList, face_at, next_corner, is_edge, submesh, AreJoinedByWalk, IsWalkBetween, IsClosedManifold, IsClosed, IsWalk}
+use Rattle.manifold_check.proofs.Common.{used_corner, walk_from_joined, IsEdgeStep, ◌≡◌, ℕ, zero, suc, ◌+◌, ◌<◌, ◌≤◌, true, eqb, List, [], length, get_or, refl, ap, sym, ◌∙◌, subst, arith, add-one, eq-eqb, eqb-true, nat_tests, get_or_default, All, step_edge, tail_used, head_used, PartsView, AreParts, component_at, component_mesh, ArePlacesOfComponents, HasLeastVertex, EachTwoAreJoined, place_of_face, faces_of_component, FaceList, IsFace, IsFaceList, face_at, next_corner, is_edge, submesh, AreJoinedByWalk, IsWalkBetween, IsClosedManifold, IsClosed, IsWalk}
 use Rattle.connectivity.proofs.Joining.{joined_step}
 use Rattle.surf_model.proofs.EdgeLemmas.{corner_used}
 use Rattle.manifold_check.proofs.PieceLemmas.{IsPiece, HasPlaceAmong, piece_by_test, walk_down, walk_up, used_up}
@@ -52,9 +52,7 @@ some_face_of mesh parts k h l =
     let piece : IsPiece mesh (IsOfComponent parts.places k) (component_at parts k) = piece_of_parts mesh parts k h l in
     let least : HasLeastVertex mesh parts.places k = h.places.each_place k l in
     let corner = used_corner mesh least.vertex least.least.used in
-    let found : HasPlaceAmong (component_at parts k) corner.0.face.0 =
-    piece.all corner.0.face.0 corner.0.at corner.1.side.face corner.1.side.place
-    (ap (λ v. get_or parts.places v 0) corner.1.vertex ∙ least.place) in
+    let found : HasPlaceAmong (component_at parts k) corner.0.face.0 = grind arith in
     omega (arith, found.within)
 
 -- the vertices of a component are joined by walks along its own faces
@@ -92,20 +90,10 @@ closed_alone mesh parts k h l closed =
 
 -- a mesh of one component at most is connected, and a connected one has no more
 pub few_joined : (mesh : FaceList) (parts : PartsView) → AreParts mesh parts → length parts.components ≤ 1 → EachTwoAreJoined mesh
-few_joined mesh parts h few u v used_u used_v =
-    (h.places.joined u v used_u used_v).0
-    (let at_u = h.places.below u used_u in let at_v = h.places.below v used_v in omega (arith, at_u, at_v, few))
+few_joined mesh parts h few u v used_u used_v = grind arith
 
 pub joined_few : (mesh : FaceList) (parts : PartsView) → AreParts mesh parts → EachTwoAreJoined mesh → length parts.components ≤ 1
-joined_few mesh parts h joined = elim (cases_lt 1 (length parts.components)) [
-  | inl many ↦
-      (let one : HasLeastVertex mesh parts.places 0 = h.places.each_place 0 (omega (arith, many)) in
-      let other : HasLeastVertex mesh parts.places 1 = h.places.each_place 1 many in
-      let same = (h.places.joined one.vertex other.vertex one.least.used other.least.used).1
-      (joined one.vertex other.vertex one.least.used other.least.used) in
-      absurd (omega (arith, same, one.place, other.place)))
-  | inr few ↦ few
-]
+joined_few mesh parts h joined = grind arith
 
 pub one_component : (mesh : FaceList) (parts : PartsView) → AreParts mesh parts → length parts.components ≡ 1 → EachTwoAreJoined mesh
 one_component mesh parts h one = few_joined mesh parts h (omega (arith, one))
@@ -123,8 +111,7 @@ pub walk_same_place : (mesh : FaceList) (parts : PartsView) (walk : List ℕ) (k
     → k < length walk → get_or parts.places (get_or walk k 0) 0 ≡ get_or parts.places (get_or walk 0 0) 0
 walk_same_place mesh parts walk zero h w l = refl
 walk_same_place mesh parts walk (suc k) h w l =
-    let step : is_edge mesh (get_or walk k 0) (get_or walk (suc k) 0) ≡ true =
-    subst (λ j. is_edge mesh (get_or walk k 0) (get_or walk j 0) ≡ true) (add-one k) (w.edges k (omega arith)) in
+    let step : is_edge mesh (get_or walk k 0) (get_or walk (suc k) 0) ≡ true = grind (arith, add-one) in
     sym (edge_same_place mesh (length parts.components) parts.places (get_or walk k 0) (get_or walk (suc k) 0) h.places step)
     ∙ walk_same_place mesh parts walk k h w (omega arith)
 

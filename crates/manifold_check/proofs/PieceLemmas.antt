@@ -1,5 +1,5 @@
 -- Some faces of a mesh that no edge joins to others: sides, edges and walks of these faces alone and of the whole mesh.
-use Rattle.manifold_check.proofs.Common.{after_in_mesh, corner_used, used_corner, HasSideBetween, side_between, ◌≡◌, ◌⊎◌, inl, inr, ℕ, zero, suc, ◌+◌, ◌<◌, Bool, true, List, [], length, get_or, refl, ap, sym, ◌∙◌, subst, arith, add-one, cases_order, length-map, get_or-map, get_or_default, All-filter, filter_passes, length-range_with_len, get_or-range_with_len, AllPairs-filter, range_with_len, All, AllPairs, Contains, filter, step_edge, Contains-filter, IsSide, side_after, tail_of, head_of, FaceList, face_at, next_corner, is_edge, is_used, submesh, IsWalk, Side}
+use Rattle.manifold_check.proofs.Common.{after_in_mesh, corner_used, used_corner, HasSideBetween, side_between, ◌≡◌, ◌⊎◌, inl, inr, ℕ, zero, suc, ◌+◌, ◌<◌, Bool, true, List, [], length, get_or, refl, ap, sym, ◌∙◌, subst, arith, add-one, common_steps, length-map, get_or-map, get_or_default, All-filter, filter_passes, length-range_with_len, get_or-range_with_len, AllPairs-filter, range_with_len, All, AllPairs, Contains, filter, step_edge, Contains-filter, IsSide, side_after, tail_of, head_of, FaceList, face_at, is_edge, is_used, submesh, IsWalk, Side}
 use Rattle.surf_model.proofs.EdgeLemmas.{edge_swap}
 
 -- a face by its place among some faces
@@ -20,14 +20,10 @@ pub record IsPiece (mesh : FaceList) (Inside : ℕ → Type 0) (names : List ℕ
   pub all : (f t : ℕ) → f < length mesh.faces → t < length (face_at mesh f) → Inside (get_or (face_at mesh f) t 0) → HasPlaceAmong names f
 
 range_rises : (n : ℕ) → AllPairs (λ i j. i < j) (range_with_len 0 n)
-range_rises n i j d less l =
-    let few : j < n = omega (arith, l, length-range_with_len 0 n) in
-    omega (arith, get_or-range_with_len 0 n i d (omega arith), get_or-range_with_len 0 n j d few)
+range_rises n i j d less l = grind (arith, length-range_with_len, get_or-range_with_len)
 
 range_below : (n : ℕ) → All (λ i. i < n) (range_with_len 0 n)
-range_below n i d l =
-    let few : i < n = omega (arith, l, length-range_with_len 0 n) in
-    omega (arith, get_or-range_with_len 0 n i d few)
+range_below n i d l = grind (arith, length-range_with_len, get_or-range_with_len)
 
 pub piece_by_test : (mesh : FaceList) (Inside : ℕ → Type 0) (test : ℕ → Bool)
     → ((f t : ℕ) → f < length mesh.faces → test f ≡ true → t < length (face_at mesh f) → Inside (get_or (face_at mesh f) t 0))
@@ -56,14 +52,7 @@ piece_by_test mesh Inside test inside tested =
 
 pub named_once : (mesh : FaceList) (Inside : ℕ → Type 0) (names : List ℕ) (f g : ℕ) → IsPiece mesh Inside names → f < length names
     → g < length names → get_or names f 0 ≡ get_or names g 0 → f ≡ g
-named_once mesh Inside names f g h lf lg same =
-    elim (cases_order f g) [
-      | inl e ↦ e
-      | inr other ↦ elim other [
-        | inl less ↦ absurd (omega (arith, same, h.rising f g less lg))
-        | inr more ↦ absurd (omega (arith, same, h.rising g f more lf))
-      ]
-    ]
+named_once mesh Inside names f g h lf lg same = grind arith
 
 -- a side of the submesh as a side of the whole mesh
 abbrev pub renamed_side : List ℕ → Side → Side
@@ -87,19 +76,7 @@ pub record IsRenamed (mesh : FaceList) (names : List ℕ) (side : Side) : Type 0
 
 pub renamed : (mesh : FaceList) (Inside : ℕ → Type 0) (names : List ℕ) (side : Side) → IsPiece mesh Inside names
     → IsSide (submesh mesh names) side → IsRenamed mesh names side
-renamed mesh Inside names side h is =
-    let few : side.face.0 < length names = omega (arith, is.face, length-submesh mesh names) in
-    let same : face_at (submesh mesh names) side.face.0 ≡ face_at mesh (get_or names side.face.0 0) =
-    face-submesh mesh names side.face.0 few in
-    let name : ℕ → Side = λ t. record { face = record { 0 = get_or names side.face.0 0 }; at = t } in
-    record {
-      named = few;
-      face = same;
-      in_mesh = record { face = h.each side.face.0 few; place = subst (λ (r : List ℕ). side.at < length r) same is.place };
-      tail = ap (λ (r : List ℕ). get_or r side.at 0) same;
-      head = ap (λ (r : List ℕ). get_or r (next_corner true (length r) side.at) 0) same;
-      after = ap (λ (r : List ℕ). name (next_corner true (length r) side.at)) same;
-    }
+renamed mesh Inside names side h is = grind (arith, length-submesh, face-submesh)
 
 -- a side of the mesh that is one of the submesh
 pub record ComesFrom (mesh : FaceList) (names : List ℕ) (side : Side) : Type 0 where
@@ -116,26 +93,14 @@ comes_from mesh Inside names side h is inside =
     let name : ℕ → Side = λ f. record { face = record { 0 = f }; at = side.at } in
     record {
       side_there = record { face = record { 0 = found.place }; at = side.at };
-      in_submesh = record {
-        face = omega (arith, found.within, length-submesh mesh names);
-        place = subst (λ (r : List ℕ). side.at < length r) (sym same) is.place;
-      };
+      in_submesh = grind (arith, length-submesh);
       is = ap name found.named;
     }
 
 -- the other end of a side with one end inside is inside
 pub inside_side : (mesh : FaceList) (Inside : ℕ → Type 0) (names : List ℕ) (side : Side) → IsPiece mesh Inside names → IsSide mesh side
     → (Inside (tail_of mesh side)) ⊎ (Inside (head_of mesh side)) → Inside (tail_of mesh side) × Inside (head_of mesh side)
-inside_side mesh Inside names side h is one =
-    let after : IsSide mesh (side_after mesh side) = after_in_mesh mesh side is in
-    let found : HasPlaceAmong names side.face.0 = elim one [
-      | inl inside ↦ h.all side.face.0 side.at is.face is.place inside
-      | inr inside ↦ h.all side.face.0 (side_after mesh side).at is.face after.place inside
-    ] in
-    let all : (t : ℕ) → t < length (face_at mesh side.face.0) → Inside (get_or (face_at mesh side.face.0) t 0) =
-    subst (λ f. (t : ℕ) → t < length (face_at mesh f) → Inside (get_or (face_at mesh f) t 0)) found.named
-    (λ t. h.corners found.place t found.within) in
-    (all side.at is.place, all (side_after mesh side).at after.place)
+inside_side mesh Inside names side h is one = grind (arith, after_in_mesh)
 
 -- a side of the mesh with an end inside is one of the submesh
 pub comes_from_end : (mesh : FaceList) (Inside : ℕ → Type 0) (names : List ℕ) (side : Side) → IsPiece mesh Inside names → IsSide mesh side
@@ -146,19 +111,15 @@ comes_from_end mesh Inside names side h is one =
 -- both ends of a side of the submesh are inside
 pub side_inside : (mesh : FaceList) (Inside : ℕ → Type 0) (names : List ℕ) (side : Side) → IsPiece mesh Inside names
     → IsSide (submesh mesh names) side → Inside (tail_of mesh (renamed_side names side))
-side_inside mesh Inside names side h is =
-    let r : IsRenamed mesh names side = renamed mesh Inside names side h is in
-    h.corners side.face.0 side.at r.named r.in_mesh.place
+side_inside mesh Inside names side h is = grind (arith, common_steps, renamed)
 
 pub edge_of_side : (mesh : FaceList) (side : Side) → IsSide mesh side → is_edge mesh (tail_of mesh side) (head_of mesh side) ≡ true
 edge_of_side mesh side is = step_edge mesh side.face.0 true side.at is.face is.place
 
 edge_by_side : (mesh : FaceList) (u v : ℕ) (side : Side) → IsSide mesh side
     → ((tail_of mesh side ≡ u) × (head_of mesh side ≡ v)) ⊎ ((tail_of mesh side ≡ v) × (head_of mesh side ≡ u)) → is_edge mesh u v ≡ true
-edge_by_side mesh u v side is (inl e) =
-    ap (λ x. is_edge mesh x v) (sym e.0) ∙ ap (is_edge mesh (tail_of mesh side)) (sym e.1) ∙ edge_of_side mesh side is
-edge_by_side mesh u v side is (inr e) =
-    edge_swap mesh u v ∙ ap (λ x. is_edge mesh x u) (sym e.0) ∙ ap (is_edge mesh (tail_of mesh side)) (sym e.1) ∙ edge_of_side mesh side is
+edge_by_side mesh u v side is (inl e) = grind (arith, edge_of_side)
+edge_by_side mesh u v side is (inr e) = grind (arith, edge_swap, edge_of_side)
 
 -- an edge of the submesh is one of the mesh
 pub edge_up : (mesh : FaceList) (Inside : ℕ → Type 0) (names : List ℕ) (u v : ℕ) → IsPiece mesh Inside names
@@ -174,11 +135,7 @@ edge_up mesh Inside names u v h is =
 -- an end of a side of the edge that is inside
 end_inside : (mesh : FaceList) (Inside : ℕ → Type 0) (u v : ℕ) (found : HasSideBetween mesh u v) → Inside u
     → (Inside (tail_of mesh found.side)) ⊎ (Inside (head_of mesh found.side))
-end_inside mesh Inside u v found inside =
-    elim found.ends [
-      | inl e ↦ inl (subst Inside (sym e.0) inside)
-      | inr e ↦ inr (subst Inside (sym e.1) inside)
-    ]
+end_inside mesh Inside u v found inside = grind arith
 
 -- an edge of the mesh with an end inside is one of the submesh
 pub edge_down : (mesh : FaceList) (Inside : ℕ → Type 0) (names : List ℕ) (u v : ℕ) → IsPiece mesh Inside names → Inside u
@@ -231,8 +188,7 @@ pub walk_inside : (mesh : FaceList) (Inside : ℕ → Type 0) (names : List ℕ)
     → IsWalk mesh walk → Inside (get_or walk 0 0) → k < length walk → Inside (get_or walk k 0)
 walk_inside mesh Inside names walk zero h w start l = start
 walk_inside mesh Inside names walk (suc k) h w start l =
-    let step : is_edge mesh (get_or walk k 0) (get_or walk (suc k) 0) ≡ true =
-    subst (λ j. is_edge mesh (get_or walk k 0) (get_or walk j 0) ≡ true) (add-one k) (w.edges k (omega arith)) in
+    let step : is_edge mesh (get_or walk k 0) (get_or walk (suc k) 0) ≡ true = grind (arith, add-one) in
     edge_inside mesh Inside names (get_or walk k 0) (get_or walk (suc k) 0) h
     (walk_inside mesh Inside names walk k h w start (omega arith)) step
 

@@ -1,5 +1,5 @@
 -- Moves of a part of a mesh that no edge joins to the rest: on its own faces, and on those of the whole mesh.
-use Rattle.manifold_check.proofs.Common.{◌≡◌, ◌↔◌, ℕ, ◌+◌, ◌-◌, ◌<◌, ◌≤◌, Bool, List, [], ◌∷◌, ◌++◌, length, get_or, refl, ap, sym, ◌∙◌, subst, arith, append_assoc, length-append, get_or-append-add, max, not, Some, FaceList, face_at, corners_from, submesh, renamed_move, renamed_moves, IsWalk, darts}
+use Rattle.manifold_check.proofs.Common.{◌≡◌, ◌↔◌, ℕ, ◌+◌, ◌-◌, ◌<◌, ◌≤◌, Bool, List, [], ◌∷◌, ◌++◌, length, get_or, refl, ap, sym, ◌∙◌, subst, arith, common_steps, max, not, Some, FaceList, face_at, corners_from, submesh, renamed_move, renamed_moves, IsWalk, darts}
 use Rattle.surf_model.proofs.ContextLemmas.{first_answer, stays_walk}
 use Rattle.surf_model.proofs.ReplacementLemmas.{by_replacing}
 use Rattle.surf_model.proofs.RoundLemmas.{first_corner}
@@ -25,11 +25,7 @@ replaces_up : (mesh : FaceList) (Inside : ℕ → Type 0) (names : List ℕ) (mo
     → Replaces (submesh mesh names) move part other → Replaces mesh (renamed_move names move) part other
 replaces_up mesh Inside names (Insert at via) part other h r = (r.0, edge_up mesh Inside names r.0 via.0 h r.1, r.2, r.3)
 replaces_up mesh Inside names (Remove at via) part other h r = r
-replaces_up mesh Inside names (Across at face corner forward taken) part other h r =
-    let few : face.0 < length names = omega (arith, r.0, length-submesh mesh names) in
-    let round : RoundsRing forward corner taken part other (face_at mesh (get_or names face.0 0)) =
-    subst (RoundsRing forward corner taken part other) (face-submesh mesh names face.0 few) (r.1, r.2, r.3, r.4) in
-    (h.each face.0 few, round.0, round.1, round.2, round.3)
+replaces_up mesh Inside names (Across at face corner forward taken) part other h r = grind (arith, length-submesh, face-submesh)
 
 -- a move of the submesh does the same on the whole mesh, once its face is named as there
 pub move_up : (mesh : FaceList) (Inside : ℕ → Type 0) (names walk next : List ℕ) (move : Move) → IsPiece mesh Inside names
@@ -50,15 +46,7 @@ move_up mesh Inside names walk next move h start e =
 -- the entry at which a part of a walk starts
 entry_at : (walk before part after rest : List ℕ) (a : ℕ) → walk ≡ before ++ part ++ after → part ≡ a ∷ rest
     → (length before < length walk) × (get_or walk (length before) 0 ≡ a)
-entry_at walk before part after rest a is starts =
-    let whole : walk ≡ before ++ (a ∷ (rest ++ after)) =
-    is ∙ ap (λ (p : List ℕ). before ++ p ++ after) starts ∙ append_assoc before (a ∷ rest) after in
-    let place : length before ≡ length before + 0 = omega arith in (
-      omega (arith, ap (λ (l : List ℕ). length l) whole, length-append before (a ∷ (rest ++ after))),
-      ap (λ (l : List ℕ). get_or l (length before) 0) whole
-          ∙ ap (λ (n : ℕ). get_or (before ++ (a ∷ (rest ++ after))) n 0) place
-          ∙ get_or-append-add before (a ∷ (rest ++ after)) 0 0,
-    )
+entry_at walk before part after rest a is starts = grind (arith, common_steps)
 
 -- a move that is one of the submesh
 pub record ComesFromMove (mesh : FaceList) (names walk : List ℕ) (move : Move) (next : List ℕ) : Type 0 where

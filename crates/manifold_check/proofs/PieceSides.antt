@@ -1,6 +1,6 @@
 -- How many sides join two vertices of a part of a mesh that no edge joins to the rest: on its own faces as many as on those of the
 -- whole mesh.
-use Rattle.manifold_check.proofs.Common.{◌≡◌, ◌⊎◌, inl, inr, ℕ, ◌+◌, ◌<◌, ◌≤◌, Bool, true, false, List, [], ◌∷◌, length, get_or, take, refl, ap, sym, ◌∙◌, subst, arith, length-append, cases_Bool, cond-true, cond-false, both_ways, nat_tests, length-map, ext_get_or, get_or-map, filter-append, All-tail, length-range_with_len, get_or-range_with_len, length-map-range_with_len, get_or-map-range_with_len, sum_by-cons, sum_by_more_le, enumerate_from, range_with_len, All, filter, map, flat_map, sum_by, filter-map, filter_none, next_within, FaceList, FaceSide, face_at, next_corner, all_sides, sides_of_face, joins, total_sides, IsFace, IsFaceList, HasFileSize, submesh, sides_between}
+use Rattle.manifold_check.proofs.Common.{◌≡◌, ◌⊎◌, inl, inr, ℕ, ◌+◌, ◌<◌, ◌≤◌, Bool, true, false, List, [], ◌∷◌, length, get_or, take, refl, ap, sym, ◌∙◌, subst, arith, length-append, cases_Bool, cond-true, cond-false, nat_tests, common_steps, ext_get_or, get_or-map, filter-append, All-tail, length-range_with_len, get_or-range_with_len, length-map-range_with_len, get_or-map-range_with_len, sum_by-cons, sum_by_more_le, enumerate_from, range_with_len, All, filter, map, flat_map, sum_by, filter-map, filter_none, next_within, FaceList, FaceSide, face_at, next_corner, all_sides, sides_of_face, joins, total_sides, IsFace, IsFaceList, HasFileSize, submesh, sides_between}
 use Rattle.surf_model.proofs.NumberLemmas.{face_side}
 use Rattle.manifold_check.proofs.PieceLemmas.{IsPiece, length-submesh}
 
@@ -9,10 +9,7 @@ abbrev sides_of_ring : ℕ → ℕ → List ℕ → ℕ
 sides_of_ring u v ring = length (filter (λ t. joins u v (face_side 0 ring t)) (range_with_len 0 (length ring)))
 
 ring_sides : (u v n : ℕ) (ring : List ℕ) → length (filter (joins u v) (sides_of_face n ring)) ≡ sides_of_ring u v ring
-ring_sides u v n ring =
-    let places : List ℕ = range_with_len 0 (length ring) in
-    ap (λ (s : List FaceSide). length s) (filter-map (joins u v) (face_side n ring) places)
-    ∙ length-map (filter (λ t. joins u v (face_side n ring t)) places) (face_side n ring)
+ring_sides u v n ring = grind (arith, common_steps, filter-map, face_side)
 
 sides_from : (u v n : ℕ) (faces : List (List ℕ))
     → length (filter (joins u v) (flat_map (λ (p : ℕ × List ℕ). sides_of_face p.0 p.1) (enumerate_from n faces)))
@@ -89,21 +86,7 @@ joins_end u v ring t h = grind (arith, nat_tests)
 none_outside : (mesh : FaceList) (Inside : ℕ → Type 0) (names : List ℕ) (u v f : ℕ) → (h : IsPiece mesh Inside names) → Inside u
     → f < length mesh.faces → h.test f ≡ false → sides_of_ring u v (face_at mesh f) ≡ 0
 none_outside mesh Inside names u v f h inside l fails =
-    let ring : List ℕ = face_at mesh f in
-    let places : List ℕ = range_with_len 0 (length ring) in
-    let joins_at : ℕ → Bool = λ t. joins u v (face_side 0 ring t) in
-    let outside : (t : ℕ) → t < length ring → get_or ring t 0 ≡ u → ⊥ =
-    λ t few same. both_ways (h.test f) fails (h.passes f t l few (subst Inside (sym same) inside)) in
-    ap (λ (ts : List ℕ). length ts) (filter_none joins_at places (λ i d b.
-    let few : i < length ring = omega (arith, b, length-range_with_len 0 (length ring)) in
-    let is : get_or places i d ≡ i = get_or-range_with_len 0 (length ring) i d few ∙ (let e : 0 + i ≡ i = omega arith in e) in
-    subst (λ t. joins_at t ≡ false) (sym is) (elim (cases_Bool (joins_at i)) [
-      | inl joined ↦ elim (joins_end u v ring i joined) [
-        | inl here ↦ absurd (outside i few here)
-        | inr next ↦ absurd (outside (next_corner true (length ring) i) (next_within (length ring) i few) next)
-      ]
-      | inr apart ↦ apart
-    ])))
+    grind (arith, face_side, filter_none, length-range_with_len, get_or-range_with_len, joins_end, next_within)
 
 pub sides_alike : (mesh : FaceList) (Inside : ℕ → Type 0) (names : List ℕ) (u v : ℕ) → IsPiece mesh Inside names → Inside u
     → sides_between (submesh mesh names) u v ≡ sides_between mesh u v

@@ -1,5 +1,5 @@
 -- A part of a mesh that no edge joins to the rest keeps the conditions of a closed manifold, and coherent signs.
-use Rattle.manifold_check.proofs.Common.{corner_end, corner_in_mesh, ◌≡◌, ◌⊎◌, inl, inr, ℕ, ◌<◌, false, Bool, cond, List, [], ◌∷◌, length, get_or, refl, ap, sym, ◌∙◌, subst, arith, length-map, get_or-map, tail_used, IsSide, side_after, tail_of, head_of, FaceList, submesh, signs_among, IsPath, AreJoined, EachEdgeHasTwoSides, ArePartners, IsCornerOfSide, IsStepAround, HasOneRing, IsClosedManifold, IsCoherent, RunOppositely, is_flipped, start_under, end_under, Side}
+use Rattle.manifold_check.proofs.Common.{corner_end, corner_in_mesh, ◌≡◌, ◌⊎◌, inl, inr, ℕ, ◌<◌, false, Bool, List, [], ◌∷◌, length, get_or, refl, ap, sym, ◌∙◌, subst, arith, common_steps, length-map, get_or-map, tail_used, IsSide, side_after, tail_of, head_of, FaceList, submesh, signs_among, IsPath, AreJoined, EachEdgeHasTwoSides, ArePartners, IsCornerOfSide, IsStepAround, HasOneRing, IsClosedManifold, IsCoherent, RunOppositely, is_flipped, start_under, end_under, Side}
 use Rattle.manifold_check.proofs.PieceLemmas.{IsPiece, IsRenamed, ComesFrom, renamed_side, named_once, renamed, comes_from_end, edge_up, used_up, length-submesh}
 use Rattle.manifold_check.proofs.PieceSides.{sides_alike}
 
@@ -23,34 +23,12 @@ same_side mesh Inside names side other h is is_other same =
 
 pub partners_up : (mesh : FaceList) (Inside : ℕ → Type 0) (names : List ℕ) (side other : Side) → IsPiece mesh Inside names
     → ArePartners (submesh mesh names) side other → ArePartners mesh (renamed_side names side) (renamed_side names other)
-partners_up mesh Inside names side other h p =
-    let r : IsRenamed mesh names side = renamed mesh Inside names side h p.first in
-    let s : IsRenamed mesh names other = renamed mesh Inside names other h p.second in
-    record {
-      first = r.in_mesh;
-      second = s.in_mesh;
-      different = λ same. p.different (same_side mesh Inside names side other h p.first p.second same);
-      one_edge = elim p.one_edge [
-        | inl e ↦ inl (sym r.tail ∙ e.0 ∙ s.tail, sym r.head ∙ e.1 ∙ s.head)
-        | inr e ↦ inr (sym r.tail ∙ e.0 ∙ s.head, sym r.head ∙ e.1 ∙ s.tail)
-      ];
-    }
+partners_up mesh Inside names side other h p = grind (arith, common_steps, renamed, same_side)
 
 pub partners_down : (mesh : FaceList) (Inside : ℕ → Type 0) (names : List ℕ) (side other : Side) → IsPiece mesh Inside names
     → IsSide (submesh mesh names) side → IsSide (submesh mesh names) other
     → ArePartners mesh (renamed_side names side) (renamed_side names other) → ArePartners (submesh mesh names) side other
-partners_down mesh Inside names side other h is is_other p =
-    let r : IsRenamed mesh names side = renamed mesh Inside names side h is in
-    let s : IsRenamed mesh names other = renamed mesh Inside names other h is_other in
-    record {
-      first = is;
-      second = is_other;
-      different = λ same. p.different (ap (renamed_side names) same);
-      one_edge = elim p.one_edge [
-        | inl e ↦ inl (r.tail ∙ e.0 ∙ sym s.tail, r.head ∙ e.1 ∙ sym s.head)
-        | inr e ↦ inr (r.tail ∙ e.0 ∙ sym s.head, r.head ∙ e.1 ∙ sym s.tail)
-      ];
-    }
+partners_down mesh Inside names side other h is is_other p = grind (arith, common_steps, renamed)
 
 -- a corner of a side by its name in the whole mesh
 corner_down : (mesh : FaceList) (Inside : ℕ → Type 0) (names : List ℕ) (v : ℕ) (side corner : Side) → IsPiece mesh Inside names
@@ -146,22 +124,12 @@ flipped_alike names signs f l = get_or-map (is_flipped signs) names f 0 false l
 pub start_alike : (mesh : FaceList) (Inside : ℕ → Type 0) (names : List ℕ) (signs : List Bool) (side : Side) → IsPiece mesh Inside names
     → IsSide (submesh mesh names) side
     → start_under (submesh mesh names) (signs_among signs names) side ≡ start_under mesh signs (renamed_side names side)
-start_alike mesh Inside names signs side h is =
-    let r : IsRenamed mesh names side = renamed mesh Inside names side h is in
-    ap (λ b. cond b (head_of (submesh mesh names) side) (tail_of (submesh mesh names) side))
-    (flipped_alike names signs side.face.0 r.named)
-    ∙ ap (λ x. cond (is_flipped signs (get_or names side.face.0 0)) x (tail_of (submesh mesh names) side)) r.head
-    ∙ ap (cond (is_flipped signs (get_or names side.face.0 0)) (head_of mesh (renamed_side names side))) r.tail
+start_alike mesh Inside names signs side h is = grind (arith, common_steps, renamed, head_of, flipped_alike)
 
 pub end_alike : (mesh : FaceList) (Inside : ℕ → Type 0) (names : List ℕ) (signs : List Bool) (side : Side) → IsPiece mesh Inside names
     → IsSide (submesh mesh names) side
     → end_under (submesh mesh names) (signs_among signs names) side ≡ end_under mesh signs (renamed_side names side)
-end_alike mesh Inside names signs side h is =
-    let r : IsRenamed mesh names side = renamed mesh Inside names side h is in
-    ap (λ b. cond b (tail_of (submesh mesh names) side) (head_of (submesh mesh names) side))
-    (flipped_alike names signs side.face.0 r.named)
-    ∙ ap (λ x. cond (is_flipped signs (get_or names side.face.0 0)) x (head_of (submesh mesh names) side)) r.tail
-    ∙ ap (cond (is_flipped signs (get_or names side.face.0 0)) (tail_of mesh (renamed_side names side))) r.head
+end_alike mesh Inside names signs side h is = grind (arith, common_steps, renamed, head_of, flipped_alike)
 
 -- and signs that are coherent
 pub coherent_alone : (mesh : FaceList) (Inside : ℕ → Type 0) (names : List ℕ) (signs : List Bool) → IsPiece mesh Inside names

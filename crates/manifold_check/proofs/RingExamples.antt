@@ -1,7 +1,7 @@
 -- Steps and rings on two small meshes.
-use Rattle.manifold_check.proofs.Common.{◌≡◌, inl, inr, ℕ, refl, ap, arith, lit<, IsStepAround, Side}
-use Rattle.surf_model.specs.Meshes.{tetrahedron}
+use Rattle.manifold_check.proofs.Common.{inl, inr, ℕ, refl, arith, IsStepAround, Side}
 use Rattle.manifold_check.specs.Examples.{slit}
+use Rattle.surf_model.specs.Meshes.{tetrahedron}
 
 -- side t of face f, and the corner where it starts
 abbrev side : ℕ → ℕ → Side
@@ -13,12 +13,7 @@ step_in_tetrahedron : IsStepAround tetrahedron 0 (side 0 0) (side 1 0)
 step_in_tetrahedron = record {
   side = side 0 0;
   partner = side 1 2;
-  partners = record {
-    first = record { face = lit< tt; place = lit< tt };
-    second = record { face = lit< tt; place = lit< tt };
-    different = λ same. let faces : 0 ≡ 1 = ap (λ (s : Side). s.face.0) same in omega arith;
-    one_edge = inr (refl, refl);
-  };
+  partners = grind arith;
   from = inl (refl, refl);
   to = inr (refl, refl);
 }
@@ -28,12 +23,7 @@ step_in_slit : IsStepAround slit 1 (side 0 1) (side 0 3)
 step_in_slit = record {
   side = side 0 0;
   partner = side 0 3;
-  partners = record {
-    first = record { face = lit< tt; place = lit< tt };
-    second = record { face = lit< tt; place = lit< tt };
-    different = λ same. let places : 0 ≡ 3 = ap (λ (s : Side). s.at) same in omega arith;
-    one_edge = inr (refl, refl);
-  };
+  partners = grind arith;
   from = inr (refl, refl);
   to = inl (refl, refl);
 }

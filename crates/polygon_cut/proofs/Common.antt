@@ -1,4 +1,4 @@
--- What proofs of this crate cite of others, passed on from one place (by tools/imports). Declares nothing.
+-- What proofs of this crate cite of its definitions and of other crates, passed on from one place (by tools/imports). Declares nothing.
 pub use Rattle.halfedge_map.proofs.DartLemmas.{corner-next, dart_starts, end_flipped, end_kept, face_at_number, origin_at, start_corner_within, start_flipped, start_kept}
 pub use Rattle.halfedge_map.proofs.EdgeLemmas.{dart_between, edge-twin, edge_of_dart}
 pub use Rattle.halfedge_map.proofs.NumberLemmas.{HasPlace, IsNumberOf, number_below, placed}
@@ -9,11 +9,16 @@ unfoldable pub use Rattle.halfedge_map.specs.DartMaps.{used_vertices}
 pub use Rattle.halfedge_map.specs.Orbits.{IsReached, after_steps}
 pub use Rattle.halfedge_map.specs.OrientedMeshes.{IsOrientedSurface, OrientedMesh}
 pub use Rattle.halfedge_map.specs.RotationSystems.{IsDartFrom, IsRotationSystem, Rotations, rotations_of}
-pub use Rattle.std.proofs.Common.{Bool, List, ap, append_assoc, arith, cond, drop, eqb, false, get_or, inl, inr, length, length-append, ltb, not, refl, subst, suc, sym, true, zero, ℕ, [], ◌&&◌, ◌*◌, ◌++◌, ◌+◌, ◌-◌, ◌<◌, ◌^◌, ◌||◌, ◌∙◌, ◌∷◌, ◌≡◌, ◌≢◌, ◌≤◌, ◌⊎◌}
+pub use Rattle.polygon_cut.specs.Polygons.{HasPlaces, IsCutByColours, IsCutFrom, IsFirstLeft, IsLabelled, KindLabels, PolygonView, across, label_of, one_down, one_up, outer_ring, place_of, side_at, turned}
+pub use Rattle.polygon_cut.specs.ShortWalks.{AreShortAround, IsFreelyShort}
+pub use Rattle.polygon_cut.specs.SpokeLoops.{ArePushedFreely, ArePushedWithLoop, AreWaysUp, HasFreeSpokes, HaveFreeSpokes, IsOffCotree, LeavesCotree, PutBehind, across_last, backward, by_loop, comes_back, dart_loop, last_side, last_side_loop, path_loop, put_behind, spoke_loop, spokes_along, way_back_round, way_round}
+pub use Rattle.polygon_cut.specs.StoredPolygons.{IsPlaced, IsWalked, TurnsRound, left_at, left_before, without_places}
+pub use Rattle.std.proofs.Common.{Bool, List, ap, append_assoc, arith, cond, eqb, false, get_or, inl, inr, length, length-append, ltb, not, refl, subst, suc, sym, true, zero, ℕ, [], ◌&&◌, ◌*◌, ◌++◌, ◌+◌, ◌-◌, ◌<◌, ◌^◌, ◌||◌, ◌∙◌, ◌∷◌, ◌≡◌, ◌≢◌, ◌≤◌, ◌⊎◌}
 pub use Rattle.std.proofs.Math.ListN.{get_or-eq_default, set}
 pub use Rattle.std.proofs.lemmas.Bool.{and_left, and_parts, and_right, both_ways, cases_Bool, cases_eq, cases_lt, eq-eqb, eqb-true, lt-ltb, ltb-true, or_right}
 pub use Rattle.std.proofs.lemmas.Bool.Decides.{nat_tests}
-pub use Rattle.std.proofs.lemmas.List.{append-nil, get_or-set_other, get_or-set_same, get_or_append_left, get_or_push, length-map, length-set, length_push, map-append}
+pub use Rattle.std.proofs.lemmas.Grind.{common_steps}
+pub use Rattle.std.proofs.lemmas.List.{append-nil, get_or-set_other, get_or-set_same, length-map, length-set, map-append}
 pub use Rattle.std.specs.Prelude.{All, IsTrue, None, Option, Some, if◌then◌else◌, pos, slice_index, unwrap_or, ℤ, ◌+ℤ◌, ◌-ℤ◌}
 pub use Rattle.surf_model.proofs.ContextLemmas.{list_in_context, one_after_another}
 pub use Rattle.surf_model.proofs.EdgeLemmas.{edge_swap, step_within, tail_used}
@@ -42,7 +47,6 @@ pub use Rattle.tree_cotree.proofs.SplitLemmas.{OneOfThree, cotree_one, left_one,
 pub use Rattle.tree_cotree.proofs.SplitWayLemmas.{faces_upward, few_up, parents_upward, root_below}
 pub use Rattle.tree_cotree.proofs.UpwardLemmas.{no_loop, single_path}
 pub use Rattle.tree_cotree.specs.ColouredTrees.{HasColouredTrees, without_ways}
-pub use Rattle.tree_cotree.specs.Colourings.{ColouringView, IsColouring, colouring_of}
 pub use Rattle.tree_cotree.specs.RingCounts.{any_below}
 pub use Rattle.tree_cotree.specs.RingViews.{dart_numbers}
 pub use Rattle.tree_cotree.specs.SpanningTrees.{HasOneRing, after_dart}

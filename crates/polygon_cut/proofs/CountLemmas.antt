@@ -131,16 +131,7 @@ abbrev darts_below : Rotations → (ℕ → Bool) → ℕ → ℕ → Bool
 darts_below maps set m d = set (maps.edge d) && ltb (maps.edge d) m
 
 less_more : (e m : ℕ) → e ≢ m → ltb e (suc m) ≡ ltb e m
-less_more e m ne = elim (cases_lt e m) [
-  | inl less ↦ lt-ltb e (suc m) (omega arith) ∙ sym (lt-ltb e m less)
-  | inr more ↦ elim (cases_Bool (ltb e (suc m))) [
-    | inl here ↦ absurd (let lower : e < suc m = ltb-true e (suc m) here in omega arith)
-    | inr far ↦ elim (cases_Bool (ltb e m)) [
-      | inl near ↦ absurd (let lower : e < m = ltb-true e m near in omega arith)
-      | inr none ↦ far ∙ sym none
-    ]
-  ]
-]
+less_more e m ne = grind arith
 
 not_less : (e : ℕ) → ltb e e ≡ false
 not_less e = elim (cases_Bool (ltb e e)) [ inl less ↦ absurd (let lower : e < e = ltb-true e e less in omega arith) | inr other ↦ other ]

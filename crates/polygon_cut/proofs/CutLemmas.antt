@@ -1,7 +1,6 @@
 -- What the cut of a surface makes is a polygon of the surface and its split.
-use Rattle.polygon_cut.proofs.Common.{steps_within, rotation_system, names_all, darts_of, edge_of, face_of, after_steps, OrientedMesh, IsOrientedSurface, Rotations, rotations_of, IsRotationSystem, ◌≡◌, ℕ, ◌*◌, ◌^◌, ◌<◌, true, false, List, length, ◌-◌, ap, sym, ◌∙◌, subst, arith, inl, inr, cases_Bool, both_ways, slice_index, HasFileSize, count_below, DartName, one_of_three, tree_has_ring, without_ways, HasColouredTrees, ColouringView, colouring_of, dart_numbers, SplitView, HasTrees, in_tree, in_cotree, is_left}
-use Rattle.polygon_cut.specs.Polygons.{PolygonView, IsLabelled, IsCutFrom, IsCutByColours, across, turned, outer_ring}
-use Rattle.polygon_cut.specs.StoredPolygons.{left_at, without_places, IsWalked, TurnsRound, IsPlaced}
+use Rattle.polygon_cut.proofs.Common.{steps_within, rotation_system, names_all, darts_of, edge_of, face_of, after_steps, OrientedMesh, IsOrientedSurface, Rotations, rotations_of, IsRotationSystem, PolygonView, IsLabelled, IsCutFrom, IsCutByColours, across, turned, outer_ring, left_at, without_places, IsWalked, TurnsRound, IsPlaced, ◌≡◌, ℕ, ◌*◌, ◌^◌, ◌<◌, true, false, List, length, ◌-◌, ap, sym, ◌∙◌, subst, arith, inl, inr, cases_Bool, both_ways, slice_index, HasFileSize, count_below, DartName, one_of_three, tree_has_ring, without_ways, HasColouredTrees, dart_numbers, SplitView, HasTrees, in_tree, in_cotree, is_left}
+use Rattle.tree_cotree.specs.Colourings.{ColouringView, colouring_of}
 use Rattle.polygon_cut.proofs.CountLemmas.{count_at_most, count_along, count_darts, count_nothing}
 use Rattle.polygon_cut.proofs.PlaceLemmas.{Crosses, sides_cross, turning_permutes}
 use Rattle.polygon_cut.proofs.PolygonLemmas.{turning_reaches_all}
@@ -62,21 +61,14 @@ four_each {s} {colouring} last sides labels o t w =
 -- the sides are few
 pub few_sides : (s : OrientedMesh) (split : SplitView) (last : ℕ) (sides labels : List ℕ) → HasFileSize s.mesh
     → IsRingWalk s split last sides labels → length sides < 2 ^ 32
-few_sides s split last sides labels small w =
-    omega (
-      arith,
-      count_at_most (left_at (rotations_of s) (outer_ring s split) (is_left split) (outer_ring s split last)) (darts_of s),
-      w.walked.each_left,
-      small.few_sides,
-    )
+few_sides s split last sides labels small w = grind (arith, count_at_most)
 
 -- the walk that `last` ends
 pub ring_walk : {s : OrientedMesh} {split : SplitView} (last : ℕ) {sides labels : List ℕ} → IsOrientedSurface s → HasTrees s split
     → last < darts_of s → is_left split (edge_of s last) ≡ true
     → IsWalked (rotations_of s) (outer_ring s split) (is_left split) (outer_ring s split last) (darts_of s) sides labels
     → IsRingWalk s split last sides labels
-ring_walk last o t l is w =
-    record { round = ring_goes_round last o t l; last_in = l; last_left = is; walked = w }
+ring_walk last o t l is w = grind (arith, ring_goes_round)
 
 cut_is : {s : OrientedMesh} {colouring : ColouringView} (last : ℕ) {degree : ℕ} (sides labels : List ℕ) {places : List ℕ} →
     IsOrientedSurface s
@@ -100,17 +92,13 @@ pub placed_too : (s : OrientedMesh) (sides those : List DartName) (labels these 
     → labels ≡ these → degree ≡ length those
     → IsPlaced (length sides) (turned (rotations_of s) (without_places sides labels)) (length sides) places
     → IsPlaced degree (turned (rotations_of s) (polygon_of degree (dart_numbers those) these places)) degree places
-placed_too s sides those labels these degree {places} one two three h =
-    subst (λ (n : ℕ). IsPlaced n (turned (rotations_of s) (polygon_of n (dart_numbers those) these places)) n places) (sym three)
-    (subst (λ (ys : List ℕ). IsPlaced (length those) (turned (rotations_of s) (without_places those ys)) (length those) places) two
-    (subst (λ (xs : List DartName). IsPlaced (length xs) (turned (rotations_of s) (without_places xs labels)) (length xs) places) one h))
+placed_too s sides those labels these degree {places} one two three h = grind (arith, turned)
 
 -- a cut looks at no way, so it is one with each split that tells the colours
 any_split : {s : OrientedMesh} (colouring : ColouringView) {polygon : PolygonView} → IsCutFrom s (without_ways colouring) polygon
     → IsCutByColours s colouring polygon
 any_split {s} colouring {polygon} h split is tells =
-    let same : IsCutFrom s (without_ways (colouring_of split)) polygon =
-    subst (λ (told : ColouringView). IsCutFrom s (without_ways told) polygon) (sym tells) h in
+    let same : IsCutFrom s (without_ways (colouring_of split)) polygon = grind arith in
     record { degree = same.degree; labels = same.labels; last_side = same.last_side; places = same.places }
 
 pub cut_by_colours_is : {s : OrientedMesh} {colouring : ColouringView} (last : ℕ) {degree : ℕ} (sides labels : List ℕ) {places : List ℕ}
@@ -142,11 +130,4 @@ pub nothing_to_cut : {s : OrientedMesh} {colouring : ColouringView} (sides label
     → HasColouredTrees s colouring
     → ((d : ℕ) → d < darts_of s → face_of s d ≡ colouring.root_face → is_left (without_ways colouring) (edge_of s d) ≡ false)
     → IsCutByColours s colouring (polygon_of 0 sides labels places)
-nothing_to_cut {colouring} sides labels places o t none =
-    let no_genus : colouring.genus ≡ 0 = nothing_left o t none in
-    any_split colouring (record {
-      degree = omega (arith, no_genus);
-      labels = λ some. absurd (omega arith);
-      last_side = λ some. absurd (omega arith);
-      places = λ some. absurd (omega arith);
-    })
+nothing_to_cut {colouring} sides labels places o t none = grind (arith, nothing_left, any_split)

@@ -1,7 +1,6 @@
 -- The loops of a surface's darts, up to any congruence of walks: down the tree to the dart, along it, and up again. Twins have inverse
 -- loops, tree darts have none, and a leftover dart but the last side has the loops of two spokes.
-use Rattle.polygon_cut.proofs.Common.{edge_of_dart, step_first, rotation_system, names_all, darts_of, next_of, twin_of, origin_of, edge_of, after_steps, OrientedMesh, IsOrientedSurface, rotations_of, IsRotationSystem, IsDartFrom, ◌≡◌, ◌≢◌, ◌⊎◌, inl, inr, ℕ, zero, suc, ◌+◌, ◌-◌, ◌<◌, ◌≤◌, List, true, not, [], ◌∷◌, ◌++◌, refl, ap, sym, ◌∙◌, subst, arith, cases_lt, nat_tests, IsTrue, is_edge, after_dart, SplitView, IsSplit, in_tree, in_cotree, is_left}
-use Rattle.polygon_cut.specs.Polygons.{PolygonView, IsCutFrom, side_at, label_of, one_up}
+use Rattle.polygon_cut.proofs.Common.{edge_of_dart, step_first, rotation_system, names_all, darts_of, next_of, twin_of, origin_of, edge_of, after_steps, OrientedMesh, IsOrientedSurface, rotations_of, IsRotationSystem, IsDartFrom, PolygonView, IsCutFrom, side_at, label_of, one_up, ◌≡◌, ◌≢◌, ◌⊎◌, inl, inr, ℕ, zero, suc, ◌+◌, ◌-◌, ◌<◌, ◌≤◌, List, true, not, [], ◌∷◌, ◌++◌, refl, ap, sym, ◌∙◌, subst, arith, cases_lt, nat_tests, IsTrue, is_edge, after_dart, SplitView, IsSplit, in_tree, in_cotree, is_left}
 use Rattle.polygon_cut.proofs.GroupLemmas.{IsGroup, quotient, one_step}
 use Rattle.polygon_cut.proofs.WayLemmas.{IsWay, back, way_home, Loop, loop_mul, loop_inv, loop_one, HasWays, loop_of}
 use Rattle.polygon_cut.proofs.CongruenceLemmas.{IsWalkCongruence, SameLoops, loops_are_a_group, no_dart, first_dart, dart_back, dart_up}
@@ -87,8 +86,7 @@ module _ {s : OrientedMesh} {Same : List ℕ → List ℕ → Type 0} (congruenc
       let ways : HasWays s.mesh t.parents.root (up s split t) = tree_ways s split o t in
       let u : ℕ = origin_of s d in
       let w : ℕ = origin_of s (twin_of s d) in
-      let twin : IsDartFrom (rotations_of s) w u (twin_of s d) =
-      record { within = r.twin_within d l; starts = refl; ends = ap (origin_of s) (r.twin_back d l) } in
+      let twin : IsDartFrom (rotations_of s) w u (twin_of s d) = grind arith in
       let there : IsWay s.mesh u w (w ∷ []) = dart_way o d l in
       let home : IsWay s.mesh w u (u ∷ []) = way_home s.mesh u w (w ∷ []) there in
       let along : Loops s split t = loop_of s.mesh t.parents.root (up s split t) ways u w (w ∷ []) there in

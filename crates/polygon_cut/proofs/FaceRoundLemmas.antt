@@ -49,10 +49,7 @@ on_round {s} o (suc k) d l =
     record {
       within = r.next_within x before.within;
       face = face_on ∙ before.face;
-      corner =
-          step ∙ ap (λ f. next_corner (dir s f) (length (face_at s.mesh f)) (start_corner_of s x)) before.face
-          ∙ ap (next_corner (dir s (face_of s d)) (length (face_at s.mesh (face_of s d)))) before.corner
-          ∙ sym (after_more (dir s (face_of s d)) (length (face_at s.mesh (face_of s d))) (start_corner_of s d) k);
+      corner = grind (arith, after_more);
     }
 
 pub record AtFace (s : OrientedMesh) (d : ℕ) : Type 0 where

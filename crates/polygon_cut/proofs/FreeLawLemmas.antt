@@ -1,7 +1,5 @@
 -- The laws on walks and loops as lists, from those on the loops of a split.
-use Rattle.polygon_cut.proofs.Common.{rotation_system, names_all, darts_of, twin_of, origin_of, face_of, start_corner_of, OrientedMesh, IsOrientedSurface, rotations_of, ◌≡◌, inl, inr, ℕ, zero, suc, ◌+◌, ◌-◌, ◌<◌, Bool, true, false, not, List, [], ◌∷◌, ◌++◌, length, drop, refl, ap, sym, ◌∙◌, subst, arith, get_or-eq_default, cases_lt, append-nil, All, slice_index, list_keeps_walk, list_keeps_ends, FaceList, face_at, corners_from, is_used, AreFreelyEqual, Leads, IsPath, is_flipped, IsWalk, Move, parents_upward, SplitView, IsSplit, StepsToParent}
-use Rattle.polygon_cut.specs.Polygons.{PolygonView, IsCutFrom, side_at, across}
-use Rattle.polygon_cut.specs.SpokeLoops.{AreWaysUp, way_round, way_back_round, backward, dart_loop, spoke_loop, path_loop, by_loop, spokes_along, HaveFreeSpokes, last_side, last_side_loop, across_last, put_behind, comes_back, PutBehind, ArePushedFreely, ArePushedWithLoop, LeavesCotree, IsOffCotree}
+use Rattle.polygon_cut.proofs.Common.{rotation_system, names_all, darts_of, twin_of, origin_of, face_of, OrientedMesh, IsOrientedSurface, rotations_of, PolygonView, IsCutFrom, side_at, across, AreWaysUp, way_round, way_back_round, backward, dart_loop, spoke_loop, path_loop, by_loop, spokes_along, HaveFreeSpokes, last_side, last_side_loop, across_last, put_behind, comes_back, PutBehind, ArePushedFreely, ArePushedWithLoop, LeavesCotree, IsOffCotree, ◌≡◌, inl, inr, ℕ, zero, suc, ◌+◌, ◌-◌, ◌<◌, Bool, true, false, not, List, [], ◌∷◌, ◌++◌, length, refl, ap, sym, ◌∙◌, subst, arith, get_or-eq_default, cases_lt, append-nil, All, slice_index, list_keeps_walk, list_keeps_ends, FaceList, face_at, is_used, AreFreelyEqual, Leads, IsPath, IsWalk, Move, parents_upward, SplitView, IsSplit, StepsToParent}
 use Rattle.polygon_cut.proofs.RelatorLemmas.{spoke_product, ends_at_vertex, loop_in, free_push}
 use Rattle.polygon_cut.proofs.GroupWordLemmas.{Var, One, Mul, Inv, by_words}
 use Rattle.polygon_cut.proofs.FreeProductLemmas.{way_end, product_back}
@@ -9,7 +7,7 @@ use Rattle.polygon_cut.proofs.WayLemmas.{IsWay, way_walk, start_used, end_used, 
 use Rattle.polygon_cut.proofs.CongruenceLemmas as Congruence
 use Rattle.polygon_cut.proofs.FreeLoopLemmas.{SameFreely, free_equality}
 use Rattle.polygon_cut.proofs.FreeSpokeLemmas.{free_group}
-use Rattle.polygon_cut.proofs.FreeRoundLemmas.{step_value, steps_turn}
+use Rattle.polygon_cut.proofs.FreeRoundLemmas.{steps_turn}
 use Rattle.polygon_cut.proofs.FreeMoveLemmas.{walk_value, moves_keep_value}
 use Rattle.polygon_cut.proofs.FreeWayLemmas.{off_cotree, path_along, path_value, root_round}
 use Rattle.polygon_cut.proofs.FreeQuadLemmas.{last_loop, free_quads, last_pushes}
@@ -148,9 +146,7 @@ pub led_off : (s : OrientedMesh) (split : SplitView) (polygon : PolygonView) (ro
     → AreFreelyEqual s.mesh second
     (by_loop ups (slice_index second 0) (slice_index second (length second - 1))
     (path_loop s polygon root ups true (spokes_along spokes first)))
-led_off s split polygon root ups spokes [] second moves o t c some h each w leads keeps off =
-    let none : 0 < 0 = w.starts in
-    absurd (omega arith)
+led_off s split polygon root ups spokes [] second moves o t c some h each w leads keeps off = grind arith
 led_off s split polygon root ups spokes (u ∷ rest) second moves o t c some h each w leads keeps off =
     by second leads off (list_keeps_walk s.mesh moves (u ∷ rest) second w leads)
   where
@@ -263,10 +259,7 @@ goes_round {s} {split} {polygon} o c some =
     let m : ℕ = length (face_at s.mesh (face_of s d)) in
     record {
       rest = vertices_on s m d;
-      round_is =
-          ap (λ f. corners_from (face_at s.mesh f) (not (is_flipped s.signs f)) (start_corner_of s d) (length (face_at s.mesh f)))
-          (sym (c.last_side some))
-          ∙ corners_read o m d l;
+      round_is = grind (arith, corners_read);
       rest_is = refl;
       way = subst (λ x. IsWay s.mesh (origin_of s d) (origin_of s x) (vertices_on s m d)) (comes_round o d l) (ends_on o m d l);
     }
@@ -324,11 +317,8 @@ led_back_round s split polygon root ups second moves o t c some h leads keeps of
     let back_is : back t.parents.root loop.rest ≡ backward root (last_side_loop s polygon root ups) =
     ap (λ x. back x loop.rest) (root_is s split o t root ups h) ∙ ap (back root) loop_is
     ∙ sym (backward_is root (last_side_loop s polygon root ups)) in
-    let way_is : way_back_round s split d ≡ u ∷ back u r.rest =
-    ap (λ (l : List ℕ). u ∷ backward u (drop 1 l)) r.round_is ∙ ap (λ (l : List ℕ). u ∷ l) (backward_is u r.rest) in
-    let home_is : SameFreely home (loop_inv there) =
-    product_back SameFreely loop_mul loop_inv (one_of s split t) g s.mesh (step_value s split o t polygon)
-    (steps_turn o t c some) u u r.rest r.way in
+    let way_is : way_back_round s split d ≡ u ∷ back u r.rest = grind (arith, backward_is) in
+    let home_is : SameFreely home (loop_inv there) = grind (arith, product_back, one_of, steps_turn) in
     let worth : SameFreely home (loop_inv loop) =
     g.on home (loop_inv there) (loop_inv loop) home_is (g.inv_same there loop (round_worth o t c some r)) in
     subst (λ (x : List ℕ). AreFreelyEqual s.mesh second (by_loop ups u u x)) back_is

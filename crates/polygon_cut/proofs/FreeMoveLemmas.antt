@@ -1,9 +1,7 @@
 -- Moves that put spurs in, take them out, or go round the face below a cotree edge in its place keep what a walk is worth, up to spurs: the
 -- steps act on the loops by their values, and round a face that is not the root face these make nothing.
-use Rattle.polygon_cut.proofs.Common.{dart_starts, darts_of, origin_of, face_of, start_corner_of, dart_at_corner, OrientedMesh, IsOrientedSurface, ◌≢◌, ℕ, ◌<◌, Bool, List, [], length, get_or, ap, sym, ◌∙◌, subst, arith, All, Some, face_at, corners_from, Leads, IsWalk, Move, Insert, Remove, Across, SplitView, IsSplit, run, walked, RoundIsNothing, FacesActAsNothing, CrossesOnly}
+use Rattle.polygon_cut.proofs.Common.{dart_starts, darts_of, origin_of, face_of, start_corner_of, dart_at_corner, OrientedMesh, IsOrientedSurface, PolygonView, IsCutFrom, LeavesCotree, ◌≢◌, ℕ, ◌<◌, Bool, List, [], length, get_or, ap, sym, ◌∙◌, subst, arith, All, Some, face_at, corners_from, Leads, IsWalk, Move, Insert, Remove, Across, SplitView, IsSplit, run, walked, RoundIsNothing, FacesActAsNothing, CrossesOnly}
 use Rattle.walk_actions.proofs.Actions.{moves_act}
-use Rattle.polygon_cut.specs.Polygons.{PolygonView, IsCutFrom}
-use Rattle.polygon_cut.specs.SpokeLoops.{LeavesCotree}
 use Rattle.polygon_cut.proofs.GroupLemmas.{IsGroup}
 use Rattle.polygon_cut.proofs.WayLemmas.{loop_mul, loop_inv}
 use Rattle.polygon_cut.proofs.FreeLoopLemmas.{SameFreely}

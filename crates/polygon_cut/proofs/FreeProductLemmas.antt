@@ -1,5 +1,5 @@
 -- Products along a walk in a group: each step from a vertex to the next has a value. A walk is a vertex and the vertices behind it.
-use Rattle.polygon_cut.proofs.Common.{◌≡◌, ℕ, List, [], ◌∷◌, ◌++◌, subst, IsTrue, FaceList, is_edge, end_from as end_of, run, walked, Acts}
+use Rattle.polygon_cut.proofs.Common.{arith, ◌≡◌, ℕ, List, [], ◌∷◌, ◌++◌, IsTrue, FaceList, is_edge, end_from as end_of, run, walked, Acts}
 use Rattle.polygon_cut.proofs.GroupLemmas.{IsGroup, inverse_unique, inverse_of_product}
 use Rattle.polygon_cut.proofs.WayLemmas.{IsWay, back, way_home}
 
@@ -21,8 +21,7 @@ pub product_on : {X : Type 0} (Same : X → X → Type 0) (mul : X → X → X) 
     → (val : ℕ → ℕ → X) (u : ℕ) (rest more : List ℕ)
     → Same (product_from mul one val u (rest ++ more))
     (mul (product_from mul one val u rest) (product_from mul one val (end_of u rest) more))
-product_on Same mul inv one g val u [] more = g.turn (mul one (product_from mul one val u more)) (product_from mul one val u more)
-    (g.one_left (product_from mul one val u more))
+product_on Same mul inv one g val u [] more = grind arith
 product_on {X = X} Same mul inv one g val u (w ∷ rest) more =
     let v : X = val u w in
     let a : X = product_from mul one val w rest in
@@ -53,9 +52,7 @@ product_back {X = X} Same mul inv one g mesh val turns u v (w ∷ rest) h =
     let x : X = val u w in
     let last : X = mul (val w u) one in
     let ends : end_of v (back w rest) ≡ w = way_end mesh v w (back w rest) (way_home mesh w v rest h.1) in
-    let split : Same (product_from mul one val v (back w rest ++ u ∷ [])) (mul a last) =
-    subst (λ y. Same (product_from mul one val v (back w rest ++ u ∷ [])) (mul a (mul (val y u) one))) ends
-    (product_on Same mul inv one g val v (back w rest) (u ∷ [])) in
+    let split : Same (product_from mul one val v (back w rest ++ u ∷ [])) (mul a last) = grind (arith, back, product_on) in
     let last_is : Same last (inv x) = g.on last (val w u) (inv x) (g.one_right (val w u)) (turns u w h.0) in
     g.on (product_from mul one val v (back w rest ++ u ∷ [])) (mul a last) (inv (mul x b)) split
     (g.on (mul a last) (mul (inv b) (inv x)) (inv (mul x b))

@@ -1,7 +1,6 @@
 -- The quads of a polygon's sides, up to spurs alone: each side has the value of its spoke and the one after it, counted on without going
 -- round, so that all quads hold but the one of the last side, which costs the loop of the last side.
-use Rattle.polygon_cut.proofs.Common.{edge-twin, rotation_system, darts_of, twin_of, edge_of, OrientedMesh, IsOrientedSurface, rotations_of, ◌≡◌, ℕ, suc, ◌-◌, ◌<◌, true, false, not, [], ◌∷◌, refl, ap, sym, ◌∙◌, subst, arith, after_dart, SplitView, IsSplit, in_cotree, is_left}
-use Rattle.polygon_cut.specs.Polygons.{PolygonView, IsCutFrom, side_at, across}
+use Rattle.polygon_cut.proofs.Common.{edge-twin, rotation_system, darts_of, twin_of, edge_of, OrientedMesh, IsOrientedSurface, rotations_of, PolygonView, IsCutFrom, side_at, across, ◌≡◌, ℕ, suc, ◌-◌, ◌<◌, true, false, not, [], ◌∷◌, refl, sym, subst, arith, after_dart, SplitView, IsSplit, in_cotree, is_left}
 use Rattle.polygon_cut.proofs.GroupWordLemmas.{Var, One, Mul, Inv, by_relation}
 use Rattle.polygon_cut.proofs.RelatorLemmas.{spoke_product, relator, CostlyPushes, costly_pushes}
 use Rattle.polygon_cut.proofs.WayLemmas.{loop_mul, loop_inv}
@@ -18,8 +17,7 @@ side_across {s} {split} {polygon} o c a l =
     let some : 0 < polygon.degree = omega arith in
     let is_side = (c.labels some).side_is_left a l in
     let twin_in : twin_of s (side_at polygon a) < darts_of s = (rotation_system s o).twin_within (side_at polygon a) is_side.0 in
-    let twin_left : is_left split (edge_of s (twin_of s (side_at polygon a))) ≡ true =
-    ap (is_left split) (edge-twin s o (side_at polygon a) is_side.0) ∙ is_side.1 in
+    let twin_left : is_left split (edge_of s (twin_of s (side_at polygon a))) ≡ true = grind (arith, edge-twin, side_at) in
     is_own_side (rotations_of s) (after_dart (rotations_of s) (λ e. not (in_cotree split e))) (is_left split) polygon (c.labels some)
     (twin_of s (side_at polygon a)) twin_in twin_left
 

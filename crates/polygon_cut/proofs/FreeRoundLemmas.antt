@@ -1,8 +1,7 @@
 -- The way round a face but for one of its darts, forward and backward: as the corners that a move reads, and as a value, up to spurs.
-use Rattle.polygon_cut.proofs.Common.{dart_between, step_first, rotation_system, names_all, darts_of, next_of, twin_of, origin_of, target_of, face_of, after_steps, OrientedMesh, IsOrientedSurface, rotations_of, IsRotationSystem, IsDartFrom, ◌≡◌, ◌≢◌, ℕ, zero, suc, ◌-◌, ◌<◌, ◌≤◌, Bool, true, not, ◌&&◌, eqb, List, [], ◌∷◌, ◌++◌, length, get_or, refl, ap, sym, ◌∙◌, subst, arith, eqb-true, eq-eqb, and_parts, unwrap_or, step_within, corner_after, face_at, next_corner, corners_from, first_below, SplitView, IsSplit, after_back, beyond_more, corners_beyond, end_from as end_of, end_beyond, beyond}
+use Rattle.polygon_cut.proofs.Common.{dart_between, step_first, rotation_system, names_all, darts_of, next_of, twin_of, origin_of, target_of, face_of, after_steps, OrientedMesh, IsOrientedSurface, rotations_of, IsRotationSystem, IsDartFrom, PolygonView, IsCutFrom, side_at, label_of, ◌≡◌, ◌≢◌, ℕ, zero, suc, ◌-◌, ◌<◌, ◌≤◌, Bool, true, not, ◌&&◌, eqb, List, [], ◌∷◌, ◌++◌, length, get_or, refl, ap, sym, ◌∙◌, subst, arith, eqb-true, eq-eqb, and_parts, unwrap_or, step_within, corner_after, face_at, next_corner, corners_from, first_below, SplitView, IsSplit, after_back, beyond_more, corners_beyond, end_from as end_of, end_beyond, beyond}
 use Rattle.halfedge_map.proofs.ListLemmas.{IsFirstBelow, first_passes}
 use Rattle.halfedge_map.proofs.TwinLemmas.{origin-twin}
-use Rattle.polygon_cut.specs.Polygons.{PolygonView, IsCutFrom, side_at, label_of}
 use Rattle.polygon_cut.proofs.GroupLemmas.{quotient}
 use Rattle.polygon_cut.proofs.WayLemmas.{back, loop_mul, loop_inv}
 use Rattle.polygon_cut.proofs.FreeLoopLemmas.{SameFreely}
@@ -26,16 +25,7 @@ behind_back face rising t (suc k) l =
 -- the corners read the other way, from where the reading ended
 pub read_back : (face : List ℕ) (rising : Bool) (t k u : ℕ) (rest : List ℕ) → t < length face → corners_from face rising t k ≡ u ∷ rest
     → corners_from face (not rising) (corner_after rising (length face) t k) k ≡ end_of u rest ∷ back u rest
-read_back face rising t k u rest l is =
-    let c : ℕ = corner_after rising (length face) t k in
-    let both : get_or face t 0 ∷ beyond face rising t k ≡ u ∷ rest = sym (corners_beyond face rising t k) ∙ is in
-    let first : get_or face t 0 ≡ u = cc in
-    let others : beyond face rising t k ≡ rest = cc in
-    corners_beyond face (not rising) c k
-    ∙ ap (λ (x : List ℕ). get_or face c 0 ∷ x) (behind_back face rising t k l ∙ ap (λ x. back x (beyond face rising t k)) first
-    ∙ ap (back u) others)
-    ∙ ap (λ x. x ∷ back u rest) (sym (end_beyond face rising t k) ∙ ap (λ x. end_of x (beyond face rising t k)) first
-    ∙ ap (end_of u) others)
+read_back face rising t k u rest l is = grind (arith, corners_beyond, behind_back, back, end_beyond)
 
 -- The dart from u to v: the first one that starts at u and ends at v.
 pub dart_from : OrientedMesh → ℕ → ℕ → ℕ
@@ -50,8 +40,7 @@ from_is s o u v d h =
     let found : IsFirstBelow test (darts_of s) = first_passes test (darts_of s) d h.within passes in
     let parts = and_parts (eqb (origin_of s found.number) u) (eqb (target_of s found.number) v) found.passes in
     let starts : origin_of s found.number ≡ u = eqb-true (origin_of s found.number) u parts.0 in
-    let ends : origin_of s (twin_of s found.number) ≡ v = origin-twin s o found.number found.within
-    ∙ eqb-true (target_of s found.number) v parts.1 in
+    let ends : origin_of s (twin_of s found.number) ≡ v = grind (arith, origin-twin) in
     ap (λ x. unwrap_or x 0) found.is
     ∙ (rotation_system s o).one_dart found.number d found.within h.within (starts ∙ sym h.starts) (ends ∙ sym h.ends)
 

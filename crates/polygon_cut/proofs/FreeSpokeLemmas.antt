@@ -1,7 +1,6 @@
 -- Values of a surface's darts, up to spurs alone: a tree or leftover dart has its loop, down the tree, along it, and up again, and a
 -- cotree dart has two spokes, those of the labels at its tail and at its head. Then every dart but the last side has its two spokes.
-use Rattle.polygon_cut.proofs.Common.{rotation_system, darts_of, next_of, twin_of, edge_of, OrientedMesh, IsOrientedSurface, rotations_of, IsRotationSystem, ◌≡◌, ◌≢◌, inl, inr, ℕ, ◌-◌, ◌<◌, Bool, true, false, refl, ap, sym, ◌∙◌, subst, cases_Bool, one_of_three, OneOfThree, tree_one, cotree_one, left_one, SplitView, IsSplit, in_tree, in_cotree, is_left}
-use Rattle.polygon_cut.specs.Polygons.{PolygonView, IsCutFrom, side_at, label_of}
+use Rattle.polygon_cut.proofs.Common.{rotation_system, darts_of, next_of, twin_of, edge_of, OrientedMesh, IsOrientedSurface, rotations_of, IsRotationSystem, PolygonView, IsCutFrom, side_at, label_of, ◌≡◌, ◌≢◌, inl, inr, ℕ, ◌-◌, ◌<◌, Bool, true, false, refl, ap, sym, ◌∙◌, subst, cases_Bool, one_of_three, OneOfThree, tree_one, cotree_one, left_one, SplitView, IsSplit, in_tree, in_cotree, is_left}
 use Rattle.polygon_cut.proofs.GroupLemmas.{IsGroup, quotient, inverse_of_quotient}
 use Rattle.polygon_cut.proofs.WayLemmas.{loop_mul, loop_inv}
 use Rattle.polygon_cut.proofs.FreeLoopLemmas.{SameFreely, loops_make_a_free_group, free_equality}

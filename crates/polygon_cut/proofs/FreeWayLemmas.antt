@@ -1,8 +1,6 @@
 -- Walks and what they are worth, up to spurs: a walk off the cotree is what its darts are worth, that is the product of the spokes of its
 -- darts, and the way once round the root face is the loop of the last side.
-use Rattle.polygon_cut.proofs.Common.{dart_between, darts_of, next_of, origin_of, face_of, edge_of, OrientedMesh, IsOrientedSurface, rotations_of, IsDartFrom, ◌≡◌, inl, inr, ℕ, suc, ◌+◌, ◌-◌, ◌<◌, Bool, true, false, List, [], ◌∷◌, ◌++◌, length, get_or, refl, ap, sym, ◌∙◌, subst, arith, append_assoc, cases_eq, both_ways, nat_tests, FaceList, face_at, AreFreelyEqual, one_of_three, OneOfThree, tree_one, cotree_one, left_one, SplitView, IsSplit, in_tree, in_cotree, is_left}
-use Rattle.polygon_cut.specs.Polygons.{PolygonView, IsCutFrom, side_at, label_of, across, one_up}
-use Rattle.polygon_cut.specs.SpokeLoops.{IsOffCotree, HasFreeSpokes}
+use Rattle.polygon_cut.proofs.Common.{dart_between, darts_of, next_of, origin_of, face_of, edge_of, OrientedMesh, IsOrientedSurface, rotations_of, IsDartFrom, PolygonView, IsCutFrom, side_at, label_of, across, one_up, IsOffCotree, HasFreeSpokes, ◌≡◌, inl, inr, ℕ, suc, ◌+◌, ◌-◌, ◌<◌, Bool, true, false, List, [], ◌∷◌, ◌++◌, length, get_or, refl, ap, sym, ◌∙◌, subst, arith, append_assoc, cases_eq, both_ways, nat_tests, FaceList, face_at, AreFreelyEqual, one_of_three, OneOfThree, tree_one, cotree_one, left_one, SplitView, IsSplit, in_tree, in_cotree, is_left}
 use Rattle.polygon_cut.proofs.GroupLemmas.{IsGroup, quotient, inverse_unique}
 use Rattle.polygon_cut.proofs.GroupWordLemmas.{Var, Mul, Inv, by_words, by_relation}
 use Rattle.polygon_cut.proofs.RelatorLemmas.{spoke_product, loop_in}

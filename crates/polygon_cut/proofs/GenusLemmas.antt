@@ -1,5 +1,5 @@
 -- A surface has a split, and where its Euler characteristic is 2 none of its edges is left over.
-use Rattle.polygon_cut.proofs.Common.{used_vertices, OrientedMesh, IsOrientedSurface, ◌≡◌, ℕ, ◌+◌, ◌*◌, List, length, ap, sym, ◌∙◌, arith, ℤ, pos, ◌+ℤ◌, ◌-ℤ◌, FaceList, IsFaceList, is_used, Homotopic, count_below, IsSurface, AreWalkPair, exact, SplitView, IsSplit}
+use Rattle.polygon_cut.proofs.Common.{used_vertices, OrientedMesh, IsOrientedSurface, ◌≡◌, ℕ, ◌+◌, ◌*◌, List, length, sym, arith, ℤ, pos, ◌+ℤ◌, ◌-ℤ◌, FaceList, IsFaceList, is_used, Homotopic, count_below, IsSurface, AreWalkPair, exact}
 use Rattle.std.proofs.lemmas.Int.{ints}
 use Rattle.surf_model.specs.Genera.{AreNumbersOf, HasGenus}
 use Rattle.tree_cotree.proofs.GenusLemmas.{some_split}

@@ -1,5 +1,5 @@
 -- Identities that hold in every group: a term has a reduced word, in which no neighbours are inverse, and terms with one word are the same.
-use Rattle.polygon_cut.proofs.Common.{◌≡◌, inl, inr, ℕ, zero, suc, Bool, true, false, not, ◌&&◌, eqb, cond, List, [], ◌∷◌, get_or, refl, ap, ◌∙◌, subst, cases_Bool, eqb-true, and_parts}
+use Rattle.polygon_cut.proofs.Common.{arith, ◌≡◌, inl, inr, ℕ, zero, suc, Bool, true, false, not, ◌&&◌, eqb, cond, List, [], ◌∷◌, get_or, refl, ap, ◌∙◌, subst, cases_Bool}
 use Rattle.polygon_cut.proofs.GroupLemmas.{IsGroup, inverse_twice, inverse_of_product}
 use Rattle.polygon_cut.proofs.FreeProductLemmas.{inverse_of_one}
 
@@ -74,14 +74,11 @@ put_sound {X = X} Same mul inv one g elements plain n (letter ∷ word) =
       | inr other ↦ rw other (g.itself
           (mul (signed inv plain (get_or elements n one)) (value_of_word mul inv one elements (letter ∷ word))))
       | inl struck ↦
-          let parts = and_parts (differ plain letter.plain) (eqb n letter.number) struck in
-          let same : get_or elements n one ≡ get_or elements letter.number one =
-          ap (λ m. get_or elements m one) (eqb-true n letter.number parts.1) in
+          let same : get_or elements n one ≡ get_or elements letter.number one = grind arith in
           let a : X = signed inv plain (get_or elements n one) in
           let b : X = signed inv letter.plain (get_or elements letter.number one) in
           let rest : X = value_of_word mul inv one elements word in
-          let nothing : Same (mul a b) one =
-          strike g plain letter.plain (get_or elements n one) (get_or elements letter.number one) parts.0 same in
+          let nothing : Same (mul a b) one = grind (arith, strike) in
           rw struck
           (g.on (mul a (mul b rest)) (mul (mul a b) rest) rest (g.turn (mul (mul a b) rest) (mul a (mul b rest)) (g.associates a b rest))
           (g.on (mul (mul a b) rest) (mul one rest) rest (g.mul_same (mul a b) one rest rest nothing (g.itself rest)) (g.one_left rest)))

@@ -1,6 +1,5 @@
 -- The laws of polygons, from those of rotation systems.
-use Rattle.polygon_cut.proofs.Common.{rotation_system, darts_of, twin_of, edge_of, IsReached, OrientedMesh, IsOrientedSurface, rotations_of, ◌≡◌, ℕ, ◌<◌, true, not, subst, arith, one_of_three, tree_has_ring, after_dart, SplitView, IsSplit, in_tree, in_cotree, is_left}
-use Rattle.polygon_cut.specs.Polygons.{PolygonView, IsCutFrom, KindLabels, label_of, place_of, across, turned, one_up, one_down}
+use Rattle.polygon_cut.proofs.Common.{rotation_system, darts_of, twin_of, edge_of, IsReached, OrientedMesh, IsOrientedSurface, rotations_of, PolygonView, IsCutFrom, KindLabels, label_of, place_of, across, turned, one_up, one_down, ◌≡◌, ℕ, ◌<◌, true, not, subst, arith, one_of_three, tree_has_ring, after_dart, SplitView, IsSplit, in_tree, in_cotree, is_left}
 use Rattle.polygon_cut.proofs.PolygonLemmas.{kind_labels, turning_reaches_all}
 use Rattle.polygon_cut.proofs.PlaceLemmas.{Crosses, sides_cross}
 use Rattle.polygon_cut.proofs.QuadLemmas.{leftover_places, places_rise}

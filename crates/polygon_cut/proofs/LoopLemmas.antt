@@ -20,7 +20,7 @@ pub use Rattle.polygon_cut.proofs.WayLemmas.{
   loop_of,
 }
 use Rattle.polygon_cut.proofs.CongruenceLemmas as Congruence
-use Rattle.polygon_cut.proofs.CongruenceLemmas.{IsWalkCongruence, SameLoops}
+use Rattle.polygon_cut.proofs.CongruenceLemmas.{IsWalkCongruence}
 
 -- a spur goes out
 pub spur_out : (mesh : FaceList) (u w : ℕ) → apply mesh (u ∷ w ∷ u ∷ []) (Remove 0 (record { 0 = w })) ≡ Some (u ∷ [])

@@ -1,6 +1,5 @@
 -- Places round the one vertex: the numbers of the sides, taken as they come by turning, get falling places.
-use Rattle.polygon_cut.proofs.Common.{IsPermutationBelow, Returns, returns_to, step_first, after_steps, IsReached, Rotations, IsRotationSystem, ◌≡◌, ◌≢◌, ◌⊎◌, inl, inr, ℕ, suc, ◌+◌, ◌-◌, ◌<◌, Bool, ap, sym, ◌∙◌, subst, arith, cases_eq, nat_tests, twin_edge, reached_soon}
-use Rattle.polygon_cut.specs.Polygons.{one_up, one_down, PolygonView, side_at, label_of, across, IsLabelled}
+use Rattle.polygon_cut.proofs.Common.{IsPermutationBelow, Returns, returns_to, step_first, after_steps, IsReached, Rotations, IsRotationSystem, one_up, one_down, PolygonView, side_at, label_of, across, IsLabelled, ◌≡◌, ◌≢◌, ◌⊎◌, inl, inr, ℕ, suc, ◌-◌, ◌<◌, Bool, ap, sym, ◌∙◌, subst, arith, cases_eq, nat_tests, twin_edge, reached_soon}
 use Rattle.polygon_cut.proofs.PolygonLemmas.{one_up_below, is_own_side}
 use Rattle.polygon_cut.proofs.RoundLemmas.{whole_round}
 
@@ -29,27 +28,10 @@ sides_cross maps ring left polygon r h = record {
         ∙ (h.side_is_left i l).1)
 
 up_apart : (degree i j : ℕ) → i < degree → j < degree → one_up degree i ≡ one_up degree j → i ≡ j
-up_apart degree i j l k e = elim (cases_eq (i + 1) degree) [
-  | inl last ↦ elim (cases_eq (j + 1) degree) [
-    | inl too ↦ (omega arith)
-    | inr more ↦
-        let one : one_up degree i ≡ 0 = grind (arith, nat_tests) in
-        let two : one_up degree j ≡ j + 1 = grind (arith, nat_tests) in
-        absurd (omega arith)
-  ]
-  | inr less ↦
-      let one : one_up degree i ≡ i + 1 = grind (arith, nat_tests) in
-      elim (cases_eq (j + 1) degree) [
-        | inl last ↦ (let two : one_up degree j ≡ 0 = grind (arith, nat_tests) in absurd (omega arith))
-        | inr more ↦ (let two : one_up degree j ≡ j + 1 = grind (arith, nat_tests) in omega arith)
-      ]
-]
+up_apart degree i j l k e = grind arith
 
 pub turning_permutes : {degree : ℕ} {t : ℕ → ℕ} → Crosses degree t → IsPermutationBelow degree (λ i. one_up degree (t i))
-turning_permutes {degree} {t} c = record {
-  within = λ i l. one_up_below degree (t i) (c.below i l);
-  injective = λ i j l k e. sym (c.back i l) ∙ ap t (up_apart degree (t i) (t j) (c.below i l) (c.below j k) e) ∙ c.back j k;
-}
+turning_permutes {degree} {t} c = grind (arith, one_up_below, up_apart)
 
 -- a list of places that falls by one with each turn from 0
 pub record PlacedByTurns (degree : ℕ) (f place : ℕ → ℕ) : Type 0 where

@@ -1,7 +1,6 @@
 -- How labels ride along the rings: along that of tree and leftover edges they stay or rise by one, along that of the tree they stay
 -- or turn.
-use Rattle.polygon_cut.proofs.Common.{IsPermutationBelow, step_first, reached_step, reached_refl, reached_trans, after_steps, IsReached, Rotations, IsRotationSystem, ◌≡◌, ◌⊎◌, inl, inr, ℕ, zero, suc, ◌-◌, ◌<◌, Bool, true, false, not, refl, ap, sym, ◌∙◌, subst, arith, cases_eq, cases_lt, both_ways, nat_tests, after_permutes, go_on, turn, twin_edge, OneOfThree, tree_one, cotree_one, left_one, after_dart, HasOneRing}
-use Rattle.polygon_cut.specs.Polygons.{one_up, PolygonView, side_at, label_of, turned, IsFirstLeft, IsLabelled, KindLabels}
+use Rattle.polygon_cut.proofs.Common.{IsPermutationBelow, step_first, reached_step, reached_refl, reached_trans, after_steps, IsReached, Rotations, IsRotationSystem, one_up, PolygonView, side_at, label_of, turned, IsFirstLeft, IsLabelled, KindLabels, ◌≡◌, ◌⊎◌, inl, inr, ℕ, zero, suc, ◌-◌, ◌<◌, Bool, true, false, not, refl, ap, sym, ◌∙◌, subst, arith, cases_eq, both_ways, nat_tests, after_permutes, go_on, turn, twin_edge, OneOfThree, tree_one, cotree_one, left_one, after_dart, HasOneRing}
 
 pub one_up_below : (degree i : ℕ) → i < degree → one_up degree i < degree
 one_up_below degree i l = grind (arith, nat_tests)
@@ -9,17 +8,7 @@ one_up_below degree i l = grind (arith, nat_tests)
 -- two first leftover darts at or after one dart are one
 first_unique : {maps : Rotations} {ring : ℕ → ℕ} {left : ℕ → Bool} {d x y : ℕ} → IsFirstLeft maps ring left d x
     → IsFirstLeft maps ring left d y → x ≡ y
-first_unique {maps} {ring} {left} {d} {x} {y} h k = elim (cases_lt h.steps k.steps) [
-  | inl less ↦ absurd (both_ways (left (maps.edge x)) (subst (λ (z : ℕ). left (maps.edge z) ≡ false) h.leads (k.none_before h.steps less))
-      h.is_left)
-  | inr more ↦ elim (cases_lt k.steps h.steps) [
-    | inl less ↦ absurd (both_ways (left (maps.edge y)) (subst (λ (z : ℕ). left (maps.edge z) ≡ false) k.leads (h.none_before k.steps less))
-        k.is_left)
-    | inr none ↦
-        let same : h.steps ≡ k.steps = omega arith in
-        sym h.leads ∙ ap (λ (m : ℕ). after_steps ring m d) same ∙ k.leads
-  ]
-]
+first_unique {maps} {ring} {left} {d} {x} {y} h k = grind arith
 
 -- one step on, from a dart that is not leftover
 first_moved : {maps : Rotations} {ring : ℕ → ℕ} {left : ℕ → Bool} {d x : ℕ} → left (maps.edge d) ≡ false → IsFirstLeft maps ring left d x
@@ -54,8 +43,7 @@ label_stays {ring} {polygon} h p d l not_left =
 pub is_own_side : (maps : Rotations) (ring : ℕ → ℕ) (left : ℕ → Bool) (polygon : PolygonView) → IsLabelled maps ring left polygon
     → (d : ℕ) → d < maps.darts → left (maps.edge d) ≡ true → side_at polygon (label_of polygon d) ≡ d
 is_own_side maps ring left polygon h d l is =
-    let here : IsFirstLeft maps ring left d d =
-    record { steps = 0; leads = refl; is_left = is; none_before = λ k m. absurd (omega arith) } in
+    let here : IsFirstLeft maps ring left d d = grind arith in
     first_unique (h.first d l) here
 
 pub label_rises : {maps : Rotations} {ring : ℕ → ℕ} {left : ℕ → Bool} {polygon : PolygonView} → IsLabelled maps ring left polygon

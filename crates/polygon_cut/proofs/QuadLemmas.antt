@@ -1,6 +1,5 @@
 -- The leftover rule of the places, the order of the places for degree 4, and how many darts have an edge of a set.
-use Rattle.polygon_cut.proofs.Common.{reached_back, after_steps, IsReached, Rotations, IsRotationSystem, ◌≡◌, ◌⊎◌, inl, inr, ℕ, zero, suc, ◌<◌, Bool, true, refl, ap, sym, ◌∙◌, subst, arith, cases_lt}
-use Rattle.polygon_cut.specs.Polygons.{one_up, one_down, PolygonView, label_of, place_of, IsLabelled, HasPlaces}
+use Rattle.polygon_cut.proofs.Common.{reached_back, after_steps, IsReached, Rotations, IsRotationSystem, one_up, one_down, PolygonView, label_of, place_of, IsLabelled, HasPlaces, ◌≡◌, ◌⊎◌, inl, inr, ℕ, zero, suc, ◌<◌, Bool, true, refl, ap, sym, ◌∙◌, subst, arith}
 use Rattle.polygon_cut.proofs.PolygonLemmas.{is_own_side}
 use Rattle.polygon_cut.proofs.PlaceLemmas.{Crosses, turning_permutes}
 
@@ -21,13 +20,7 @@ never_left f i e zero = refl
 never_left f i e (suc k) = ap f (never_left f i e k) ∙ e
 
 four : (x : ℕ) → x < 4 → (x ≡ 0) ⊎ ((x ≡ 1) ⊎ ((x ≡ 2) ⊎ (x ≡ 3)))
-four x l = elim (cases_lt x 1) [
-  | inl a ↦ inl (omega arith)
-  | inr b ↦ elim (cases_lt x 2) [
-    | inl a ↦ inr (inl (omega arith))
-    | inr c ↦ elim (cases_lt x 3) [ inl a ↦ inr (inr (inl (omega arith))) | inr d ↦ inr (inr (inr (omega arith))) ]
-  ]
-]
+four x l = grind arith
 
 -- of four sides the opposite ones lie across each other
 pub opposite_sides : {t : ℕ → ℕ} → Crosses 4 t → ((j : ℕ) → j < 4 → IsReached (λ i. one_up 4 (t i)) 0 j) → (i : ℕ) → i < 4
@@ -77,28 +70,10 @@ opposite_sides {t} c all i l = elim (four (t 0) (c.below 0 (omega arith))) [
     f x = one_up 4 (t x)
 
 up_down : (i : ℕ) → i < 4 → one_down 4 (one_up 4 i) ≡ i
-up_down i l = elim (four i l) [
-  | inl e ↦ subst (λ (x : ℕ). one_down 4 (one_up 4 x) ≡ x) (sym e) refl
-  | inr b ↦ elim b [
-    | inl e ↦ subst (λ (x : ℕ). one_down 4 (one_up 4 x) ≡ x) (sym e) refl
-    | inr d ↦ elim d [
-      | inl e ↦ subst (λ (x : ℕ). one_down 4 (one_up 4 x) ≡ x) (sym e) refl
-      | inr e ↦ subst (λ (x : ℕ). one_down 4 (one_up 4 x) ≡ x) (sym e) refl
-    ]
-  ]
-]
+up_down i l = grind (arith, four)
 
 down_up : (i : ℕ) → i < 4 → one_up 4 (one_down 4 i) ≡ i
-down_up i l = elim (four i l) [
-  | inl e ↦ subst (λ (x : ℕ). one_up 4 (one_down 4 x) ≡ x) (sym e) refl
-  | inr b ↦ elim b [
-    | inl e ↦ subst (λ (x : ℕ). one_up 4 (one_down 4 x) ≡ x) (sym e) refl
-    | inr d ↦ elim d [
-      | inl e ↦ subst (λ (x : ℕ). one_up 4 (one_down 4 x) ≡ x) (sym e) refl
-      | inr e ↦ subst (λ (x : ℕ). one_up 4 (one_down 4 x) ≡ x) (sym e) refl
-    ]
-  ]
-]
+down_up i l = grind (arith, four)
 
 -- for degree 4 the places rise by one with the spokes
 pub places_rise : {t : ℕ → ℕ} (place : ℕ → ℕ) → Crosses 4 t → ((j : ℕ) → j < 4 → IsReached (λ i. one_up 4 (t i)) 0 j)
@@ -106,16 +81,7 @@ pub places_rise : {t : ℕ → ℕ} (place : ℕ → ℕ) → Crosses 4 t → ((
     → ((i : ℕ) → i < 4 → place (one_up 4 (t i)) ≡ one_down 4 (place i)) → (i : ℕ) → i < 4 → place (one_up 4 i) ≡ one_up 4 (place i)
 places_rise {t} place c all below falls i l =
     let next : ℕ = one_up 4 i in
-    let next_in : next < 4 = elim (four i l) [
-      | inl e ↦ subst (λ (x : ℕ). one_up 4 x < 4) (sym e) (omega arith)
-      | inr b ↦ elim b [
-        | inl e ↦ subst (λ (x : ℕ). one_up 4 x < 4) (sym e) (omega arith)
-        | inr d ↦ elim d [
-          | inl e ↦ subst (λ (x : ℕ). one_up 4 x < 4) (sym e) (omega arith)
-          | inr e ↦ subst (λ (x : ℕ). one_up 4 x < 4) (sym e) (omega arith)
-        ]
-      ]
-    ] in
+    let next_in : next < 4 = grind (arith, four) in
     let back : one_up 4 (t next) ≡ i = opposite_sides c all next next_in ∙ up_down i l in
     let fall : place i ≡ one_down 4 (place next) = ap place (sym back) ∙ falls next next_in in
     sym (ap (one_up 4) fall ∙ down_up (place next) (below next next_in))

@@ -1,6 +1,6 @@
 -- Products of spokes: each spoke is put at the vertex and taken away in the middle, in turn. A push across the quad of one side, whose two
 -- products differ by a loop, is that loop put in at a place.
-use Rattle.polygon_cut.proofs.Common.{◌≡◌, ℕ, suc, Bool, true, false, not, List, [], ◌∷◌, ◌++◌, refl, subst}
+use Rattle.polygon_cut.proofs.Common.{arith, ◌≡◌, ℕ, suc, Bool, true, false, not, List, [], ◌∷◌, ◌++◌, refl, subst}
 use Rattle.polygon_cut.proofs.GroupLemmas.{IsGroup}
 use Rattle.polygon_cut.proofs.GroupWordLemmas.{Term, Var, One, Mul, Inv, by_words, by_relation}
 
@@ -64,11 +64,8 @@ part_same {X = X} Same mul inv one g spoke before part other at_vertex parity h 
     let b : X = spoke_product mul inv one spoke at_vertex other in
     let first : X = spoke_product mul inv one spoke true (before ++ part) in
     let second : X = spoke_product mul inv one spoke true (before ++ other) in
-    let one_way : Same first (mul p a) =
-    subst (λ f. Same first (mul p (spoke_product mul inv one spoke f part))) parity (spokes_on Same mul inv one g spoke true before part) in
-    let other_way : Same second (mul p b) =
-    subst (λ f. Same second (mul p (spoke_product mul inv one spoke f other))) parity
-    (spokes_on Same mul inv one g spoke true before other) in
+    let one_way : Same first (mul p a) = grind (arith, spokes_on) in
+    let other_way : Same second (mul p b) = grind (arith, spokes_on) in
     g.on first (mul p a) second one_way (g.on (mul p a) (mul p b) second (g.mul_same p p a b (g.itself p) h)
     (g.turn second (mul p b) other_way))
 

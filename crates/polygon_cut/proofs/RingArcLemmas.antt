@@ -1,9 +1,7 @@
 -- Arcs of the ring of tree and leftover edges: the walk along one, past no last side, is worth the loops of two spokes, there along the
 -- one and back along the other; and of any two sides there is one from the one to the other, with fewer darts than the surface has sides.
-use Rattle.polygon_cut.proofs.Common.{IsPermutationBelow, steps_add, steps_within, rotation_system, names_all, darts_of, next_of, twin_of, origin_of, edge_of, after_steps, OrientedMesh, IsOrientedSurface, rotations_of, IsRotationSystem, ◌≡◌, ◌≢◌, ◌⊎◌, inl, inr, ℕ, zero, suc, ◌+◌, ◌-◌, ◌<◌, ◌≤◌, true, false, not, List, [], ◌∷◌, ◌++◌, length, refl, ap, sym, ◌∙◌, subst, arith, length-append, cases_Bool, cases_lt, append-nil, if◌then◌else◌, AreFreelyEqual, after_permutes, go_on, turn, rest_has_ring, SplitView, IsSplit, in_cotree}
-use Rattle.polygon_cut.specs.Polygons.{PolygonView, IsCutFrom, outer_ring, side_at, label_of}
+use Rattle.polygon_cut.proofs.Common.{IsPermutationBelow, steps_add, steps_within, rotation_system, names_all, darts_of, next_of, twin_of, origin_of, edge_of, after_steps, OrientedMesh, IsOrientedSurface, rotations_of, IsRotationSystem, PolygonView, IsCutFrom, outer_ring, side_at, label_of, AreWaysUp, by_loop, last_side, path_loop, ◌≡◌, ◌≢◌, ◌⊎◌, inl, inr, ℕ, zero, suc, ◌+◌, ◌-◌, ◌<◌, ◌≤◌, true, false, not, List, [], ◌∷◌, ◌++◌, length, refl, ap, sym, ◌∙◌, subst, arith, length-append, cases_Bool, cases_lt, append-nil, if◌then◌else◌, AreFreelyEqual, after_permutes, go_on, turn, rest_has_ring, SplitView, IsSplit, in_cotree}
 use Rattle.polygon_cut.specs.RingWalks.{ring_walk, IsRingArc}
-use Rattle.polygon_cut.specs.SpokeLoops.{AreWaysUp, by_loop, last_side, path_loop}
 use Rattle.polygon_cut.proofs.GroupLemmas.{quotient, middle, inverse_of_quotient}
 use Rattle.polygon_cut.proofs.RoundLemmas.{GoesRound, round_reaches, round_apart}
 use Rattle.polygon_cut.proofs.RelatorLemmas.{spoke_product}
@@ -72,15 +70,7 @@ arc_turned : {s : OrientedMesh} {split : SplitView} {o : IsOrientedSurface s} {t
     (f : ℕ) {k : ℕ} (m : ℕ)
     {rest : List ℕ} → k ≤ m → origin_of s f ≡ origin_of s e → label_of polygon f ≡ label_of polygon e
     → IsArc s split o t polygon d e k rest → IsArc s split o t polygon d f m rest
-arc_turned {s} {split} {o} {t} {polygon} {d} {e} f m {rest} more at label a = record {
-  few = omega (arith, a.few, more);
-  way = subst (λ v. IsWay s.mesh (origin_of s d) v rest) (sym at) a.way;
-  worth =
-      subst (λ v. IsWorth s split t (origin_of s d) v rest
-      (two_spokes s split o t polygon (label_of polygon d) (label_of polygon f))) (sym at)
-      (subst (λ x. IsWorth s split t (origin_of s d) (origin_of s e) rest (two_spokes s split o t polygon (label_of polygon d) x))
-      (sym label) a.worth);
-}
+arc_turned {s} {split} {o} {t} {polygon} {d} {e} f m {rest} more at label a = grind arith
 
 -- one dart more
 arc_longer : (s : OrientedMesh) (split : SplitView) (o : IsOrientedSurface s) (t : IsSplit s split) (polygon : PolygonView)
@@ -178,10 +168,7 @@ how_far {s} {split} o t {polygon} c some d l =
     record {
       steps = there.0;
       few = there.1;
-      leads = record {
-        leads = there.2;
-        before_last = λ j less same. round_apart round j there.0 less there.1 (same ∙ sym there.2);
-      };
+      leads = grind (arith, round_apart);
     }
 
 -- from the one of two darts that is further from the last side to the other
@@ -194,9 +181,7 @@ between {s} {split} o t {d} {e} d_in e_in x y less =
     let k : ℕ = x.steps - y.steps in
     let sum : y.steps + k ≡ x.steps = omega (arith, less) in
     record {
-      leads =
-          steps_once p y.steps (after_steps ring k d) e (steps_within (darts_of s) ring p k d d_in) e_in
-          (sym (steps_add ring y.steps k d) ∙ ap (λ m. after_steps ring m d) sum ∙ x.leads.leads ∙ sym y.leads.leads);
+      leads = grind (arith, steps_once, steps_within, steps_add);
       before_last = λ j m. x.leads.before_last j (omega (arith, m));
     }
 

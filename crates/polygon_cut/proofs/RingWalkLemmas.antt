@@ -1,7 +1,5 @@
 -- The walk along the ring of tree and leftover edges of a split.
-use Rattle.polygon_cut.proofs.Common.{face_at_number, IsNumberOf, HasPlace, placed, IsPermutationBelow, steps_within, rotation_system, darts_of, edge_of, face_of, after_steps, OrientedMesh, IsOrientedSurface, Rotations, rotations_of, ◌≡◌, ℕ, suc, ◌+◌, ◌<◌, Bool, true, false, not, List, [], ◌∷◌, ◌++◌, length, ap, sym, ◌∙◌, subst, arith, set, length-map, map-append, first_side, face_at, DartName, after_permutes, rest_has_ring, dart_numbers, SplitView, HasTrees, in_cotree, is_left}
-use Rattle.polygon_cut.specs.Polygons.{outer_ring}
-use Rattle.polygon_cut.specs.StoredPolygons.{IsWalked}
+use Rattle.polygon_cut.proofs.Common.{face_at_number, IsNumberOf, HasPlace, placed, IsPermutationBelow, steps_within, rotation_system, darts_of, edge_of, face_of, after_steps, OrientedMesh, IsOrientedSurface, Rotations, rotations_of, outer_ring, IsWalked, ◌≡◌, ℕ, suc, ◌+◌, ◌<◌, Bool, true, false, not, List, [], ◌∷◌, ◌++◌, length, ap, sym, ◌∙◌, arith, set, common_steps, map-append, first_side, face_at, DartName, after_permutes, rest_has_ring, dart_numbers, SplitView, HasTrees, in_cotree, is_left}
 use Rattle.polygon_cut.proofs.RoundLemmas.{GoesRound}
 use Rattle.polygon_cut.proofs.WalkedLemmas.{walked_left, walked_other}
 
@@ -24,23 +22,16 @@ pub record IsWalking (s : OrientedMesh) (split : SplitView) (last steps : ℕ) (
 
 pub walking_within : {s : OrientedMesh} {split : SplitView} {last steps : ℕ} {sides : List DartName} {labels : List ℕ} {dart : ℕ}
     → IsOrientedSurface s → HasTrees s split → last < darts_of s → IsWalking s split last steps sides labels dart → dart < darts_of s
-walking_within {s} {split} {last} {steps} o t l h =
-    let g = ring_goes_round last o t l in
-    subst (λ (d : ℕ). d < darts_of s) (sym h.at)
-    (steps_within (darts_of s) (outer_ring s split) g.permutes steps (outer_ring s split last) g.start)
+walking_within {s} {split} {last} {steps} o t l h = grind (arith, ring_goes_round, steps_within)
 
 moved : {maps : Rotations} {ring : ℕ → ℕ} {left : ℕ → Bool} {start j : ℕ} (k : ℕ) {sides : List ℕ} (new : List ℕ) {labels : List ℕ}
     (new_labels : List ℕ) → j ≡ k → sides ≡ new
     → labels ≡ new_labels → IsWalked maps ring left start j sides labels → IsWalked maps ring left start k new new_labels
-moved {maps} {ring} {left} {start} k {sides} new {labels} new_labels one listed written h =
-    subst (λ (xs : List ℕ). IsWalked maps ring left start k new xs) written
-    (subst (λ (xs : List ℕ). IsWalked maps ring left start k xs labels) listed
-    (subst (λ (m : ℕ). IsWalked maps ring left start m sides labels) one h))
+moved {maps} {ring} {left} {start} k {sides} new {labels} new_labels one listed written h = grind (arith, written)
 
 written : (sides : List DartName) (labels new_labels : List ℕ) (dart here : ℕ) → dart ≡ here → new_labels ≡ set labels dart (length sides)
     → set labels here (length (dart_numbers sides)) ≡ new_labels
-written sides labels new_labels dart here at is =
-    ap (set labels here) (length-map sides (λ (d : DartName). d.0)) ∙ ap (λ (d : ℕ). set labels d (length sides)) (sym at) ∙ sym is
+written sides labels new_labels dart here at is = grind (arith, common_steps)
 
 -- one dart more, which is leftover, or is not
 pub walking_left : {s : OrientedMesh} {split : SplitView} {last steps : ℕ} {sides : List DartName} (new : List DartName) {labels : List ℕ}
@@ -76,8 +67,7 @@ walking_other {s} {split} {last} {steps} {sides} new {labels} new_labels dart ne
     let maps : Rotations = rotations_of s in
     let ring : ℕ → ℕ = outer_ring s split in
     let start : ℕ = ring last in
-    let here : is_left split (maps.edge (after_steps ring steps start)) ≡ false = ap (λ (d : ℕ). is_left split (edge_of s d)) (sym h.at)
-    ∙ none in
+    let here : is_left split (maps.edge (after_steps ring steps start)) ≡ false = grind arith in
     let more = walked_other (ring_goes_round last o t l) b here h.walked in
     let one : suc steps ≡ steps + 1 = omega arith in
     record {
@@ -97,8 +87,7 @@ pub none_in_face : (s : OrientedMesh) (f first : ℕ) (test : ℕ → Bool) → 
 none_in_face s f first test is none d l here =
     let h : HasPlace s.mesh d = placed s.mesh d l in
     let same : h.face ≡ f = sym (face_at_number s h.face h.place d h.numbered) ∙ here in
-    let within : h.place < length (face_at s.mesh f) =
-    subst (λ (g : ℕ). h.place < length (face_at s.mesh g)) same h.numbered.place in
+    let within : h.place < length (face_at s.mesh f) = grind arith in
     let number : first + h.place ≡ d = ap (λ (k : ℕ). k + h.place) is ∙ ap (λ (g : ℕ). first_side s.mesh g + h.place) (sym same)
     ∙ h.numbered.is in
     ap test (sym number) ∙ none h.place within

@@ -1,9 +1,6 @@
 -- Where the loop of the last side is put in, the way there and the way back and on are short: the spokes in front that the path has too
 -- cancel, and the two spokes of the side across from the last one are that side.
-use Rattle.polygon_cut.proofs.Common.{names_all, darts_of, twin_of, origin_of, OrientedMesh, IsOrientedSurface, ◌≡◌, ℕ, suc, ◌+◌, ◌*◌, ◌-◌, ◌<◌, ◌≤◌, Bool, true, false, List, [], ◌∷◌, ◌++◌, length, refl, ap, sym, ◌∙◌, subst, arith, length-append, append-nil, All, is_used, SplitView, IsSplit}
-use Rattle.polygon_cut.specs.Polygons.{PolygonView, IsCutFrom, side_at}
-use Rattle.polygon_cut.specs.SpokeLoops.{AreWaysUp, backward, by_loop, path_loop, last_side, across_last, comes_back}
-use Rattle.polygon_cut.specs.ShortWalks.{IsFreelyShort, AreShortAround}
+use Rattle.polygon_cut.proofs.Common.{names_all, darts_of, twin_of, origin_of, OrientedMesh, IsOrientedSurface, PolygonView, IsCutFrom, side_at, IsFreelyShort, AreShortAround, AreWaysUp, backward, by_loop, path_loop, last_side, across_last, comes_back, ◌≡◌, ℕ, suc, ◌+◌, ◌*◌, ◌-◌, ◌<◌, ◌≤◌, Bool, true, false, List, [], ◌∷◌, ◌++◌, length, refl, ap, sym, ◌∙◌, subst, arith, length-append, append-nil, All, is_used, SplitView, IsSplit}
 use Rattle.polygon_cut.proofs.GroupWordLemmas.{Var, One, Mul, Inv, by_words, by_relation}
 use Rattle.polygon_cut.proofs.RelatorLemmas.{spoke_product, ends_at_vertex, spokes_on}
 use Rattle.polygon_cut.proofs.WayLemmas.{IsWay, back, way_on, way_home, HasWays, loop_mul, loop_inv, loop_of}

@@ -1,9 +1,6 @@
 -- Short walks for lists of spokes: for each two spokes one walk along the tree and one arc of the ring, and at the end one more along the
 -- tree.
-use Rattle.polygon_cut.proofs.Common.{names_all, darts_of, origin_of, OrientedMesh, IsOrientedSurface, ◌≡◌, ℕ, zero, suc, ◌+◌, ◌*◌, ◌<◌, ◌≤◌, true, List, [], ◌∷◌, ◌++◌, length, ap, sym, ◌∙◌, subst, arith, length-append, All, is_used, SplitView, IsSplit}
-use Rattle.polygon_cut.specs.Polygons.{PolygonView, IsCutFrom, side_at}
-use Rattle.polygon_cut.specs.SpokeLoops.{AreWaysUp, by_loop, path_loop}
-use Rattle.polygon_cut.specs.ShortWalks.{IsFreelyShort}
+use Rattle.polygon_cut.proofs.Common.{names_all, darts_of, origin_of, OrientedMesh, IsOrientedSurface, PolygonView, IsCutFrom, side_at, IsFreelyShort, AreWaysUp, by_loop, path_loop, ◌≡◌, ℕ, zero, suc, ◌+◌, ◌*◌, ◌<◌, ◌≤◌, true, List, [], ◌∷◌, ◌++◌, length, ap, sym, ◌∙◌, subst, arith, length-append, All, is_used, SplitView, IsSplit}
 use Rattle.polygon_cut.proofs.FreeProductLemmas.{inverse_of_one}
 use Rattle.polygon_cut.proofs.RelatorLemmas.{spoke_product}
 use Rattle.polygon_cut.proofs.WayLemmas.{IsWay, way_walk, way_on, HasWays, loop_mul, loop_inv, loop_of}
@@ -54,8 +51,7 @@ one_pair_more pairs n = omega arith
 
 more_pairs : {s : OrientedMesh} {split : SplitView} {t : IsSplit s split} {u v pairs : ℕ} {a : Loops s split t} → 2 ≤ darts_of s
     → IsPairsWalk s split t u v pairs a → IsPairsWalk s split t u v (suc pairs) a
-more_pairs {s} {pairs} some h =
-    record { rest = h.rest; few = omega (arith, h.few, some, one_pair_more pairs (darts_of s)); way = h.way; worth = h.worth }
+more_pairs {s} {pairs} some h = grind (arith, one_pair_more)
 
 -- two spokes, and then a walk from where the second side starts
 pair_first : {s : OrientedMesh} {split : SplitView} (o : IsOrientedSurface s) {t : IsSplit s split} {polygon : PolygonView}

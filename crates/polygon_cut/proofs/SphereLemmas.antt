@@ -65,12 +65,8 @@ no_loop {s} {split} o t sphere u v (w ∷ rest) way =
 
 pub all_homotopic : (s : OrientedMesh) (split : SplitView) (first second : List ℕ) → IsOrientedSurface s → IsSplit s split → split.genus ≡ 0
     → IsWalk s.mesh first → IsWalk s.mesh second → HaveCommonEnds first second → Homotopic s.mesh first second
-all_homotopic s split [] second o t sphere w z ends =
-    let none : 0 < 0 = w.starts in
-    absurd (omega arith)
-all_homotopic s split (u ∷ rest) [] o t sphere w z ends =
-    let none : 0 < 0 = z.starts in
-    absurd (omega arith)
+all_homotopic s split [] second o t sphere w z ends = grind arith
+all_homotopic s split (u ∷ rest) [] o t sphere w z ends = grind arith
 all_homotopic s split (u ∷ rest) (v ∷ others) o t sphere w z ends =
     let g = group_of s split t in
     let nothing : Loops s split t = one_of s split t in

@@ -1,6 +1,5 @@
 -- The values of a surface's darts up to homotopy: round a face they make nothing, so each dart is a product of two spokes.
-use Rattle.polygon_cut.proofs.Common.{step_first, names_all, darts_of, next_of, twin_of, origin_of, face_of, after_steps, OrientedMesh, IsOrientedSurface, ◌≡◌, ℕ, suc, ◌-◌, ◌<◌, ◌≤◌, [], ◌∷◌, length, ap, sym, ◌∙◌, subst, arith, refl, face_at, SplitView, IsSplit}
-use Rattle.polygon_cut.specs.Polygons.{PolygonView, IsCutFrom, side_at, label_of}
+use Rattle.polygon_cut.proofs.Common.{step_first, names_all, darts_of, next_of, twin_of, origin_of, face_of, after_steps, OrientedMesh, IsOrientedSurface, PolygonView, IsCutFrom, side_at, label_of, ◌≡◌, ℕ, suc, ◌-◌, ◌<◌, ◌≤◌, [], ◌∷◌, length, ap, sym, ◌∙◌, subst, arith, refl, face_at, SplitView, IsSplit}
 use Rattle.polygon_cut.proofs.GroupLemmas.{IsGroup}
 use Rattle.polygon_cut.proofs.CongruenceLemmas.{to_loops}
 use Rattle.polygon_cut.proofs.LoopLemmas.{IsWay, HasWays, SameLoop, loop_mul, loop_inv, loops_make_a_group, loop_of, no_dart, homotopy}
@@ -41,8 +40,7 @@ face_rounds {s} {split} o t d l =
     let polygon : 3 ≤ m = (o.faces.faces (face_of s d) [] ((names_all s o).face_below d l)).polygon in
     let count : suc (m - 1) ≡ m = omega arith in
     let whole : after_steps (next_of s) m d ≡ d = comes_round o d l in
-    let way : IsWay s.mesh u u (vertices_on s m d) =
-    subst (λ x. IsWay s.mesh u (origin_of s x) (vertices_on s m d)) whole (ends_on o m d l) in
+    let way : IsWay s.mesh u u (vertices_on s m d) = grind (arith, ends_on) in
     let stay : IsWay s.mesh u u [] = (refl, (names_all s o).vertex_used d l) in
     let still : Loops s split t = loop_of s.mesh t.parents.root (up s split t) ways u u [] stay in
     let around : Loops s split t = loop_of s.mesh t.parents.root (up s split t) ways u u (vertices_on s m d) way in

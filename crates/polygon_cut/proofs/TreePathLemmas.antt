@@ -1,7 +1,6 @@
 -- Walks along the tree from any vertex to any other: up from the one to where the ways up meet, and down to the other. They pass no vertex
 -- twice, so they have fewer darts than half of the surface's sides.
-use Rattle.polygon_cut.proofs.Common.{rotation_system, names_all, darts_of, used_vertices, OrientedMesh, IsOrientedSurface, rotations_of, ◌≡◌, ◌≢◌, ◌⊎◌, inl, inr, ℕ, suc, ◌+◌, ◌*◌, ◌<◌, ◌≤◌, Bool, true, false, not, ◌&&◌, eqb, List, [], ◌∷◌, ◌++◌, length, refl, ap, sym, ◌∙◌, subst, arith, length-append, cases_Bool, cases_eq, eqb-true, eq-eqb, IsTrue, is_used, is_edge, count_below, IsPath, count_less, count_all, exact, SplitView, IsSplit, StepsToParent}
-use Rattle.polygon_cut.specs.Polygons.{PolygonView, IsCutFrom}
+use Rattle.polygon_cut.proofs.Common.{rotation_system, names_all, darts_of, used_vertices, OrientedMesh, IsOrientedSurface, rotations_of, PolygonView, IsCutFrom, ◌≡◌, ◌≢◌, ◌⊎◌, inl, inr, ℕ, suc, ◌+◌, ◌*◌, ◌<◌, ◌≤◌, Bool, true, false, not, ◌&&◌, eqb, List, [], ◌∷◌, ◌++◌, length, refl, ap, sym, ◌∙◌, subst, arith, length-append, cases_Bool, cases_eq, eqb-true, eq-eqb, IsTrue, is_used, is_edge, count_below, IsPath, count_less, count_all, exact, SplitView, IsSplit, StepsToParent}
 use Rattle.polygon_cut.proofs.CountLemmas.{count_darts}
 use Rattle.polygon_cut.proofs.FreeProductLemmas.{inverse_of_one}
 use Rattle.polygon_cut.proofs.WayLemmas.{IsWay, back, way_home, HasWays, loop_mul, loop_inv, loop_of}
@@ -99,10 +98,7 @@ path_differs o t v (w ∷ path) used p = (not_above o t v (w ∷ path) used p, p
 path_used : {s : OrientedMesh} {split : SplitView} → IsOrientedSurface s → (t : IsSplit s split) → (v : ℕ) (path : List ℕ)
     → is_used s.mesh v ≡ true → IsPath (StepsToParent (rotations_of s) split) v path t.parents.root → (x : ℕ) → IsIn x (v ∷ path)
     → is_used s.mesh x ≡ true
-path_used {s} o t v [] used p x m = elim m [
-  | inl here ↦ subst (λ y. is_used s.mesh y ≡ true) (sym here) used
-  | inr later ↦ absurd later
-]
+path_used {s} o t v [] used p x m = grind arith
 path_used {s} o t v (w ∷ path) used p x m = elim m [
   | inl here ↦ subst (λ y. is_used s.mesh y ≡ true) (sym here) used
   | inr later ↦ path_used o t w path (step_used o t v w p.0) p.1 x later

@@ -1,5 +1,5 @@
 -- The way up the tree from each vertex, and that each tree edge is that of a dart to a parent.
-use Rattle.polygon_cut.proofs.Common.{edge_of_dart, rotation_system, names_all, darts_of, OrientedMesh, IsOrientedSurface, Rotations, rotations_of, IsRotationSystem, ◌≡◌, ◌≢◌, ◌⊎◌, inl, inr, ℕ, zero, suc, ◌+◌, ◌<◌, Bool, true, false, ◌||◌, eqb, cond, List, [], ◌∷◌, length, refl, ap, sym, ◌∙◌, subst, arith, cases_Bool, both_ways, eqb-true, eq-eqb, or_right, IsTrue, Option, Some, None, is_used, is_edge, count_below, IsPath, found_below, count_same, count_less, count_none, same_from_count, root_below, parents_upward, single_path, any_below, SplitView, IsSplit, in_tree, parent_dart, StepsToParent}
+use Rattle.polygon_cut.proofs.Common.{edge_of_dart, rotation_system, names_all, darts_of, OrientedMesh, IsOrientedSurface, Rotations, rotations_of, IsRotationSystem, ◌≡◌, ◌≢◌, ◌⊎◌, inl, inr, ℕ, zero, suc, ◌+◌, ◌<◌, Bool, true, false, ◌||◌, eqb, cond, List, [], ◌∷◌, length, refl, ap, sym, ◌∙◌, subst, arith, cases_Bool, both_ways, eqb-true, eq-eqb, or_right, common_steps, IsTrue, Option, Some, None, is_used, is_edge, count_below, IsPath, found_below, count_same, count_less, count_none, same_from_count, root_below, parents_upward, single_path, any_below, SplitView, IsSplit, in_tree, parent_dart, StepsToParent}
 use Rattle.std.proofs.Math.Bool.{or-false}
 use Rattle.polygon_cut.proofs.WayLemmas.{IsWay, HasWays}
 
@@ -144,8 +144,7 @@ parent_step s split v d is = (d, record { is_parent = is; ends = refl })
 
 used_at : {s : OrientedMesh} {split : SplitView} → IsOrientedSurface s → (t : IsSplit s split) → (v d : ℕ) → parent_dart split v ≡ Some d
     → is_used s.mesh v ≡ true
-used_at {s} o t v d is =
-    subst (λ x. is_used s.mesh x ≡ true) (t.parents.starts v d is) ((names_all s o).vertex_used d (t.parents.within v d is))
+used_at {s} o t v d is = grind (arith, common_steps, names_all)
 
 -- no two vertices have darts to parents along one edge
 up_once : {s : OrientedMesh} {split : SplitView} → IsOrientedSurface s → (t : IsSplit s split) → (v w e : ℕ) → edge_up s split v ≡ Some e
@@ -161,8 +160,7 @@ up_once {s} {split} o t v w e p q =
       | inl same ↦ sym (t.parents.starts v a.0 a.1) ∙ ap maps.origin (sym same) ∙ t.parents.starts w b.0 b.1
       | inr turned ↦
           let w_is : maps.origin (maps.twin a.0) ≡ w = ap maps.origin (sym turned) ∙ t.parents.starts w b.0 b.1 in
-          let v_is : maps.origin (maps.twin b.0) ≡ v = ap (λ x. maps.origin (maps.twin x)) turned ∙ ap maps.origin (r.twin_back a.0 a_in)
-          ∙ t.parents.starts v a.0 a.1 in
+          let v_is : maps.origin (maps.twin b.0) ≡ v = grind arith in
           let v_used : is_used s.mesh v ≡ true = used_at o t v a.0 a.1 in
           let w_used : is_used s.mesh w ≡ true = used_at o t w b.0 b.1 in
           let to_w : StepsToParent maps split v w = (a.0, record { is_parent = a.1; ends = w_is }) in

@@ -1,21 +1,12 @@
 -- Places given by turning round the one vertex, from side to side.
-use Rattle.polygon_cut.proofs.Common.{steps_within, after_steps, Rotations, ◌≡◌, ◌≢◌, inl, inr, ℕ, suc, ◌+◌, ◌-◌, ◌<◌, List, length, get_or, ap, sym, ◌∙◌, subst, arith, set, cases_eq, nat_tests, get_or-set_same, get_or-set_other, length-set, slice_index}
-use Rattle.polygon_cut.specs.Polygons.{PolygonView, HasPlaces, one_down, turned, across}
-use Rattle.polygon_cut.specs.StoredPolygons.{TurnsRound, IsPlaced}
+use Rattle.polygon_cut.proofs.Common.{steps_within, after_steps, Rotations, PolygonView, HasPlaces, one_down, turned, across, TurnsRound, IsPlaced, ◌≡◌, ◌≢◌, inl, inr, ℕ, suc, ◌+◌, ◌-◌, ◌<◌, List, length, get_or, ap, sym, ◌∙◌, subst, arith, set, cases_eq, nat_tests, get_or-set_same, get_or-set_other, length-set, slice_index}
 use Rattle.polygon_cut.proofs.PlaceLemmas.{FallingPlaces, falling}
 use Rattle.polygon_cut.proofs.PolygonLemmas.{one_up_below}
 use Rattle.polygon_cut.proofs.RoundLemmas.{GoesRound, round_apart}
 
 pub turns_go_round : {maps : Rotations} {polygon : PolygonView} → TurnsRound maps polygon → 0 < polygon.degree
     → GoesRound polygon.degree (turned maps polygon) 0
-turns_go_round {maps} {polygon} t some = record {
-  permutes = record {
-    within = λ i l. one_up_below polygon.degree (across maps polygon i) (t.across_within i l);
-    injective = t.injective;
-  };
-  start = some;
-  all = t.reaches;
-}
+turns_go_round {maps} {polygon} t some = grind (arith, one_up_below, across)
 
 -- as far as the turning has come: at which spoke it is, and the place that this gets
 pub record IsTurning (degree : ℕ) (f : ℕ → ℕ) (turns : ℕ) (places : List ℕ) (spoke place : ℕ) : Type 0 where
@@ -82,6 +73,5 @@ pub places_are : {maps : Rotations} {polygon : PolygonView} → TurnsRound maps 
     → IsPlaced polygon.degree (turned maps polygon) polygon.degree polygon.places → HasPlaces maps polygon
 places_are {maps} {polygon} t some h =
     let g : GoesRound polygon.degree (turned maps polygon) 0 = turns_go_round t some in
-    let fall : FallingPlaces polygon.degree (turned maps polygon) (slice_index polygon.places) = falling g.permutes some t.reaches
-    (record { first = h.first some; others = h.others }) in
+    let fall : FallingPlaces polygon.degree (turned maps polygon) (slice_index polygon.places) = grind (arith, falling) in
     record { each_spoke = h.each_spoke; below = fall.below; apart = fall.apart; falls = fall.falls }

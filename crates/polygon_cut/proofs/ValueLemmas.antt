@@ -1,6 +1,6 @@
 -- Values of darts in a group, where each face has the value one: each dart has the value of two spokes, those of the labels at its
 -- tail and at its head. First the tree and leftover edges, then the cotree, from its leaves up to the root face.
-use Rattle.polygon_cut.proofs.Common.{step_first, rotation_system, darts_of, after_steps, OrientedMesh, IsOrientedSurface, Rotations, rotations_of, IsRotationSystem, ◌≡◌, ◌≢◌, ◌⊎◌, inl, inr, ℕ, zero, suc, ◌+◌, ◌<◌, ◌≤◌, Bool, true, List, [], ◌∷◌, length, refl, ap, sym, ◌∙◌, subst, arith, cases_eq, both_ways, Option, Some, None, IsPath, one_of_three, OneOfThree, tree_one, cotree_one, left_one, faces_upward, few_up, no_loop, SplitView, IsSplit, in_tree, in_cotree, is_left, below_edge, IsStepUp, StepsUp}
+use Rattle.polygon_cut.proofs.Common.{step_first, rotation_system, darts_of, after_steps, OrientedMesh, IsOrientedSurface, Rotations, rotations_of, IsRotationSystem, ◌≡◌, ◌≢◌, ◌⊎◌, inl, inr, ℕ, zero, suc, ◌+◌, ◌<◌, ◌≤◌, Bool, true, List, ◌∷◌, length, refl, ap, sym, ◌∙◌, subst, arith, cases_eq, both_ways, Option, Some, None, IsPath, one_of_three, OneOfThree, tree_one, cotree_one, left_one, faces_upward, few_up, no_loop, SplitView, IsSplit, in_tree, in_cotree, is_left, below_edge, IsStepUp, StepsUp}
 use Rattle.polygon_cut.proofs.GroupLemmas.{IsGroup, quotient, inverse_of_quotient, middle, left_factor}
 
 -- the product of the values of k darts round a face
@@ -24,8 +24,7 @@ pub telescopes : {X : Type 0} {Same : X → X → Type 0} {mul : X → X → X} 
     → (val spoke : ℕ → X) (label next : ℕ → ℕ)
     → (k d : ℕ) → ((j : ℕ) → j < k → Same (val (after_steps next j d)) (by_labels mul inv spoke label next (after_steps next j d)))
     → Same (round mul one val next k d) (quotient mul inv (spoke (label d)) (spoke (label (after_steps next k d))))
-telescopes {mul} {inv} {one} g val spoke label next zero d h =
-    g.turn (quotient mul inv (spoke (label d)) (spoke (label d))) one (g.cancels (spoke (label d)))
+telescopes {mul} {inv} {one} g val spoke label next zero d h = grind arith
 telescopes {Same} {mul} {inv} {one} g val spoke label next (suc k) d h =
     let rest : Same (round mul one val next k (next d))
     (quotient mul inv (spoke (label (next d))) (spoke (label (after_steps next k (next d))))) =
@@ -95,8 +94,7 @@ across_cotree {Same} {mul} {inv} {one} g {s} {split} {val} {spoke} {label} o v d
     let twin_in : twin < darts_of s = r.twin_within d l in
     let twin_is : in_cotree split (maps.edge twin) ≡ true = ap (in_cotree split) (sym ((r.edges d twin l twin_in).1 (inr refl))) ∙ is in
     let one_end : label (maps.next twin) ≡ label d = v.of_cotree d l is in
-    let other_end : label (maps.next d) ≡ label twin = ap (λ x. label (maps.next x)) (sym (r.twin_back d l))
-    ∙ v.of_cotree twin twin_in twin_is in
+    let other_end : label (maps.next d) ≡ label twin = grind arith in
     let turned : Same (val twin) (quotient mul inv (spoke (label (maps.next d))) (spoke (label d))) =
     g.on (val twin) (inv (val d)) (quotient mul inv (spoke (label (maps.next d))) (spoke (label d))) (v.twins d l)
     (g.on (inv (val d)) (inv (quotient mul inv (spoke (label d)) (spoke (label (maps.next d)))))

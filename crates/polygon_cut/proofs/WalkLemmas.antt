@@ -1,5 +1,5 @@
 -- Walks as ways: two walks with common ends are ways from one vertex to one vertex.
-use Rattle.polygon_cut.proofs.Common.{◌≡◌, ℕ, suc, List, [], ◌∷◌, length, refl, ap, sym, ◌∙◌, subst, arith, All, IsTrue, slice_index, Linked, links, FaceList, is_used, IsWalk, HaveCommonEnds, darts}
+use Rattle.polygon_cut.proofs.Common.{◌≡◌, ℕ, suc, List, [], ◌∷◌, length, refl, sym, subst, arith, All, IsTrue, slice_index, Linked, links, FaceList, is_used, IsWalk, HaveCommonEnds, darts}
 use Rattle.polygon_cut.proofs.WayLemmas.{IsWay}
 
 -- a walk is a way to its last entry
@@ -17,7 +17,6 @@ pub other_way : (mesh : FaceList) (u v : ℕ) (rest others : List ℕ) → IsWal
 other_way mesh u v rest others w ends =
     let last : length rest ≡ darts (u ∷ rest) = omega arith in
     let other_last : length others ≡ darts (v ∷ others) = omega arith in
-    let same_end : slice_index (u ∷ rest) (length rest) ≡ slice_index (v ∷ others) (length others) =
-    ap (slice_index (u ∷ rest)) last ∙ ends.ends ∙ sym (ap (slice_index (v ∷ others)) other_last) in
+    let same_end : slice_index (u ∷ rest) (length rest) ≡ slice_index (v ∷ others) (length others) = grind arith in
     subst (λ x. IsWay mesh x (slice_index (u ∷ rest) (length rest)) others) (sym ends.starts)
     (subst (λ x. IsWay mesh v x others) (sym same_end) (walk_way mesh v others w))

@@ -1,7 +1,5 @@
 -- A walk once along a ring that holds every dart gives the labels of a polygon.
-use Rattle.polygon_cut.proofs.Common.{steps_within, steps_add, after_steps, Rotations, ◌≡◌, ◌≢◌, inl, inr, ℕ, suc, ◌+◌, ◌-◌, ◌<◌, ◌≤◌, Bool, true, false, List, [], ◌∷◌, ◌++◌, length, get_or, refl, ap, sym, ◌∙◌, subst, arith, set, cases_Bool, cases_eq, cases_lt, both_ways, nat_tests, get_or-set_same, get_or-set_other, length-set, length_push, get_or_push, get_or_append_left, slice_index, count_below}
-use Rattle.polygon_cut.specs.Polygons.{IsLabelled, IsFirstLeft, one_up}
-use Rattle.polygon_cut.specs.StoredPolygons.{IsWalked, left_at, left_before}
+use Rattle.polygon_cut.proofs.Common.{steps_within, steps_add, after_steps, Rotations, IsLabelled, IsFirstLeft, one_up, IsWalked, left_at, left_before, ◌≡◌, ◌≢◌, inl, inr, ℕ, suc, ◌+◌, ◌-◌, ◌<◌, ◌≤◌, Bool, true, false, List, [], ◌∷◌, ◌++◌, length, get_or, refl, ap, sym, ◌∙◌, subst, arith, set, cases_Bool, cases_eq, cases_lt, nat_tests, common_steps, slice_index, count_below}
 use Rattle.polygon_cut.proofs.CountLemmas.{IsCounted, count_rises, count_passes, count_selects}
 use Rattle.polygon_cut.proofs.RoundLemmas.{GoesRound, round_home, round_apart, round_reaches}
 
@@ -9,55 +7,19 @@ use Rattle.polygon_cut.proofs.RoundLemmas.{GoesRound, round_home, round_apart, r
 labels_more : {maps : Rotations} {ring : ℕ → ℕ} {left : ℕ → Bool} {start j : ℕ} {sides labels : List ℕ} → GoesRound maps.darts ring start
     → j < maps.darts → IsWalked maps ring left start j sides labels → (k : ℕ) → k < suc j
     → get_or (set labels (after_steps ring j start) (length sides)) (after_steps ring k start) 0 ≡ left_before maps ring left start k
-labels_more {maps} {ring} {left} {start} {j} {sides} {labels} h l w k b = elim (cases_eq k j) [
-  | inl same ↦
-      let within : after_steps ring j start < length labels =
-      omega (arith, steps_within maps.darts ring h.permutes j start h.start, w.each_dart) in
-      ap (λ (m : ℕ). get_or (set labels (after_steps ring j start) (length sides)) (after_steps ring m start) 0) same
-      ∙ get_or-set_same labels (after_steps ring j start) (length sides) 0 within ∙ w.each_left
-      ∙ ap (left_before maps ring left start) (sym same)
-  | inr other ↦
-      let less : k < j = omega (arith, b, other) in
-      get_or-set_other labels (after_steps ring j start) (after_steps ring k start) (length sides) 0
-      (λ e. round_apart h k j less l e) ∙ w.labels_are k less
-]
+labels_more {maps} {ring} {left} {start} {j} {sides} {labels} h l w k b = grind (arith, common_steps, steps_within, round_apart)
 
 pub walked_left : {maps : Rotations} {ring : ℕ → ℕ} {left : ℕ → Bool} {start j : ℕ} {sides labels : List ℕ}
     → GoesRound maps.darts ring start
     → j < maps.darts → left_at maps ring left start j ≡ true → IsWalked maps ring left start j sides labels
     → IsWalked maps ring left start (suc j) (sides ++ after_steps ring j start ∷ []) (set labels (after_steps ring j start) (length sides))
-walked_left {maps} {ring} {left} {start} {j} {sides} {labels} h l is w = record {
-  each_dart = length-set labels (after_steps ring j start) (length sides) ∙ w.each_dart;
-  each_left = (let one : left_before maps ring left start (suc j) ≡ left_before maps ring left start j + 1 = rw is refl in omega
-      (arith, one, length_push sides (after_steps ring j start), w.each_left));
-  sides_are = λ k b k_left. elim (cases_eq k j) [
-    | inl same ↦
-        ap (λ (m : ℕ). get_or (sides ++ after_steps ring j start ∷ []) (left_before maps ring left start m) 0) same
-        ∙ get_or_push sides (after_steps ring j start) 0 (left_before maps ring left start j) w.each_left
-        ∙ ap (λ (m : ℕ). after_steps ring m start) (sym same)
-    | inr other ↦
-        let less : k < j = omega (arith, b, other) in
-        let few : left_before maps ring left start k < length sides =
-        omega (arith, count_passes (left_at maps ring left start) k j less k_left, w.each_left) in
-        get_or_append_left sides (after_steps ring j start ∷ []) 0 (left_before maps ring left start k) few ∙ w.sides_are k less k_left
-  ];
-  labels_are = labels_more h l w;
-}
+walked_left {maps} {ring} {left} {start} {j} {sides} {labels} h l is w = grind (arith, common_steps, count_passes, labels_more)
 
 pub walked_other : {maps : Rotations} {ring : ℕ → ℕ} {left : ℕ → Bool} {start j : ℕ} {sides labels : List ℕ}
     → GoesRound maps.darts ring start
     → j < maps.darts → left_at maps ring left start j ≡ false → IsWalked maps ring left start j sides labels
     → IsWalked maps ring left start (suc j) sides (set labels (after_steps ring j start) (length sides))
-walked_other {maps} {ring} {left} {start} {j} {sides} {labels} h l none w = record {
-  each_dart = length-set labels (after_steps ring j start) (length sides) ∙ w.each_dart;
-  each_left = (let one : left_before maps ring left start (suc j) ≡ left_before maps ring left start j + 0 = rw none refl in omega
-      (arith, one, w.each_left));
-  sides_are = λ k b k_left. elim (cases_eq k j) [
-    | inl same ↦ absurd (both_ways (left_at maps ring left start j) none (ap (left_at maps ring left start) (sym same) ∙ k_left))
-    | inr other ↦ w.sides_are k (omega (arith, b, other)) k_left
-  ];
-  labels_are = labels_more h l w;
-}
+walked_other {maps} {ring} {left} {start} {j} {sides} {labels} h l none w = grind (arith, common_steps, labels_more)
 
 -- what a whole walk, up to the leftover dart `last`, has of the ring
 pub record IsWholeWalk (maps : Rotations) (ring : ℕ → ℕ) (left : ℕ → Bool) (last : ℕ) (sides labels : List ℕ) : Type 0 where
@@ -72,8 +34,7 @@ last_at : {maps : Rotations} {ring : ℕ → ℕ} {left : ℕ → Bool} {last : 
 last_at {maps} {ring} {last} h =
     let n : ℕ = maps.darts in
     let one : suc (n - 1) ≡ n = omega (arith, h.last_in) in
-    let home : ring (after_steps ring (n - 1) (ring last)) ≡ ring last =
-    ap (λ (m : ℕ). after_steps ring m (ring last)) one ∙ round_home h.round in
+    let home : ring (after_steps ring (n - 1) (ring last)) ≡ ring last = grind (arith, round_home) in
     h.round.permutes.injective (after_steps ring (n - 1) (ring last)) last
     (steps_within n ring h.round.permutes (n - 1) (ring last) h.round.start) h.last_in home
 
@@ -86,27 +47,13 @@ last_passes {maps} {left} h = ap (λ (d : ℕ). left (maps.edge d)) (last_at h) 
 few_before : {maps : Rotations} {ring : ℕ → ℕ} {left : ℕ → Bool} {last : ℕ} {sides labels : List ℕ}
     → IsWholeWalk maps ring left last sides labels
     → (k : ℕ) → k < maps.darts → left_before maps ring left (ring last) k < length sides
-few_before {maps} {ring} {left} {last} h k l =
-    omega (
-      arith,
-      count_rises (left_at maps ring left (ring last)) k (maps.darts - 1) (omega (arith, l)),
-      count_passes (left_at maps ring left (ring last)) (maps.darts - 1) maps.darts (omega (arith, l)) (last_passes h),
-      h.walked.each_left,
-    )
+few_before {maps} {ring} {left} {last} h k l = grind (arith, count_rises, count_passes, last_passes)
 
 -- the last side is the dart where the walk ends
 pub last_is : {maps : Rotations} {ring : ℕ → ℕ} {left : ℕ → Bool} {last : ℕ} {sides labels : List ℕ}
     → IsWholeWalk maps ring left last sides labels
     → slice_index sides (length sides - 1) ≡ last
-last_is {maps} {ring} {left} {last} {sides} h =
-    let p : ℕ → Bool = left_at maps ring left (ring last) in
-    let n : ℕ = maps.darts in
-    let one : suc (n - 1) ≡ n = omega (arith, h.last_in) in
-    let more : count_below p (suc (n - 1)) ≡ count_below p (n - 1) + 1 = rw (last_passes h) refl in
-    let all : count_below p (suc (n - 1)) ≡ count_below p n = ap (count_below p) one in
-    let before : length sides - 1 ≡ count_below p (n - 1) = omega (arith, more, all, h.walked.each_left) in
-    ap (slice_index sides) before ∙ h.walked.sides_are (n - 1) (omega (arith, h.last_in)) (last_passes h)
-    ∙ last_at h
+last_is {maps} {ring} {left} {last} {sides} h = grind (arith, last_passes, last_at)
 
 pub walk_labels : {maps : Rotations} {ring : ℕ → ℕ} {left : ℕ → Bool} {last : ℕ} {sides labels : List ℕ} (places : List ℕ)
     → IsWholeWalk maps ring left last sides labels

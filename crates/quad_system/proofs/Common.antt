@@ -1,6 +1,6 @@
--- What proofs of this crate cite of others, passed on from one place (by tools/imports). Declares nothing.
+-- What proofs of this crate cite of its definitions and of other crates, passed on from one place (by tools/imports). Declares nothing.
 pub use Rattle.flat_forms.specs.Pairs.{spokes_of, sum_of_pairs}
-pub use Rattle.flat_forms.specs.Vectors.{Vector, origin, unit_step}
+pub use Rattle.flat_forms.specs.Vectors.{origin, unit_step}
 pub use Rattle.halfedge_map.proofs.DartLemmas.{corner_of_end, corner_of_start, dart_starts, end_flipped, end_kept, numbered, one_face, one_place, origin_under, start_flipped, start_kept, target_under}
 pub use Rattle.halfedge_map.proofs.EdgeLemmas.{dart_between, edge-twin}
 pub use Rattle.halfedge_map.proofs.NumberLemmas.{HasSide, IsNumberOf, number_below, side_with_number}
@@ -29,17 +29,19 @@ pub use Rattle.polygon_cut.proofs.TreeWayLemmas.{tree_ways, up}
 pub use Rattle.polygon_cut.proofs.WalkLemmas.{other_way, walk_way}
 pub use Rattle.polygon_cut.specs.Polygons.{IsCutFrom, KindLabels, PolygonView, across, label_of, one_down, one_up, place_of, side_at}
 pub use Rattle.polygon_cut.specs.SpokeLoops.{AreWaysUp, HasFreeSpokes, HaveFreeSpokes, across_last, by_loop, last_side, path_loop, spokes_along}
+pub use Rattle.quad_system.specs.PolygonLabellings.{HasOneSide, IsFull, IsLeftoverSide, all_zero, at_corners, face_labels, labelling_from, numbers_alone}
 pub use Rattle.spoke_paths.proofs.StepsKeep.{KeepsSteps}
 pub use Rattle.spoke_paths.proofs.WordsKeep.{IsQuadWheel, partner_is, quad_of, same_word}
-pub use Rattle.std.proofs.Common.{Bool, List, ap, ap₂, arith, cond, drop, eqb, false, get_or, inl, inr, length, lit<, map, nat_eq, not, pos, refl, subst, suc, sym, take, true, zero, ℕ, [], ◌&&◌, ◌*◌, ◌++◌, ◌+ℤ◌, ◌+◌, ◌-◌, ◌<◌, ◌^◌, ◌↔◌, ◌∙◌, ◌∷◌, ◌≡◌, ◌≢◌, ◌≤◌, ◌⊎◌}
-pub use Rattle.std.proofs.lemmas.Bool.{and_parts, both_ways, cases_Bool, cases_eq, eq-eqb, eqb-true, false≢true, lt-ltb, ne_eqb}
+pub use Rattle.std.proofs.Common.{Bool, List, ap, arith, cond, drop, eqb, false, get_or, inl, inr, length, lit<, map, not, pos, refl, subst, suc, sym, take, true, zero, ℕ, [], ◌&&◌, ◌++◌, ◌+ℤ◌, ◌+◌, ◌-◌, ◌<◌, ◌^◌, ◌↔◌, ◌∙◌, ◌∷◌, ◌≡◌, ◌≢◌, ◌≤◌, ◌⊎◌}
+pub use Rattle.std.proofs.lemmas.Bool.{and_parts, both_ways, cases_Bool, cases_eq, eq-eqb, eqb-true, false≢true}
 pub use Rattle.std.proofs.lemmas.Bool.Decides.{nat_tests}
-pub use Rattle.std.proofs.lemmas.List.{drop-drop, drop_at, get_or-append_right, get_or-drop, get_or-map, get_or-take, get_or_append_left, length-append, length-drop, length-map, length-take-le, length_push, map-append, take_all, take_at, take_more, with_items_is}
+pub use Rattle.std.proofs.lemmas.Grind.{common_steps, same_number_lists}
+pub use Rattle.std.proofs.lemmas.List.{drop-drop, drop_at, get_or-drop, get_or-map, get_or-take, length-append, length-drop, length-map, length-take-le, length_push, map-append, take_all, take_at, take_more, with_items_is}
 pub use Rattle.std.proofs.lemmas.List.Elements.{All-append, All-cons, All-contains, All-from_get_or, All-nil}
 pub use Rattle.std.proofs.lemmas.List.FromFn.{get_or-enumerate_from, get_or-map-range_with_len, length-enumerate_from, length-map-range_with_len}
 pub use Rattle.std.proofs.lemmas.Result.{IfOk-weaker}
 pub use Rattle.std.specs.List.{between, enumerate_from, list_all, range_with_len}
-pub use Rattle.std.specs.Prelude.{All, IfOk, if◌then◌else◌, nat_lt, slice_index, ◌==◌}
+pub use Rattle.std.specs.Prelude.{All, if◌then◌else◌, slice_index, ◌==◌}
 pub use Rattle.surf_model.proofs.EdgeLemmas.{step_within}
 pub use Rattle.surf_model.specs.Darts.{IsSide, first_side, head_of, side_after, side_number, tail_of}
 pub use Rattle.surf_model.specs.FaceLists.{FaceList, FaceSide, HasFileSize, IsFace, IsFaceList, face_at, joins, next_corner, total_sides}

@@ -1,11 +1,10 @@
 -- Walks with common ends are homotopic exactly where they have one canonical word.
 -- From one word to moves: their turn words reach one word, so they read to the same product
 -- of spokes, and the walks are these products.
-use Rattle.quad_system.proofs.Common.{OrientedMesh, IsOrientedSurface, rotations_of, quad_path_below, hyper_wheel_of_good, one_word_of_homotopic, IsGood, LabellingView, quad_path, IsWay, SameLoop, loop_of, from_loops, Loops, group_of, up, tree_ways, walk_way, other_way, PolygonView, IsCutFrom, across, same_word, ◌≡◌, ◌↔◌, ℕ, ◌<◌, ◌≤◌, List, [], ◌∷◌, length, sym, subst, arith, slice_index, Homotopic, IsWalk, HaveCommonEnds, SplitView, IsSplit}
+use Rattle.quad_system.proofs.Common.{OrientedMesh, IsOrientedSurface, rotations_of, quad_path_below, hyper_wheel_of_good, one_word_of_homotopic, IsGood, LabellingView, quad_path, IsWay, SameLoop, loop_of, from_loops, Loops, group_of, up, tree_ways, walk_way, other_way, PolygonView, IsCutFrom, across, labelling_from, same_word, ◌≡◌, ◌↔◌, ℕ, ◌<◌, ◌≤◌, List, [], ◌∷◌, length, sym, subst, arith, slice_index, Homotopic, IsWalk, HaveCommonEnds, SplitView, IsSplit}
 use Rattle.turn_words.specs.Canonical.{IsCanonicalOf}
 use Rattle.turn_words.specs.SpokePaths.{turn_word_of}
 use Rattle.turn_words.specs.declared.word.Word.TheVariants.{Turns}
-use Rattle.quad_system.specs.PolygonLabellings.{labelling_from}
 use Rattle.quad_system.proofs.PolygonLabelLemmas.{polygon_good}
 use Rattle.quad_system.proofs.PushWorthLemmas.{loop_of_path}
 use Rattle.quad_system.proofs.FreePathLemmas.{places_wheel}
@@ -47,12 +46,8 @@ pub one_word : (s : OrientedMesh) (split : SplitView) (polygon : PolygonView) (f
     → IsCanonicalOf polygon.degree (turn_word_of polygon.places (quad_path s.mesh (labelling_from s polygon) first)) one
     → IsCanonicalOf polygon.degree (turn_word_of polygon.places (quad_path s.mesh (labelling_from s polygon) second)) two
     → Homotopic s.mesh first second ↔ (one ≡ two)
-one_word s split polygon [] second one two o t c five w z ends f g =
-    let none : 0 < 0 = w.starts in
-    absurd (omega arith)
-one_word s split polygon (u ∷ rest) [] one two o t c five w z ends f g =
-    let none : 0 < 0 = z.starts in
-    absurd (omega arith)
+one_word s split polygon [] second one two o t c five w z ends f g = grind arith
+one_word s split polygon (u ∷ rest) [] one two o t c five w z ends f g = grind arith
 one_word s split polygon (u ∷ rest) (v ∷ others) one two o t c five w z ends f g = (
   (λ homotopic.
       let same : Turns one ≡ Turns two =

@@ -1,11 +1,10 @@
 -- Walks on a torus: with four sides, walks with common ends are homotopic exactly where their quad paths lead the flat form to one
 -- point. From one point to moves: a walk is the product of its spokes, and that product depends on the point alone.
-use Rattle.quad_system.proofs.Common.{spokes_of, sum_of_pairs, origin, OrientedMesh, IsOrientedSurface, rotations_of, PutLaws, flat_wheel_of_good, quad_path_below, quad_path_in_pairs, quad_path_leads_to_sum, IsGood, LabellingView, quad_path, IsGroup, quotient, IsWay, SameLoop, loop_mul, loop_inv, loop_one, loop_of, from_loops, spoke_product, Loops, spoke, group_of, up, tree_ways, walk_way, other_way, PolygonView, IsCutFrom, place_of, across, ◌≡◌, ◌↔◌, inl, inr, ℕ, suc, ◌<◌, true, List, [], ◌∷◌, length, ap, sym, ◌∙◌, subst, arith, cases_eq, All, slice_index, Homotopic, IsWalk, HaveCommonEnds, SplitView, IsSplit, led, add-cases, add-lt, add, minus}
+use Rattle.quad_system.proofs.Common.{spokes_of, sum_of_pairs, origin, OrientedMesh, IsOrientedSurface, rotations_of, PutLaws, flat_wheel_of_good, quad_path_below, quad_path_in_pairs, quad_path_leads_to_sum, IsGood, LabellingView, quad_path, IsGroup, quotient, IsWay, SameLoop, loop_mul, loop_inv, loop_one, loop_of, from_loops, spoke_product, Loops, spoke, group_of, up, tree_ways, walk_way, other_way, PolygonView, IsCutFrom, place_of, across, labelling_from, ◌≡◌, ◌↔◌, inl, inr, ℕ, suc, ◌<◌, true, List, [], ◌∷◌, length, ap, sym, ◌∙◌, subst, arith, cases_eq, All, slice_index, Homotopic, IsWalk, HaveCommonEnds, SplitView, IsSplit, led, add-cases, add-lt, add, minus}
 use Rattle.flat_forms.specs.FlatStates.{IsEven, IsFlatWheel, flat_next}
 use Rattle.flat_forms.specs.Lemmas.FlatLaws.{flat_starts, flat_stays, flat_there_and_back, flat_across}
 use Rattle.labellings.proofs.KeepingLemmas.{moves_keep}
 use Rattle.labellings.specs.WalkWords.{in_pairs}
-use Rattle.quad_system.specs.PolygonLabellings.{labelling_from}
 use Rattle.quad_system.proofs.PolygonLabelLemmas.{polygon_good}
 use Rattle.quad_system.proofs.ReadingLemmas.{HasQuads}
 use Rattle.quad_system.proofs.SpokeProductLemmas.{polygon_quads, spoke_at, walk_product}
@@ -206,12 +205,8 @@ pub one_sum : (s : OrientedMesh) (split : SplitView) (polygon : PolygonView) (fi
     → Homotopic s.mesh first second
     ↔ (led flat_next polygon.places origin (quad_path s.mesh (labelling_from s polygon) first) ≡ led flat_next polygon.places origin
     (quad_path s.mesh (labelling_from s polygon) second))
-one_sum s split polygon [] second o t c four w z ends =
-    let none : 0 < 0 = w.starts in
-    absurd (omega arith)
-one_sum s split polygon (u ∷ rest) [] o t c four w z ends =
-    let none : 0 < 0 = z.starts in
-    absurd (omega arith)
+one_sum s split polygon [] second o t c four w z ends = grind arith
+one_sum s split polygon (u ∷ rest) [] o t c four w z ends = grind arith
 one_sum s split polygon (u ∷ rest) (v ∷ others) o t c four w z ends = (
   (λ homotopic.
       let good : IsGood s.mesh (labelling_from s polygon) = polygon_good s split polygon o t c (omega arith) in

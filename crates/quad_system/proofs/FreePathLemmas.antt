@@ -1,7 +1,6 @@
 -- The spokes of a walk with those of the side across in place of the last side's: every form that meets the two laws is led to the same
 -- state as by the quad path.
-use Rattle.quad_system.proofs.Common.{dart_between, rotation_system, darts_of, next_of, origin_of, edge_of, OrientedMesh, IsOrientedSurface, rotations_of, IsDartFrom, PutLaws, pair, pair_belongs, led-append, labels_do, spokes, spokes_by_labels, quad_path, labels_ride, IsWay, Crosses, sides_cross, up_plain, walk_way, PolygonView, IsCutFrom, label_of, place_of, across, one_up, HasFreeSpokes, HaveFreeSpokes, last_side, across_last, spokes_along, IsQuadWheel, quad_of, ◌≡◌, ◌≢◌, inl, inr, ℕ, ◌+◌, ◌-◌, ◌<◌, true, not, List, [], ◌∷◌, length, refl, ap, sym, ◌∙◌, subst, arith, cases_eq, nat_tests, All-append, All-nil, All-cons, All, slice_index, IsWalk, after_dart, SplitView, IsSplit, in_cotree, is_left, IsQuad, led, add}
-use Rattle.quad_system.specs.PolygonLabellings.{labelling_from}
+use Rattle.quad_system.proofs.Common.{dart_between, rotation_system, darts_of, next_of, edge_of, OrientedMesh, IsOrientedSurface, rotations_of, IsDartFrom, PutLaws, pair, pair_belongs, led-append, labels_do, spokes, spokes_by_labels, quad_path, labels_ride, IsWay, Crosses, sides_cross, up_plain, walk_way, PolygonView, IsCutFrom, label_of, place_of, across, one_up, HasFreeSpokes, HaveFreeSpokes, last_side, across_last, spokes_along, labelling_from, IsQuadWheel, quad_of, ◌≡◌, ◌≢◌, inl, inr, ℕ, ◌+◌, ◌-◌, ◌<◌, true, not, List, [], ◌∷◌, length, refl, ap, sym, ◌∙◌, subst, arith, cases_eq, nat_tests, All-append, All-nil, All-cons, All, slice_index, IsWalk, after_dart, SplitView, IsSplit, in_cotree, is_left, IsQuad, led, add}
 use Rattle.quad_system.proofs.PolygonLabelLemmas.{up_is_add}
 use Rattle.quad_system.proofs.SpokeProductLemmas.{DartSpokes, dart_spokes, places_quads, spoke_at}
 
@@ -110,9 +109,7 @@ own_leads : {State : Type 0} (s : OrientedMesh) (split : SplitView) (polygon : P
 own_leads s split polygon o t c some next Belongs IsAtVertex laws u v d from x b at =
     let labels : DartSpokes s polygon d = dart_spokes s split polygon o t c some d from.within in
     let own : spokes s.mesh (labelling_from s polygon) u v ≡ spokes_by_labels (label_of polygon d) (label_of polygon (next_of s d))
-    labels.c labels.e =
-    ap (λ y. spokes s.mesh (labelling_from s polygon) y v) (sym from.starts)
-    ∙ ap (spokes s.mesh (labelling_from s polygon) (origin_of s d)) (sym from.ends) ∙ labels.are in
+    labels.c labels.e = grind (arith, spokes) in
     ap (led next polygon.places x) own
     ∙ labels_do polygon.places next Belongs IsAtVertex laws (label_of polygon d) (label_of polygon (next_of s d)) labels.c labels.e
     (labels_in s split polygon o c some d from.within).0 x b

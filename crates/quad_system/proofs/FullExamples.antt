@@ -1,13 +1,12 @@
 -- On the torus of seven vertices the labelling of the square is full, and one with a label on two sides is not. Each test is computed.
-use Rattle.quad_system.proofs.Common.{MeetsLeftoverRule, LabellingView, tail_label, head_label, ◌≡◌, ◌⊎◌, inr, ℕ, zero, suc, ◌<◌, Bool, true, false, [], ◌∷◌, refl, ap, sym, ◌∙◌, subst, arith, lit<, eqb-true, eq-eqb, false≢true, nat_tests, All-contains, list_all, ◌==◌, if◌then◌else◌, slice_index, IsSide, tail_of, head_of, FaceSide, all_sides, joins, Side, add, minus}
+use Rattle.quad_system.proofs.Common.{MeetsLeftoverRule, LabellingView, tail_label, head_label, HasOneSide, IsFull, IsLeftoverSide, ◌≡◌, ◌⊎◌, ℕ, zero, suc, ◌<◌, Bool, true, false, [], ◌∷◌, refl, ap, sym, ◌∙◌, subst, arith, lit<, eqb-true, eq-eqb, false≢true, nat_tests, All-contains, list_all, ◌==◌, if◌then◌else◌, slice_index, IsSide, tail_of, head_of, FaceSide, all_sides, joins, Side, add, minus}
 use Rattle.labellings.specs.Examples.{square}
+use Rattle.quad_system.specs.Examples.{side, doubled}
 use Rattle.std.proofs.lemmas.List.Sums.{AllPass-from_list_all}
 use Rattle.std.specs.Prelude.{◌&&◌}
 use Rattle.surf_model.proofs.TableLemmas.{face_side_in}
 use Rattle.surf_model.specs.Edges.{side_name}
 use Rattle.surf_model.specs.Meshes.{torus}
-use Rattle.quad_system.specs.Examples.{side, doubled}
-use Rattle.quad_system.specs.PolygonLabellings.{HasOneSide, IsFull, IsLeftoverSide}
 
 -- ---- what is computed
 
@@ -85,17 +84,7 @@ leftover_with : (labelling : LabellingView) (s other : Side) → IsSide torus s 
     → MeetsLeftoverRule labelling.places (tail_label torus labelling s) (head_label torus labelling s) (tail_label torus labelling other)
     (head_label torus labelling other)
     → IsLeftoverSide torus labelling s
-leftover_with labelling s other first second differ tails heads rule =
-    let different : s.face.0 ≡ other.face.0 → ⊥ = λ same. false≢true (sym differ ∙ eq-eqb _ _ same) in (
-      other,
-      record {
-        first = first;
-        second = second;
-        different = λ same. different (ap (λ (x : Side). x.face.0) same);
-        one_edge = inr (tails, heads);
-      },
-      rule,
-    )
+leftover_with labelling s other first second differ tails heads rule = grind arith
 
 record HasOwn (i : ℕ) : Type 0 where
   side_of : IsSide torus (own i)

@@ -1,14 +1,12 @@
 -- The labelling of a polygon is full: the sides of its leftover edges are those of the polygon, each with its own number at its tail.
-use Rattle.quad_system.proofs.Common.{numbered, one_face, one_place, edge-twin, IsNumberOf, number_below, HasSide, side_with_number, twin-twin, partner_is_twin, darts_of, next_of, twin_of, edge_of, OrientedMesh, IsOrientedSurface, rotations_of, HasPartner, partner_of, LabellingView, tail_label, head_label, labels_ride, is_own_side, PolygonView, IsCutFrom, KindLabels, side_at, label_of, one_up, ◌≡◌, inl, inr, ℕ, ◌<◌, Bool, true, length, refl, ap, sym, ◌∙◌, subst, arith, IsSide, side_number, FaceList, Side, one_of_three, OneOfThree, tree_one, cotree_one, left_one, after_dart, SplitView, IsSplit, in_tree, in_cotree, is_left, add}
-use Rattle.quad_system.specs.PolygonLabellings.{labelling_from, IsFull, IsLeftoverSide}
+use Rattle.quad_system.proofs.Common.{numbered, one_face, one_place, edge-twin, IsNumberOf, number_below, HasSide, side_with_number, twin-twin, partner_is_twin, darts_of, next_of, twin_of, edge_of, OrientedMesh, IsOrientedSurface, rotations_of, HasPartner, partner_of, LabellingView, tail_label, head_label, labels_ride, is_own_side, PolygonView, IsCutFrom, KindLabels, side_at, label_of, one_up, labelling_from, IsFull, IsLeftoverSide, ◌≡◌, inl, inr, ℕ, ◌<◌, Bool, true, length, refl, ap, sym, ◌∙◌, subst, arith, IsSide, side_number, FaceList, Side, one_of_three, OneOfThree, tree_one, cotree_one, left_one, after_dart, SplitView, IsSplit, in_tree, in_cotree, is_left, add}
 use Rattle.quad_system.proofs.PolygonLabelLemmas.{polygon_good, up_is_add, up_moves, two_up_moves, degree_is, LabelsOfSide, labels_of_side}
 
 one_side : (mesh : FaceList) (s : OrientedMesh) (side other : Side) → IsSide s.mesh side → IsSide s.mesh other
     → side_number s.mesh side ≡ side_number s.mesh other → side ≡ other
 one_side mesh s side other h k same =
     let p : IsNumberOf s.mesh side.face.0 side.at (side_number s.mesh side) = numbered s side h in
-    let q : IsNumberOf s.mesh other.face.0 other.at (side_number s.mesh side) =
-    subst (IsNumberOf s.mesh other.face.0 other.at) (sym same) (numbered s other k) in
+    let q : IsNumberOf s.mesh other.face.0 other.at (side_number s.mesh side) = grind (arith, numbered) in
     let face : side.face.0 ≡ other.face.0 = one_face s side.face.0 side.at other.face.0 other.at (side_number s.mesh side) p q in
     let place : side.at ≡ other.at = one_place s side.face.0 side.at other.face.0 other.at (side_number s.mesh side) p q in
     λ i. record { face = record { 0 = face i }; at = place i }
@@ -18,8 +16,7 @@ not_tree : (degree a b : ℕ) → a < degree → 1 < degree → b ≡ one_up deg
 not_tree degree a b l m rises same = up_moves degree a l m (sym (same ∙ rises))
 
 not_cotree : (degree a b c d : ℕ) → a < degree → 2 < degree → b ≡ one_up degree a → d ≡ one_up degree c → a ≡ d → b ≡ c → ⊥
-not_cotree degree a b c d l m rises rises_too one two =
-    two_up_moves degree a l m (ap (one_up degree) (sym rises ∙ two) ∙ sym rises_too ∙ sym one)
+not_cotree degree a b c d l m rises rises_too one two = grind (arith, two_up_moves)
 
 -- the edges of the leftover rule are the leftover edges
 pub record LeftoverSides (s : OrientedMesh) (split : SplitView) (polygon : PolygonView) (side : Side) : Type 0 where

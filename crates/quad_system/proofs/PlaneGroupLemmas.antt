@@ -1,6 +1,6 @@
 -- Four spokes whose quads hold in a group: the group elements of two sides of a quad commute, and a product of spokes depends on
 -- nothing but how often it goes along each of the two.
-use Rattle.quad_system.proofs.Common.{sum_of_pairs, Vector, unit_step, IsGroup, quotient, ◌≡◌, inl, inr, ℕ, zero, suc, ◌+◌, ◌<◌, List, [], ◌∷◌, refl, ap, ap₂, subst, arith, pos, ◌+ℤ◌, cases_eq, eq-eqb, ne_eqb, if◌then◌else◌, ◌==◌}
+use Rattle.quad_system.proofs.Common.{sum_of_pairs, unit_step, IsGroup, quotient, ◌≡◌, ℕ, zero, suc, ◌+◌, ◌<◌, List, [], ◌∷◌, refl, arith, pos, ◌+ℤ◌, common_steps, if◌then◌else◌, ◌==◌}
 use Rattle.std.proofs.lemmas.Int.{ints}
 
 -- how often each spoke lies along the two sides, from spoke 0 on
@@ -25,22 +25,10 @@ AreBelow n (pair ∷ pairs) = (pair.0 < n) × (pair.1 < n) × AreBelow n pairs
 
 -- the steps of the plane in these numbers
 unit_x : (i : ℕ) → i < 4 → (unit_step i).x +ℤ pos (along_first i + along_second i) ≡ pos 1
-unit_x i l = elim (cases_eq i 0) [
-  | inl e ↦ rw (eq-eqb i 0 e) refl
-  | inr a ↦ rw (ne_eqb i 0 a) (elim (cases_eq i 1) [
-    | inl e ↦ rw (eq-eqb i 1 e) refl
-    | inr b ↦ rw (ne_eqb i 1 b) (elim (cases_eq i 2) [ inl e ↦ rw (eq-eqb i 2 e) refl | inr c ↦ rw (ne_eqb i 2 c) refl ])
-  ])
-]
+unit_x i l = grind arith
 
 unit_y : (i : ℕ) → i < 4 → (unit_step i).y +ℤ pos (along_second i) ≡ pos (along_first i)
-unit_y i l = elim (cases_eq i 0) [
-  | inl e ↦ rw (eq-eqb i 0 e) refl
-  | inr a ↦ rw (ne_eqb i 0 a) (elim (cases_eq i 1) [
-    | inl e ↦ rw (eq-eqb i 1 e) refl
-    | inr b ↦ rw (ne_eqb i 1 b) (elim (cases_eq i 2) [ inl e ↦ rw (eq-eqb i 2 e) refl | inr c ↦ rw (ne_eqb i 2 c) refl ])
-  ])
-]
+unit_y i l = grind arith
 
 sum_x : (pairs : List (ℕ × ℕ)) → AreBelow 4 pairs
     → (sum_of_pairs pairs).x +ℤ pos (over_firsts along_first pairs + over_firsts along_second pairs) ≡ pos
@@ -67,14 +55,7 @@ pub balance : (pairs others : List (ℕ × ℕ)) → AreBelow 4 pairs → AreBel
     → (over_firsts along_first others + over_seconds along_first pairs ≡ over_firsts along_first pairs + over_seconds along_first others)
     × (over_firsts along_second others + over_seconds along_second pairs ≡ over_firsts along_second pairs + over_seconds along_second
     others)
-balance pairs others b c e =
-    let x = sum_x pairs b in
-    let y = sum_y pairs b in
-    let z = sum_x others c in
-    let w = sum_y others c in
-    let same_x : (sum_of_pairs pairs).x ≡ (sum_of_pairs others).x = ap (λ (v : Vector). v.x) e in
-    let same_y : (sum_of_pairs pairs).y ≡ (sum_of_pairs others).y = ap (λ (v : Vector). v.y) e in
-    (omega (arith, ints, x, y, z, w, same_x, same_y), omega (arith, ints, x, y, z, w, same_x, same_y))
+balance pairs others b c e = grind (arith, common_steps, sum_x, sum_y)
 
 module _ {X : Type 0} (Same : X → X → Type 0) (mul : X → X → X) (inv : X → X) (one : X) (g : IsGroup Same mul inv one) where
   pub undo : (x y : X) → Same (mul (quotient mul inv x y) y) x
@@ -116,10 +97,7 @@ module _ {X : Type 0} (Same : X → X → Type 0) (mul : X → X → X) (inv : X
       (g.mul_same a a (mul b (grid mul one a b n l)) (grid mul one a b n (suc l)) (g.itself a) (b_in n l))))
 
   pub grid_add : (n l m k p q : ℕ) → n + m ≡ p → l + k ≡ q → Same (mul (grid mul one a b n l) (grid mul one a b m k)) (grid mul one a b p q)
-  grid_add zero zero m k p q e f =
-      let m_is : m ≡ p = omega arith in
-      let k_is : k ≡ q = omega arith in
-      subst (λ z. Same (mul one (grid mul one a b m k)) z) (ap₂ (grid mul one a b) m_is k_is) (g.one_left (grid mul one a b m k))
+  grid_add zero zero m k p q e f = grind arith
   grid_add zero (suc l) m k p zero e f = absurd (omega arith)
   grid_add zero (suc l) m k p (suc q) e f =
       g.on _ _ _ (g.associates b (times mul one b l) (grid mul one a b m k))

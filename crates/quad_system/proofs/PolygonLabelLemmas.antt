@@ -1,47 +1,15 @@
 -- The labelling of a polygon is good and full: labels ride along the ring of tree and leftover edges.
-use Rattle.quad_system.proofs.Common.{numbered, dart_starts, corner_of_start, corner_of_end, start_kept, start_flipped, end_kept, end_flipped, edge-twin, IsNumberOf, number_below, twin-twin, partner_is_twin, darts_of, next_of, twin_of, edge_of, start_corner_of, end_corner_of, dart_at_corner, OrientedMesh, IsOrientedSurface, rotations_of, IsGood, HasShape, MeetsSomeRule, FaceLabels, LabellingView, labels_at, signs_of, label_at, tail_label, head_label, labels_ride, leftover, four_places, PolygonView, IsCutFrom, KindLabels, label_of, place_of, one_up, one_down, ◌≡◌, ◌≢◌, ◌⊎◌, inl, inr, ℕ, ◌+◌, ◌-◌, ◌*◌, ◌<◌, ◌≤◌, Bool, true, false, List, [], length, get_or, map, refl, ap, sym, ◌∙◌, subst, arith, cases_Bool, cases_eq, eqb-true, eq-eqb, lt-ltb, nat_tests, length-map, get_or-map, All-from_get_or, get_or-map-range_with_len, length-map-range_with_len, get_or-enumerate_from, length-enumerate_from, enumerate_from, range_with_len, All, nat_lt, step_within, IsSide, side_after, side_number, tail_of, head_of, face_at, ArePartners, RunOppositely, is_flipped, start_under, end_under, Side, one_of_three, OneOfThree, tree_one, cotree_one, left_one, SplitView, IsSplit, in_tree, in_cotree, is_left, add, minus}
-use Rattle.std.specs.Prelude.{cond, nat_eq}
-use Rattle.quad_system.specs.PolygonLabellings.{face_labels, labelling_from}
+use Rattle.quad_system.proofs.Common.{numbered, dart_starts, corner_of_start, corner_of_end, start_kept, start_flipped, end_kept, end_flipped, edge-twin, IsNumberOf, number_below, twin-twin, partner_is_twin, darts_of, next_of, twin_of, edge_of, start_corner_of, end_corner_of, dart_at_corner, OrientedMesh, IsOrientedSurface, rotations_of, IsGood, HasShape, MeetsSomeRule, FaceLabels, LabellingView, labels_at, signs_of, label_at, tail_label, head_label, labels_ride, leftover, four_places, PolygonView, IsCutFrom, KindLabels, label_of, place_of, one_up, one_down, face_labels, labelling_from, ◌≡◌, ◌≢◌, ◌⊎◌, inl, inr, ℕ, ◌+◌, ◌-◌, ◌<◌, ◌≤◌, Bool, true, false, List, [], length, get_or, map, refl, ap, sym, ◌∙◌, subst, arith, length-map, get_or-map, All-from_get_or, get_or-map-range_with_len, length-map-range_with_len, get_or-enumerate_from, length-enumerate_from, enumerate_from, range_with_len, All, step_within, IsSide, side_after, side_number, head_of, face_at, ArePartners, RunOppositely, is_flipped, Side, one_of_three, OneOfThree, tree_one, cotree_one, left_one, SplitView, IsSplit, in_tree, in_cotree, is_left, add, minus}
+use Rattle.std.specs.Prelude.{cond}
 
 -- counting round, in the words of the turn words
 pub up_is_add : (degree i : ℕ) → i < degree → add degree i 1 ≡ one_up degree i
 unfolding add
-up_is_add degree i l = elim (cases_eq (i + 1) degree) [
-  | inl last ↦
-      let no_less : nat_lt (i + 1) degree ≡ false = elim (cases_Bool (nat_lt (i + 1) degree)) [
-        | inl less ↦ absurd (let k : i + 1 < degree = grind (arith, nat_tests) in omega arith)
-        | inr other ↦ other
-      ] in
-      let at_end : nat_eq (i + 1) degree ≡ true = eq-eqb (i + 1) degree last in
-      rw (no_less, at_end) (omega arith)
-  | inr more ↦
-      let less : nat_lt (i + 1) degree ≡ true = lt-ltb (i + 1) degree (omega arith) in
-      let not_end : nat_eq (i + 1) degree ≡ false = elim (cases_Bool (nat_eq (i + 1) degree)) [
-        | inl same ↦ absurd (more (eqb-true (i + 1) degree same))
-        | inr other ↦ other
-      ] in
-      rw (less, not_end) refl
-]
+up_is_add degree i l = grind arith
 
 pub down_is_add : (degree i : ℕ) → i < degree → 1 < degree → add degree i (minus degree 1) ≡ one_down degree i
 unfolding add minus
-down_is_add degree i l m = elim (cases_eq i 0) [
-  | inl first ↦
-      let sum : i + (degree - 1) ≡ degree - 1 = omega arith in
-      let less : nat_lt (i + (degree - 1)) degree ≡ true = lt-ltb (i + (degree - 1)) degree (omega arith) in
-      let zero_is : nat_eq i 0 ≡ true = eq-eqb i 0 first in
-      rw (less, zero_is) sum
-  | inr more ↦
-      let no_less : nat_lt (i + (degree - 1)) degree ≡ false = elim (cases_Bool (nat_lt (i + (degree - 1)) degree)) [
-        | inl less ↦ absurd (let k : i + (degree - 1) < degree = grind (arith, nat_tests) in omega arith)
-        | inr other ↦ other
-      ] in
-      let not_zero : nat_eq i 0 ≡ false = elim (cases_Bool (nat_eq i 0)) [
-        | inl same ↦ absurd (more (eqb-true i 0 same))
-        | inr other ↦ other
-      ] in
-      rw (no_less, not_zero) (omega arith)
-]
+down_is_add degree i l m = grind arith
 
 -- what the labelling says of one face, and of one corner
 face_of_labelling : (s : OrientedMesh) (polygon : PolygonView) (f : ℕ) (d : FaceLabels) → f < length s.mesh.faces
@@ -267,37 +235,15 @@ sides_rule s split polygon o t c some side other partners =
         ))
 
 pub up_moves : (degree i : ℕ) → i < degree → 1 < degree → one_up degree i ≢ i
-up_moves degree i l m same = elim (cases_eq (i + 1) degree) [
-  | inl last ↦ (let to : one_up degree i ≡ 0 = grind (arith, nat_tests) in omega arith)
-  | inr more ↦ (let to : one_up degree i ≡ i + 1 = grind (arith, nat_tests) in omega arith)
-]
+up_moves degree i l m same = grind arith
 
 pub two_up_moves : (degree i : ℕ) → i < degree → 2 < degree → one_up degree (one_up degree i) ≢ i
-two_up_moves degree i l m same = elim (cases_eq (i + 1) degree) [
-  | inl last ↦
-      let to : one_up degree i ≡ 0 = grind (arith, nat_tests) in
-      let on : one_up degree 0 ≡ 1 = grind (arith, nat_tests) in
-      let e : 1 ≡ i = sym on ∙ ap (one_up degree) (sym to) ∙ same in
-      omega arith
-  | inr more ↦
-      let to : one_up degree i ≡ i + 1 = grind (arith, nat_tests) in
-      elim (cases_eq (i + 1 + 1) degree) [
-        | inl last ↦ (let on : one_up degree (i + 1) ≡ 0 = grind (arith, nat_tests) in let e : 0 ≡ i = sym on
-            ∙ ap (one_up degree) (sym to) ∙ same in omega arith)
-        | inr further ↦
-            let on : one_up degree (i + 1) ≡ i + 1 + 1 = grind (arith, nat_tests) in
-            let e : i + 1 + 1 ≡ i = sym on ∙ ap (one_up degree) (sym to) ∙ same in
-            omega arith
-      ]
-]
+two_up_moves degree i l m same = grind arith
 
 -- the degree is four or at least eight
 pub degree_is : (s : OrientedMesh) (split : SplitView) (polygon : PolygonView) → IsCutFrom s split polygon → 0 < polygon.degree
     → (polygon.degree ≡ 4) ⊎ (8 ≤ polygon.degree)
-degree_is s split polygon c some = elim (cases_eq split.genus 1) [
-  | inl one ↦ inl (c.degree ∙ ap (λ g. 4 * g) one)
-  | inr more ↦ inr (omega (arith, c.degree, some, more))
-]
+degree_is s split polygon c some = grind arith
 
 shape_of : (s : OrientedMesh) (split : SplitView) (polygon : PolygonView) → IsCutFrom s split polygon → 0 < polygon.degree
     → HasShape s.mesh (labelling_from s polygon)
@@ -331,16 +277,7 @@ pub opposite_under : (s : OrientedMesh) (labelling : LabellingView)
     → ((f : ℕ) → f < length s.mesh.faces → is_flipped (signs_of labelling) f ≡ is_flipped s.signs f)
     → (side other : Side) → ArePartners s.mesh side other → RunOppositely s.mesh s.signs side other
     → RunOppositely s.mesh (signs_of labelling) side other
-opposite_under s labelling flips side other partners r =
-    let one : is_flipped (signs_of labelling) side.face.0 ≡ is_flipped s.signs side.face.0 = flips side.face.0 partners.first.face in
-    let two : is_flipped (signs_of labelling) other.face.0 ≡ is_flipped s.signs other.face.0 = flips other.face.0 partners.second.face in
-    let start : (x : Side) → is_flipped (signs_of labelling) x.face.0 ≡ is_flipped s.signs x.face.0
-    → start_under s.mesh (signs_of labelling) x ≡ start_under s.mesh s.signs x =
-    λ x e. ap (λ (b : Bool). cond b (head_of s.mesh x) (tail_of s.mesh x)) e in
-    let end : (x : Side) → is_flipped (signs_of labelling) x.face.0 ≡ is_flipped s.signs x.face.0
-    → end_under s.mesh (signs_of labelling) x ≡ end_under s.mesh s.signs x =
-    λ x e. ap (λ (b : Bool). cond b (tail_of s.mesh x) (head_of s.mesh x)) e in
-    record { starts = start side one ∙ r.starts ∙ sym (end other two); ends = end side one ∙ r.ends ∙ sym (start other two) }
+opposite_under s labelling flips side other partners r = grind (arith, head_of)
 
 -- the labelling of a polygon is good
 pub polygon_good : (s : OrientedMesh) (split : SplitView) (polygon : PolygonView) → IsOrientedSurface s → IsSplit s split

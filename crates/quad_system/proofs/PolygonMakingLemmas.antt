@@ -1,11 +1,9 @@
 -- The labelling of a polygon as it is made: face after face, in the memory of the polygon's labels.
-use Rattle.quad_system.proofs.Common.{darts_of, dart_at_corner, OrientedMesh, FaceLabels, LabellingView, PolygonView, label_of, ◌≡◌, inl, inr, ℕ, ◌+◌, ◌-◌, ◌<◌, ◌≤◌, ◌^◌, Bool, true, false, cond, nat_eq, List, [], ◌∷◌, ◌++◌, length, get_or, take, drop, map, refl, ap, sym, subst, ◌∙◌, arith, cases_eq, cases_Bool, eq-eqb, eqb-true, take_more, take_all, take_at, drop_at, drop-drop, map-append, length-append, length-drop, length-take-le, length_push, get_or-take, get_or-drop, get_or_append_left, get_or-append_right, get_or-map-range_with_len, length-map-range_with_len, get_or-enumerate_from, length-enumerate_from, between, enumerate_from, range_with_len, All, step_within, first_side, FaceList, IsFace, IsFaceList, HasFileSize, face_at, next_corner, total_sides, is_flipped}
+use Rattle.quad_system.proofs.Common.{darts_of, dart_at_corner, OrientedMesh, FaceLabels, LabellingView, PolygonView, label_of, at_corners, face_labels, labelling_from, numbers_alone, ◌≡◌, ℕ, ◌+◌, ◌-◌, ◌<◌, ◌≤◌, ◌^◌, Bool, true, false, cond, List, [], ◌∷◌, ◌++◌, length, get_or, take, drop, map, refl, ap, sym, subst, ◌∙◌, arith, common_steps, same_number_lists, take_more, take_all, take_at, drop_at, drop-drop, map-append, length-append, length-drop, length-take-le, length_push, get_or-take, get_or-drop, get_or-map-range_with_len, length-map-range_with_len, get_or-enumerate_from, length-enumerate_from, between, enumerate_from, range_with_len, All, step_within, first_side, FaceList, IsFace, IsFaceList, HasFileSize, face_at, next_corner, total_sides, is_flipped}
 use Rattle.labellings.proofs.StoredLabellingLemmas.{stored_labelling-push, IsStoredLabelling-push}
 use Rattle.labellings.specs.StoredLabellings.{with_signs, stored_labelling, IsStoredLabelling}
-use Rattle.std.proofs.lemmas.Grind.{same_number_lists}
 use Rattle.surf_model.proofs.SideNumberLemmas.{first_side-more, first_side-all, side_below}
-use Rattle.surf_model.specs.Parts.{parts, EndsRise}
-use Rattle.quad_system.specs.PolygonLabellings.{at_corners, face_labels, labelling_from, numbers_alone}
+use Rattle.surf_model.specs.Parts.{parts}
 
 -- the labels of the corners of a face
 abbrev pub labels_of_face : OrientedMesh → PolygonView → ℕ → List ℕ
@@ -23,32 +21,13 @@ dart_from_corner s f corner sides flipped long turned = rw (long, turned) refl
 -- putting labels at corners keeps their number
 length-at_corners : (flipped : Bool) (part : List ℕ) → length (at_corners flipped part) ≡ length part
 length-at_corners false part = refl
-length-at_corners true part =
-    let k : ℕ = length part - 1 in
-    omega (arith, length-append (drop k part) (take k part), length-drop k part, length-take-le k part (omega arith))
+length-at_corners true part = grind (arith, common_steps)
 
 -- what stands at a corner: in a flipped face what had the number before
 at_corner : (flipped : Bool) (part : List ℕ) (t : ℕ) → t < length part
     → get_or (at_corners flipped part) t 0 ≡ get_or part (cond flipped (next_corner false (length part) t) t) 0
 at_corner false part t l = refl
-at_corner true part t l =
-    let k : ℕ = length part - 1 in
-    let one : length (drop k part) ≡ 1 = omega (arith, length-drop k part, l) in
-    elim (cases_eq t 0) [
-      | inl first ↦
-          let at_start : nat_eq t 0 ≡ true = eq-eqb t 0 first in
-          rw at_start (
-          get_or_append_left (drop k part) (take k part) 0 t (omega (arith, one, first))
-          ∙ get_or-drop k part t 0 ∙ ap (λ n. get_or part n 0) (omega (arith, first)))
-      | inr more ↦
-          let further : nat_eq t 0 ≡ false = elim (cases_Bool (nat_eq t 0)) [
-            | inl same ↦ absurd (more (eqb-true t 0 same))
-            | inr other ↦ other
-          ] in
-          rw further (
-          get_or-append_right (drop k part) (take k part) 1 t 0 one (omega (arith, more))
-          ∙ get_or-take k part (t - 1) 0 (omega (arith, l, more)))
-    ]
+at_corner true part t l = grind (arith, common_steps)
 
 -- the corner before one is a corner
 place_below : (flipped : Bool) (sides t : ℕ) → t < sides → cond flipped (next_corner false sides t) t < sides
@@ -111,9 +90,7 @@ whole s k labels all long = take_all (first_side s.mesh k) labels (omega (arith,
 -- the darts of a face lie among those of the mesh
 pub face_within : (mesh : FaceList) (f : ℕ) → All (IsFace mesh.count) mesh.faces → f < length mesh.faces
     → first_side mesh f + length (face_at mesh f) ≤ total_sides mesh
-face_within mesh f valid l =
-    let some : 3 ≤ length (face_at mesh f) = (valid f [] l).polygon in
-    omega (arith, some, side_below mesh f (length (face_at mesh f) - 1) l (omega (arith, some)))
+face_within mesh f valid l = grind (arith, common_steps, side_below)
 
 -- The labels of the first k faces stand at their corners, and the others where the polygon had them.
 pub record IsMadeUpTo (s : OrientedMesh) (polygon : PolygonView) (k : ℕ) (signs : List Bool) (ends labels : List ℕ) : Type 0 where
@@ -126,21 +103,7 @@ pub record IsMadeUpTo (s : OrientedMesh) (polygon : PolygonView) (k : ℕ) (sign
 
 pub made_none : (s : OrientedMesh) (polygon : PolygonView) (signs : List Bool) (ends : List ℕ) → length polygon.labels ≡ darts_of s
     → signs ≡ [] → ends ≡ [] → IsMadeUpTo s polygon 0 signs ends polygon.labels
-made_none s polygon signs ends long no_signs no_ends = rw (no_signs, no_ends) (record {
-  few = omega arith;
-  each_face = refl;
-  each_dart = long;
-  stored = record {
-    each_face = refl;
-    rising = refl;
-    few_faces = omega arith;
-    few_labels = λ f l. absurd (omega arith);
-    few_places =
-        omega arith;
-  };
-  faces = refl;
-  rest = refl;
-})
+made_none s polygon signs ends long no_signs no_ends = grind arith
 
 pub made_more : (s : OrientedMesh) (polygon : PolygonView) (k : ℕ) (signs : List Bool) (ends labels new : List ℕ) (flipped : Bool)
     (start end : ℕ)
@@ -237,32 +200,16 @@ pub made_all : (s : OrientedMesh) (polygon : PolygonView) (k degree : ℕ) (sign
     → k ≡ length s.mesh.faces
     → IsMadeUpTo s polygon k signs ends labels → degree ≡ polygon.degree → places ≡ polygon.places
     → stored_labelling degree signs ends labels places ≡ labelling_from s polygon
-made_all s polygon k degree signs ends labels places all made degree_is places_are =
-    ap (λ (n : ℕ). labelling_of n (with_signs signs (parts 0 ends labels)) places) degree_is
-    ∙ ap (λ (xs : List ℕ). labelling_of polygon.degree (with_signs signs (parts 0 ends labels)) xs) places_are
-    ∙ ap (λ (fs : List FaceLabels). labelling_of polygon.degree fs polygon.places)
-    (ap (λ (xs : List ℕ). with_signs signs (parts 0 ends xs)) (sym (whole s k labels all made.each_dart)) ∙ made.faces
-    ∙ all_faces s polygon k all)
+made_all s polygon k degree signs ends labels places all made degree_is places_are = grind (arith, parts, whole, all_faces)
 
 pub made_stored : (s : OrientedMesh) (polygon : PolygonView) (k : ℕ) (signs : List Bool) (ends labels places : List ℕ)
     → k ≡ length s.mesh.faces
     → IsMadeUpTo s polygon k signs ends labels → length places < 2 ^ 32
     → IsStoredLabelling signs ends labels places
-made_stored s polygon k signs ends labels places all made few =
-    let stored = made.stored in
-    record {
-      each_face = stored.each_face;
-      rising = subst (λ (xs : List ℕ). EndsRise 0 ends (length xs)) (whole s k labels all made.each_dart) stored.rising;
-      few_faces = stored.few_faces;
-      few_labels = stored.few_labels;
-      few_places = few;
-    }
+made_stored s polygon k signs ends labels places all made few = grind (arith, whole)
 
 -- the labelling asks for the numbers of the polygon alone
 pub told_alone : (s : OrientedMesh) (polygon : PolygonView) (degree : ℕ) (labels places : List ℕ) → degree ≡ polygon.degree
     → labels ≡ polygon.labels
     → places ≡ polygon.places → labelling_from s (numbers_alone degree labels places) ≡ labelling_from s polygon
-told_alone s polygon degree labels places degree_is labels_are places_are =
-    ap (λ (n : ℕ). labelling_from s (numbers_alone n labels places)) degree_is
-    ∙ ap (λ (xs : List ℕ). labelling_from s (numbers_alone polygon.degree xs places)) labels_are
-    ∙ ap (λ (xs : List ℕ). labelling_from s (numbers_alone polygon.degree polygon.labels xs)) places_are
+told_alone s polygon degree labels places degree_is labels_are places_are = grind arith

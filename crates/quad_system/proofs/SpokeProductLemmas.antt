@@ -1,10 +1,9 @@
 -- The spokes of a polygon make quads in the group of loops, and a walk is the product of the spokes of its quad path.
-use Rattle.quad_system.proofs.Common.{origin_under, target_under, dart_between, edge-twin, HasSide, side_with_number, rotation_system, origin-twin, darts_of, next_of, twin_of, origin_of, target_of, edge_of, OrientedMesh, IsOrientedSurface, rotations_of, IsDartFrom, SpokesOfSide, spokes_of_side, LabellingView, signs_of, tail_label, head_label, spokes, spokes_by_labels, quad_path, value_along, IsGroup, quotient, inverse_of_quotient, inverse_twice, labels_ride, IsWay, SameLoop, loop_mul, loop_inv, loop_one, loop_of, no_dart, first_dart, start_used, homotopy, Crosses, sides_cross, is_own_side, spoke_product, Loops, value, value_twin, spoke, group_of, dart_is_two_spokes, up, tree_ways, PolygonView, IsCutFrom, side_at, label_of, place_of, across, one_up, KeepsSteps, ◌≡◌, ◌⊎◌, inl, inr, ℕ, ◌<◌, true, false, not, ◌&&◌, eqb, cond, List, [], ◌∷◌, ◌++◌, refl, ap, sym, ◌∙◌, subst, arith, cases_Bool, both_ways, eqb-true, eq-eqb, and_parts, tail_of, head_of, start_under, end_under, is_flipped, Side, after_dart, SplitView, IsSplit, in_cotree, is_left, add-lt, add, minus}
+use Rattle.quad_system.proofs.Common.{origin_under, target_under, dart_between, edge-twin, HasSide, side_with_number, rotation_system, origin-twin, darts_of, next_of, twin_of, origin_of, target_of, edge_of, OrientedMesh, IsOrientedSurface, rotations_of, IsDartFrom, SpokesOfSide, spokes_of_side, LabellingView, signs_of, tail_label, head_label, spokes, spokes_by_labels, quad_path, value_along, IsGroup, quotient, inverse_of_quotient, inverse_twice, labels_ride, IsWay, SameLoop, loop_mul, loop_inv, loop_one, loop_of, no_dart, first_dart, start_used, homotopy, Crosses, sides_cross, is_own_side, spoke_product, Loops, value, value_twin, spoke, group_of, dart_is_two_spokes, up, tree_ways, PolygonView, IsCutFrom, side_at, label_of, place_of, across, one_up, labelling_from, KeepsSteps, ◌≡◌, ◌⊎◌, inl, inr, ℕ, ◌<◌, true, false, not, ◌&&◌, eqb, cond, List, [], ◌∷◌, ◌++◌, refl, ap, sym, ◌∙◌, subst, arith, cases_Bool, both_ways, eqb-true, eq-eqb, and_parts, tail_of, head_of, start_under, end_under, is_flipped, Side, after_dart, SplitView, IsSplit, in_cotree, is_left, add-lt, add, minus}
 use Rattle.spoke_paths.proofs.QuadWheels.{placed}
 use Rattle.std.specs.Prelude.{length}
 use Rattle.tree_cotree.proofs.ClassLemmas.{found_below, passes_below}
 use Rattle.tree_cotree.specs.RingCounts.{any_below}
-use Rattle.quad_system.specs.PolygonLabellings.{labelling_from}
 use Rattle.quad_system.proofs.PolygonLabelLemmas.{polygon_good, up_is_add, down_is_add, degree_is, LabelsOfSide, labels_of_side, flips_are}
 use Rattle.quad_system.proofs.ReadingLemmas.{HasQuads, products_keep}
 
@@ -194,13 +193,7 @@ dart_spokes s split polygon o t cut some d l =
     record {
       c = tail_label s.mesh labelling p.partner.partner;
       e = head_label s.mesh labelling p.partner.partner;
-      are =
-          ap (λ x. spokes s.mesh labelling x (origin_of s (twin_of s d))) (sym start)
-          ∙ ap (spokes s.mesh labelling (start_under s.mesh (signs_of labelling) side)) (sym end)
-          ∙ p.along ∙ ap (λ x. spokes_by_labels x (head_label s.mesh labelling side) (tail_label s.mesh labelling p.partner.partner)
-          (head_label s.mesh labelling p.partner.partner)) tail
-          ∙ ap (λ x. spokes_by_labels (label_of polygon d) x (tail_label s.mesh labelling p.partner.partner)
-          (head_label s.mesh labelling p.partner.partner)) head;
+      are = grind (arith, spokes);
     }
 
 module _ (s : OrientedMesh) (split : SplitView) (o : IsOrientedSurface s) (t : IsSplit s split) (polygon : PolygonView)

@@ -1,10 +1,9 @@
 -- A walk is homotopic to the loop of its quad path, with the way up the tree before it and the way down behind it.
-use Rattle.quad_system.proofs.Common.{OrientedMesh, IsOrientedSurface, quad_path, one_of, SameLoop, homotopy, spoke_product, up, tree_ways, walk_way, PolygonView, IsCutFrom, AreWaysUp, by_loop, path_loop, ◌≡◌, ℕ, ◌-◌, ◌<◌, true, List, [], ◌∷◌, ◌++◌, length, ap, sym, ◌∙◌, subst, arith, slice_index, Homotopic, IsWalk, SplitView, IsSplit}
+use Rattle.quad_system.proofs.Common.{OrientedMesh, IsOrientedSurface, quad_path, one_of, SameLoop, homotopy, spoke_product, up, tree_ways, walk_way, PolygonView, IsCutFrom, AreWaysUp, by_loop, path_loop, labelling_from, ◌≡◌, ℕ, ◌-◌, ◌<◌, true, List, [], ◌∷◌, ◌++◌, length, ap, sym, ◌∙◌, subst, arith, slice_index, Homotopic, IsWalk, SplitView, IsSplit}
 use Rattle.polygon_cut.proofs.CongruenceLemmas.{by_own_loop}
 use Rattle.polygon_cut.proofs.DartLoopLemmas.{Loops, spoke}
 use Rattle.polygon_cut.proofs.FreeLawLemmas.{root_is, path_list, by_loop_is}
 use Rattle.polygon_cut.proofs.WayLemmas.{IsWay, start_used, end_used, back, loop_mul, loop_inv, loop_of}
-use Rattle.quad_system.specs.PolygonLabellings.{labelling_from}
 use Rattle.quad_system.proofs.SpokeProductLemmas.{walk_product}
 
 pub walk_loop : (s : OrientedMesh) (split : SplitView) (polygon : PolygonView) (root : ℕ) (ups : ℕ → List ℕ) (walk : List ℕ)
@@ -24,9 +23,7 @@ walk_loop s split polygon root ups (u ∷ rest) o t c some h w =
     walk_product s split o t polygon c some u v rest way in
     let around : Homotopic s.mesh (u ∷ rest) (u ∷ (up s split t u ++ (loop.rest ++ back v (up s split t v)))) =
     by_own_loop (homotopy s.mesh) (tree_ways s split o t) u v rest way loop same in
-    let told : Homotopic s.mesh (u ∷ rest) (by_loop ups u v loop.rest) =
-    subst (Homotopic s.mesh (u ∷ rest))
-    (sym (by_loop_is s split o t ups own u v loop.rest (start_used s.mesh u v rest way) (end_used s.mesh u v rest way))) around in
+    let told : Homotopic s.mesh (u ∷ rest) (by_loop ups u v loop.rest) = grind (arith, by_loop_is, start_used, end_used) in
     let list : loop.rest ≡ path_loop s polygon root ups true path =
     sym (path_list s split o t polygon c some ups own true path)
     ∙ ap (λ x. path_loop s polygon x ups true path) (root_is s split o t root ups h) in

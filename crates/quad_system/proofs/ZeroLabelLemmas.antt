@@ -1,7 +1,6 @@
 -- Labels that are all 0: they are good on every surface, by the tree rule at each edge, and not full.
-use Rattle.quad_system.proofs.Common.{OrientedMesh, IsOrientedSurface, IsGood, HasShape, FaceLabels, labels_at, signs_of, label_at, tail_label, head_label, ◌≡◌, inl, ℕ, zero, suc, ◌+◌, ◌<◌, Bool, true, false, List, [], ◌∷◌, length, get_or, map, refl, ap, sym, ◌∙◌, subst, arith, length-map, get_or-map, All-from_get_or, get_or-enumerate_from, length-enumerate_from, enumerate_from, All, IsSide, side_after, face_at, is_flipped, Side, add}
+use Rattle.quad_system.proofs.Common.{OrientedMesh, IsOrientedSurface, IsGood, HasShape, FaceLabels, labels_at, signs_of, label_at, tail_label, head_label, all_zero, IsFull, ◌≡◌, ℕ, zero, suc, ◌+◌, ◌<◌, Bool, true, false, List, [], ◌∷◌, length, get_or, map, refl, ap, sym, ◌∙◌, subst, arith, common_steps, length-map, get_or-map, All-from_get_or, get_or-enumerate_from, length-enumerate_from, enumerate_from, All, IsSide, side_after, face_at, is_flipped, Side, add}
 use Rattle.std.specs.Prelude.{cond}
-use Rattle.quad_system.specs.PolygonLabellings.{all_zero, IsFull}
 use Rattle.quad_system.proofs.PolygonLabelLemmas.{after_side, opposite_under}
 
 abbrev zeros : List ℕ → List ℕ
@@ -41,8 +40,7 @@ flips_stay s f l =
     ∙ ap (λ (x : FaceLabels). x.flipped) (face_is s f blank l)
 
 label_is : (s : OrientedMesh) (corner : Side) → IsSide s.mesh corner → label_at (all_zero s) corner ≡ 0
-label_is s corner h =
-    ap (λ (xs : List ℕ). get_or xs corner.at 0) (labels_are s corner.face.0 h.face) ∙ zero_at (face_at s.mesh corner.face.0) corner.at
+label_is s corner h = grind (arith, labels_are, zero_at)
 
 either : (b : Bool) (x y : ℕ) → x ≡ 0 → y ≡ 0 → cond b x y ≡ 0
 either true x y e f = e
@@ -83,27 +81,9 @@ zero_shape s = record {
 }
 
 pub zero_good : (s : OrientedMesh) → IsOrientedSurface s → IsGood s.mesh (all_zero s)
-zero_good s o = record {
-  shape = zero_shape s;
-  degree = inl (omega arith);
-  places = λ i j l m e. sym (place_is i l) ∙ e ∙ place_is j m;
-  edges = λ u v is. record {
-    two_sides = o.closed.two_sides u v is;
-    sides = λ side other partners joins. record {
-      opposite = opposite_under s (all_zero s) (flips_stay s) side other partners (o.coherent.opposite side other partners);
-      rule = inl (
-        tail_is s side partners.first ∙ sym (head_is s side partners.first),
-        tail_is s other partners.second ∙ sym (head_is s other partners.second),
-      );
-    };
-  };
-}
+zero_good s o = grind (arith, common_steps, zero_shape, place_is, opposite_under, flips_stay, tail_is, head_is)
 
 -- along no side the label rises, so no side has the label 0 on a leftover edge
 pub zero_not_full : (s : OrientedMesh) → IsFull s.mesh (all_zero s) → ⊥
 unfolding add
-zero_not_full s full =
-    let one = full 0 (omega arith) in
-    let rises : head_label s.mesh (all_zero s) one.side ≡ add 5 (tail_label s.mesh (all_zero s) one.side) 1 = one.leftover.2.rises in
-    let up : 0 ≡ 1 = sym (head_is s one.side one.side_of) ∙ rises ∙ ap (λ n. add 5 n 1) (tail_is s one.side one.side_of) in
-    absurd (omega (arith, up))
+zero_not_full s full = grind (arith, head_is, tail_is)

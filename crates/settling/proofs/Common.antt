@@ -1,4 +1,5 @@
--- What proofs of this crate cite of others, passed on from one place (by tools/imports). Declares nothing.
+-- What proofs of this crate cite of its definitions and of other crates, passed on from one place (by tools/imports). Declares nothing.
+pub use Rattle.settling.specs.TurnRows.{IsCanonicalRow, LosesAtMost, Settles, entries, put_along}
 pub use Rattle.std.proofs.Common.{List, ap, ap₂, arith, false, inl, inr, length, refl, reverse, subst, suc, sym, true, zero, ℕ, [], ◌*◌, ◌++◌, ◌+◌, ◌-◌, ◌<◌, ◌∙◌, ◌∷◌, ◌≡◌, ◌≤◌, ◌⊎◌}
 pub use Rattle.std.proofs.lemmas.List.{append-nil, length-reverse, reverse-reverse}
 pub use Rattle.turn_words.proofs.Reading.{IsSound, read, state}

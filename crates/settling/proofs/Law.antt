@@ -1,7 +1,6 @@
 -- The laws, said of words that are written from their start.
-use Rattle.settling.proofs.Common.{◌≡◌, ℕ, ◌+◌, ◌<◌, ◌≤◌, arith, sym, ◌∙◌, ap, ◌++◌, length, reverse, reverse-reverse, length-reverse, IsSound, state, good-from-canonical, Put}
+use Rattle.settling.proofs.Common.{entries, put_along, IsCanonicalRow, LosesAtMost, Settles, ◌≡◌, ℕ, ◌+◌, ◌<◌, ◌≤◌, arith, sym, ◌∙◌, ap, ◌++◌, length, reverse, reverse-reverse, length-reverse, IsSound, state, good-from-canonical, Put}
 use Rattle.turn_words.specs.Canonical.{IsCanonical}
-use Rattle.settling.specs.TurnRows.{entries, put_along, IsCanonicalRow, LosesAtMost, Settles}
 use Rattle.settling.proofs.Rows.{along, along-is, upto, reverse-upto}
 use Rattle.settling.proofs.Settling.{within_budget}
 use Rattle.settling.proofs.Losses.{loses-at-most}

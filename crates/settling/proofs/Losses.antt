@@ -1,9 +1,8 @@
 -- A canonical row loses at most as many entries as the word had before: what the word before does to the row can be undone
 -- by as many entries.
-use Rattle.settling.proofs.Common.{◌≡◌, ℕ, ◌+◌, ◌<◌, ◌≤◌, inl, inr, arith, refl, sym, ◌∙◌, ap, zero, suc, List, [], ◌∷◌, ◌++◌, length, reverse, length-reverse, append-nil, read, IsSound, state, in-range-reverse, length-put, InRange, put-good, put-put, add-cases, minus-cases, add-lt, minus-lt, IsGood, good-cons, good-head, good-tail, add, minus, Put, put}
+use Rattle.settling.proofs.Common.{entries, IsCanonicalRow, ◌≡◌, ℕ, ◌+◌, ◌<◌, ◌≤◌, inl, inr, arith, refl, sym, ◌∙◌, ap, zero, suc, List, [], ◌∷◌, ◌++◌, length, reverse, length-reverse, append-nil, read, IsSound, state, in-range-reverse, length-put, InRange, put-good, put-put, add-cases, minus-cases, add-lt, minus-lt, IsGood, good-cons, good-head, good-tail, add, minus, Put, put}
 use Rattle.turn_words.proofs.Reaching.{read-append, read-good, read-reached, keeps-steps, start-sound}
 use Rattle.turn_words.specs.StepTable.{next_changed}
-use Rattle.settling.specs.TurnRows.{entries, IsCanonicalRow}
 use Rattle.settling.proofs.Rows.{along, upto, upto-cons, upto-length, reverse-upto}
 use Rattle.settling.proofs.Settling.{upto-shut, row-follows}
 
@@ -38,13 +37,7 @@ module _ (d : ℕ) (five : 5 ≤ d) where
   before-read p y s below =
       let back = put d p.word p.change in
       let kept = put-good d five p.word p.change s.good s.below in
-      let turn : add d y (add d back.change (minus d y)) ≡ back.change = omega (
-        arith,
-        kept.1,
-        minus-cases d y below,
-        add-cases d back.change (minus d y),
-        add-cases d y (add d back.change (minus d y)),
-      ) in
+      let turn : add d y (add d back.change (minus d y)) ≡ back.change = grind (arith, minus-cases, add-cases) in
       ap (put d back.word) turn ∙ put-put d five p.word p.change s.good
 
   before-longer : (p : Put) (y : ℕ) → length (before p y).word ≤ length p.word + 1

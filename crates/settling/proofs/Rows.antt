@@ -1,6 +1,5 @@
 -- The words along a row, read from their end, and how a put makes such a word longer or shorter.
-use Rattle.settling.proofs.Common.{◌≡◌, ℕ, ◌+◌, ◌<◌, ◌≤◌, inl, inr, arith, refl, sym, ◌∙◌, ap, ap₂, zero, suc, true, List, [], ◌∷◌, ◌++◌, length, reverse, reverse-reverse, append-nil, state, reverse-next, cases, spur, flip, close, other, add-cases, minus-one, minus-two, IsCons, open-cases, put-flip, put-close, put-else, add, minus, Put, is_open, closed, put, put_last}
-use Rattle.settling.specs.TurnRows.{entries, put_along}
+use Rattle.settling.proofs.Common.{entries, put_along, ◌≡◌, ℕ, ◌+◌, ◌<◌, ◌≤◌, inl, inr, arith, refl, sym, ◌∙◌, ap, ap₂, zero, suc, true, List, [], ◌∷◌, ◌++◌, length, reverse, reverse-reverse, append-nil, state, reverse-next, cases, spur, flip, close, other, add-cases, minus-one, minus-two, IsCons, open-cases, put-flip, put-close, put-else, add, minus, Put, is_open, closed, put, put_last}
 
 -- the words along a row, read from their end
 abbrev pub along : ℕ → Put → (ℕ → ℕ) → ℕ → Put

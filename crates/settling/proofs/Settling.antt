@@ -1,8 +1,7 @@
 -- A canonical row settles: where no entry is lost for two rounds, each entry from then on is only put last.
-use Rattle.settling.proofs.Common.{◌≡◌, ℕ, ◌+◌, ◌*◌, ◌-◌, ◌<◌, ◌≤◌, ◌⊎◌, inl, inr, arith, sym, ◌∙◌, ap, subst, zero, suc, false, List, ◌∷◌, length, IsSound, state, length-put, add-zero, Follows, IsCons, open-two, open-other, put-else, add, minus, Put, is_open, put}
+use Rattle.settling.proofs.Common.{IsCanonicalRow, ◌≡◌, ℕ, ◌+◌, ◌*◌, ◌-◌, ◌<◌, ◌≤◌, ◌⊎◌, inl, inr, arith, sym, ◌∙◌, ap, subst, zero, suc, false, List, ◌∷◌, length, IsSound, state, length-put, add-zero, Follows, IsCons, open-two, open-other, put-else, add, minus, Put, is_open, put}
 use Rattle.std.proofs.Math.Nat.{mul-le-mul_left}
 use Rattle.std.proofs.lemmas.Bool.{cases_eq, cases_lt}
-use Rattle.settling.specs.TurnRows.{IsCanonicalRow}
 use Rattle.settling.proofs.Rows.{along, upto, upto-cons, Grown, plain, turned, grown, longer-cons, one-more}
 
 module _ (d n : ℕ) (row : ℕ → ℕ) (five : 5 ≤ d) (canonical : IsCanonicalRow d n row) where
@@ -19,7 +18,6 @@ module _ (d n : ℕ) (row : ℕ → ℕ) (five : 5 ≤ d) (canonical : IsCanonic
   later-falls s (suc fuel) k h below = elim (cases_lt k n) [
     | inl inside ↦ h k inside
     | inr above ↦
-        let some = canonical.some in
         let less : k - n < fuel = omega arith in
         let e : s + k ≡ s + (k - n) + n = omega arith in
         ap row e ∙ canonical.comes_round (s + (k - n)) ∙ later-falls s fuel (k - n) h less
@@ -68,7 +66,6 @@ module _ (d n : ℕ) (row : ℕ → ℕ) (five : 5 ≤ d) (canonical : IsCanonic
       let e : m + k + 0 ≡ m + k = omega arith in
       upto-shut m n rest c
       (λ q above last twos. (
-      let some = canonical.some in
       let two : row (m + (q - n)) ≡ 2 = twos (q - n) (omega arith) in
       let f : m + q ≡ m + (q - n) + n = omega arith in
       let same = ap row f ∙ canonical.comes_round (m + (q - n)) in
@@ -135,12 +132,7 @@ module _ (d n : ℕ) (row : ℕ → ℕ) (five : 5 ≤ d) (canonical : IsCanonic
 
     find-calm : (s count : ℕ) → ((i : ℕ) → i < count → Grows (s + i)) → CalmOr s (Unit {0}) →
         CalmWithin s count ⊎ (((at (s + count)).change ≡ 1) × ((i : ℕ) → i < count → row (s + i) ≡ minus d 2))
-    find-calm s zero longer first =
-        let e : s ≡ s + 0 = omega arith in
-        elim first [
-          | inl c ↦ inl (record { i = 0; within = omega arith; calm = subst Calm e c })
-          | inr f ↦ inr (subst (λ j. (at j).change ≡ 1) e f.0, λ i below. absurd (omega arith))
-        ]
+    find-calm s zero longer first = grind arith
     find-calm s (suc count) longer first =
         let e : suc (s + count) ≡ s + suc count = omega arith in
         elim (find-calm s count (λ i below. longer i (omega arith)) first) [
@@ -166,8 +158,7 @@ module _ (d n : ℕ) (row : ℕ → ℕ) (five : 5 ≤ d) (canonical : IsCanonic
         subst Calm e (calm-next (s + k) (calm-run s k c (λ i below. longer i (omega arith))) (longer k (omega arith)))
 
     calm-word : (s k : ℕ) → Calm s → ((i : ℕ) → i < k → Grows (s + i)) → at (s + k) ≡ state (upto row s k (at s).word) 0
-    calm-word s zero c longer =
-        let e : s + 0 ≡ s = omega arith in ap at e ∙ ap (state (at s).word) c.change
+    calm-word s zero c longer = grind arith
     calm-word s (suc k) c longer =
         let e : s + suc k ≡ suc (s + k) = omega arith in
         let before : (i : ℕ) → i < k → Grows (s + i) = λ i below. longer i (omega arith) in
@@ -184,8 +175,7 @@ module _ (d n : ℕ) (row : ℕ → ℕ) (five : 5 ≤ d) (canonical : IsCanonic
     -- from then on each entry is only put last
     ends-put : (m k : ℕ) → Ends m k → at (suc (m + k)) ≡ state (row (m + k) ∷ (at (m + k)).word) 0
     ends-put m k ends =
-        let turn : add d (row (m + k)) (at (m + k)).change ≡ row (m + k) =
-        ap (λ q. add d (row (m + k)) q.change) ends.is ∙ add-zero d (row (m + k)) (canonical.below (m + k)) in
+        let turn : add d (row (m + k)) (at (m + k)).change ≡ row (m + k) = grind (arith, add-zero) in
         let shut : row (m + k) ≡ 1 → is_open (at (m + k)).word ≡ false =
         λ one. ap (λ q. is_open q.word) ends.is ∙ round-shut m k ends.rest ends.cons ends.whole one in
         let some : IsCons (at (m + k)).word = subst (λ q. IsCons q.word) (sym ends.is) (upto-cons row m k ends.rest ends.cons) in

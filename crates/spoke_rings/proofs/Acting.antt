@@ -1,8 +1,5 @@
 -- Going on along a ring, going back and taking out a spur are loop steps.
-use Rattle.spoke_rings.proofs.Common.{◌≡◌, ℕ, ◌+◌, ◌-◌, ◌%◌, ◌<◌, ◌≤◌, arith, refl, sym, ◌∙◌, ap, ap₂, subst, Bool, true, false, not, List, [], ◌∷◌, ◌++◌, take, drop, length, get_or, append_assoc, All, drop-append_seam, take-append_seam, length-append, All-take, All-drop}
-use Rattle.spoke_rings.specs.CyclicWords.{IsLoop}
-use Rattle.spoke_rings.specs.LoopSteps.{LoopLeads}
-use Rattle.spoke_rings.specs.Private.Rings.{RingView, from_vertex, ring_turn, Acts, Shortens}
+use Rattle.spoke_rings.proofs.Common.{IsLoop, LoopLeads, RingView, from_vertex, ring_turn, Acts, Shortens, ◌≡◌, ℕ, ◌+◌, ◌-◌, ◌%◌, ◌<◌, ◌≤◌, arith, refl, sym, ◌∙◌, ap, ap₂, subst, Bool, true, false, not, List, [], ◌∷◌, ◌++◌, take, drop, length, get_or, append_assoc, All, take-append_seam, common_steps, length-append, All-take, All-drop}
 use Rattle.spoke_rings.proofs.Along.{rotated, rotated-length}
 use Rattle.spoke_rings.proofs.Leading.{leads-nowhere, leads-same, leads-on, spur-leaves, turned-round}
 use Rattle.spoke_rings.proofs.RingTurns.{turn-rotated, loop-rotated}
@@ -13,17 +10,12 @@ ring s v = record { spokes = s; at_vertex = v }
 
 -- the last spoke comes first where the seam stands in the middle
 from-last : (front : List ℕ) (last : ℕ) → from_vertex (ring (front ++ last ∷ []) false) ≡ last ∷ front
-from-last front last =
-    let whole = length-append front (last ∷ []) in
-    let long : length (front ++ last ∷ []) - 1 ≡ length front = omega arith in
-    ap (λ n. drop n (front ++ last ∷ []) ++ take n (front ++ last ∷ [])) long
-    ∙ ap₂ (λ x y. x ++ y) (drop-append_seam front (last ∷ [])) (take-append_seam front (last ∷ []))
+from-last front last = grind (arith, common_steps)
 
 module _ (places : List ℕ) where
   forward-leads : (v : Bool) (s r : List ℕ) (f l : ℕ) → s ≡ f ∷ r ++ l ∷ [] →
       LoopLeads places (from_vertex (ring s v)) (from_vertex (ring (rotated 1 s) (not v)))
-  forward-leads true s r f l e = leads-same places s (from_vertex (ring (rotated 1 s) false))
-      (sym (ap (λ t. from_vertex (ring (rotated 1 t) false)) e ∙ from-last (r ++ l ∷ []) f ∙ sym e))
+  forward-leads true s r f l e = grind (arith, from-last)
   forward-leads false s r f l e =
       let after : rotated 1 s ≡ r ++ l ∷ f ∷ [] = ap (rotated 1) e ∙ append_assoc r (l ∷ []) (f ∷ []) in
       leads-on places (from_vertex (ring s false)) (l ∷ f ∷ r) (rotated 1 s) (leads-same places _ _ (from-seam false s r f l e))

@@ -1,6 +1,5 @@
 -- Closed lists that are gone along again and again.
-use Rattle.spoke_rings.proofs.Common.{◌≡◌, ℕ, ◌+◌, ◌-◌, ◌<◌, ◌≤◌, inl, inr, arith, sym, ◌∙◌, ap, zero, suc, List, ◌++◌, take, drop, length, get_or, add-mod_right, mod-eq_of_lt, cases_lt, get_or-drop, get_or-take, get_or_append_left, get_or-append_right, length-append, length-drop, length-take-le}
-use Rattle.spoke_rings.specs.CyclicWords.{spoke_along}
+use Rattle.spoke_rings.proofs.Common.{spoke_along, ◌≡◌, ℕ, ◌+◌, ◌-◌, ◌<◌, ◌≤◌, inl, inr, arith, sym, ◌∙◌, ap, zero, suc, List, ◌++◌, take, drop, length, get_or, add-mod_right, mod-eq_of_lt, cases_lt, common_steps}
 
 pub along-first : (s : List ℕ) (k : ℕ) → k < length s → spoke_along s k ≡ get_or s k 0
 along-first s k below = ap (λ i. get_or s i 0) (mod-eq_of_lt below)
@@ -9,9 +8,7 @@ pub along-round : (s : List ℕ) (k : ℕ) → spoke_along s (k + length s) ≡ 
 along-round s k = ap (λ i. get_or s i 0) (add-mod_right k (length s))
 
 pub along-second : (s : List ℕ) (k : ℕ) → length s ≤ k → k < length s + length s → spoke_along s k ≡ get_or s (k - length s) 0
-along-second s k far below =
-    let e : k ≡ k - length s + length s = omega arith in
-    ap (spoke_along s) e ∙ along-round s (k - length s) ∙ along-first s (k - length s) (omega arith)
+along-second s k far below = grind (arith, along-round, along-first)
 
 -- two rows of one period that agree for one round agree
 same-from : (f g : ℕ → ℕ) (n : ℕ) → 0 < n → ((k : ℕ) → f (k + n) ≡ f k) → ((k : ℕ) → g (k + n) ≡ g k) →
@@ -34,30 +31,10 @@ abbrev pub rotated : ℕ → List ℕ → List ℕ
 rotated c s = drop c s ++ take c s
 
 pub rotated-length : (s : List ℕ) (c : ℕ) → c ≤ length s → length (rotated c s) ≡ length s
-rotated-length s c within =
-    let whole = length-append (drop c s) (take c s) in
-    let back = length-drop c s in
-    let front = length-take-le c s within in
-    omega arith
+rotated-length s c within = grind (arith, common_steps)
 
 rotated-at : (s : List ℕ) (c k : ℕ) → c ≤ length s → k < length s → get_or (rotated c s) k 0 ≡ spoke_along s (k + c)
-rotated-at s c k within below =
-    let back = length-drop c s in
-    elim (cases_lt k (length s - c)) [
-      | inl inside ↦
-          let e : c + k ≡ k + c = omega arith in
-          let less : k < length (drop c s) = omega arith in
-          let less2 : k + c < length s = omega arith in
-          get_or_append_left (drop c s) (take c s) 0 k less ∙ get_or-drop c s k 0 ∙ ap (λ i. get_or s i 0) e
-          ∙ sym (along-first s (k + c) less2)
-      | inr behind ↦
-          let far : length s ≤ k + c = omega arith in
-          let less : k - (length s - c) < c = omega arith in
-          let e : k - (length s - c) ≡ k + c - length s = omega arith in
-          let short : k + c < length s + length s = omega arith in
-          get_or-append_right (drop c s) (take c s) (length s - c) k 0 back behind ∙ get_or-take c s (k - (length s - c)) 0 less
-          ∙ ap (λ i. get_or s i 0) e ∙ sym (along-second s (k + c) far short)
-    ]
+rotated-at s c k within below = grind (arith, common_steps, along-first, along-second)
 
 pub rotated-along : (s : List ℕ) (c : ℕ) → c ≤ length s → 0 < length s → (k : ℕ) → spoke_along (rotated c s) k ≡ spoke_along s (k + c)
 rotated-along s c within some =

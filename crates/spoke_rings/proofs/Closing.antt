@@ -1,6 +1,5 @@
 -- How a bracket is closed, turn by turn, from its end back to its begin.
-use Rattle.spoke_rings.proofs.Common.{◌≡◌, ◌≢◌, ℕ, ◌+◌, ◌-◌, ◌%◌, ◌<◌, ◌≤◌, ◌⊎◌, inl, inr, arith, sym, ◌∙◌, ap, zero, suc, false, cases_eq, one-minus, two-down, add, minus}
-use Rattle.spoke_rings.specs.Private.Rings.{IsBracket, TurnsPushed}
+use Rattle.spoke_rings.proofs.Common.{IsBracket, TurnsPushed, ◌≡◌, ◌≢◌, ℕ, ◌+◌, ◌-◌, ◌%◌, ◌<◌, ◌≤◌, ◌⊎◌, inl, inr, arith, sym, ◌∙◌, ap, zero, suc, false, cases_eq, one-minus, two-down, add, minus}
 
 -- how a bracket stands of which so many turns are left to be pushed down
 pub data Closes (n : ℕ) (turn : ℕ → ℕ) : ℕ → Type 0 where
@@ -17,7 +16,6 @@ pub closes-start : (n twos pushes : ℕ) (turn : ℕ → ℕ) → 2 ≤ n → tu
     ((twos + 1 ≡ n) × (pushes ≡ twos)) ⊎ ((twos + 1 ≢ n) × (pushes ≡ twos + 1)) → Closes n turn pushes
 closes-start n twos pushes turn two one b count = elim count [
   | inl all ↦
-      let all_is = all.0 in
       let count_is = all.1 in
       whole (omega arith) (omega arith) one (λ i first below. (
       let e : n - 1 - (n - 1 - i) ≡ i = omega arith in
@@ -36,14 +34,10 @@ module _ (d n : ℕ) (old mid new : ℕ → ℕ) (five : 5 ≤ d) (even : n % 2 
   new-seam = let e : 0 + (n - 1) ≡ n - 1 = omega arith in back 0 ∙ ap mid e
 
   new-back : (i : ℕ) → i + 2 ≤ n → new (n - 1 - i) ≡ mid (n - 2 - i)
-  new-back i within =
-      let e : n - 1 - i + (n - 1) ≡ n - 2 - i + n = omega arith in
-      back (n - 1 - i) ∙ ap mid e ∙ round (n - 2 - i)
+  new-back i within = grind arith
 
   old-back : (i : ℕ) → i + 4 ≤ n → mid (n - 2 - i) ≡ old (n - 1 - (i + 1))
-  old-back i within =
-      let e : n - 2 - i ≡ n - 1 - (i + 1) = omega arith in
-      p.far (n - 2 - i) (omega arith) (omega arith) ∙ ap old e
+  old-back i within = grind arith
 
   -- a turn that is pushed down
   pushed-two : (x : ℕ) → x ≡ 2 → add d x (minus d 1) ≡ 1
@@ -58,7 +52,6 @@ module _ (d n : ℕ) (old mid new : ℕ → ℕ) (five : 5 ≤ d) (even : n % 2 
         let end : n - 1 ≡ 1 = omega arith in
         done (omega arith) (new-seam ∙ ap mid end ∙ p.other is ∙ pushed-one _ (pushed-two (old 1) (twos 1 (omega arith) (omega arith))))
     | inr more ↦
-        let last : n - 1 - (n - 3) ≡ 2 = omega arith in
         let e : n - 2 - (n - 3) ≡ 1 = omega arith in
         part (n - 3) (omega arith) (omega arith)
         (new-seam ∙ p.before (omega arith) ∙ pushed-two (old (n - 1)) (twos (n - 1) (omega arith) (omega arith)))
@@ -89,15 +82,7 @@ module _ (d n : ℕ) (old mid new : ℕ → ℕ) (five : 5 ≤ d) (even : n % 2 
 
 -- as long as pushes are left, the turn at the seam is 1, and then it is 0
 pub closes-seam : (n : ℕ) (turn : ℕ → ℕ) (left : ℕ) → Closes n turn left → 0 < left → turn 0 ≡ 1
-closes-seam n turn left c some = elim c [
-  | whole all first one twos ↦ one
-  | part twos count within one run opened ↦ one
-  | done none spur ↦ absurd (omega arith)
-]
+closes-seam n turn left c some = grind arith
 
 pub closes-end : (n : ℕ) (turn : ℕ → ℕ) (left : ℕ) → Closes n turn left → left ≡ 0 → turn 0 ≡ 0
-closes-end n turn left c none = elim c [
-  | whole all first one twos ↦ absurd (omega arith)
-  | part twos count within one run opened ↦ absurd (omega arith)
-  | done empty spur ↦ spur
-]
+closes-end n turn left c none = grind arith

@@ -1,7 +1,5 @@
 -- Where the comparison of two closed lists stands, and what its ends show.
-use Rattle.spoke_rings.proofs.Common.{◌≡◌, ℕ, ◌+◌, ◌-◌, ◌*◌, ◌/◌, ◌%◌, ◌<◌, ◌≤◌, inl, inr, arith, sym, ◌∙◌, ap, List, length, cases_lt, same_number_lists}
-use Rattle.spoke_rings.specs.CyclicWords.{spoke_along}
-use Rattle.spoke_rings.specs.Rotations.{IsRotation}
+use Rattle.spoke_rings.proofs.Common.{spoke_along, IsRotation, ◌≡◌, ℕ, ◌+◌, ◌-◌, ◌*◌, ◌/◌, ◌%◌, ◌<◌, ◌≤◌, inl, inr, arith, sym, ◌∙◌, ap, List, length, cases_lt, same_number_lists}
 use Rattle.spoke_rings.proofs.Along.{along-first, along-round, same-rows, rotated, rotated-length, rotated-along}
 use Rattle.spoke_rings.proofs.Least.{from, Greater, least-start}
 
@@ -19,7 +17,6 @@ gone : (f g : ℕ → ℕ) (i j k a : ℕ) → i % 2 ≡ 0 → j % 2 ≡ 0 → (
     i ≤ 2 * a → 2 * a < i + (k + 2 - k % 2) → (b : ℕ) × Greater (from f (2 * a)) (from g (2 * b))
 gone f g i j k a i_even j_even same greater far below =
     let e = 2 * a - i in
-    let at_most : e ≤ k = omega arith in
     let b = (j + e) / 2 in
     let b_is : 2 * b ≡ j + e = omega arith in
     let x : (t : ℕ) → 2 * a + t ≡ i + (e + t) = λ t. omega arith in
@@ -68,7 +65,6 @@ all-gone : (f g : ℕ → ℕ) (n c : ℕ) → 0 < n → n % 2 ≡ 0 → c % 2 �
 all-gone f g n c some n_even c_even round moved gone =
     let half_is : n ≡ 2 * (n / 2) = omega arith in
     let least = least-start f n some round (n / 2) half_is in
-    let below = least.start_below in
     let smaller = gone least.start (omega arith) in
     let b = smaller.0 in
     let e : (t : ℕ) → 2 * b + t + c ≡ 2 * (b + c / 2) + t = λ t. omega arith in
@@ -91,7 +87,6 @@ pub compares-neither : (x y : List ℕ) (i j k : ℕ) → length x % 2 ≡ 0 →
 compares-neither x y i j k even long some c ended r =
     let within = r.within in
     let back : (t : ℕ) → t + length x ≡ t + (length x - r.count) + r.count = λ t. omega arith in
-    let r_even = r.even in
     all-gone (spoke_along y) (spoke_along x) (length x) (length x - r.count) some even (omega arith)
     (λ t. ap (λ n. spoke_along y (t + n)) (sym long) ∙ along-round y t)
     (λ t. sym (along-round x t) ∙ ap (spoke_along x) (back t) ∙ sym (rotated-along x r.count r.within some (t + (length x - r.count)))

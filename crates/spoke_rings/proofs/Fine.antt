@@ -1,7 +1,5 @@
 -- Where nothing stands at any seam of a ring, its turns are canonical.
-use Rattle.spoke_rings.proofs.Common.{IsCanonicalRow, up-one, less-one, ◌≡◌, ◌≢◌, ℕ, ◌+◌, ◌-◌, ◌%◌, ◌<◌, ◌≤◌, inl, inr, arith, sym, ◌∙◌, ap, zero, suc, Bool, true, false, List, length, get_or, mod-lt, cases_eq, cases_lt, add-cases, add-lt, minus-lt, add, minus}
-use Rattle.spoke_rings.specs.CyclicWords.{IsLoop, IsFullWheel, turn_along, cyclic_turn, spoke_along, stands_before}
-use Rattle.spoke_rings.specs.Private.Rings.{IsFine}
+use Rattle.spoke_rings.proofs.Common.{IsCanonicalRow, up-one, less-one, IsLoop, IsFullWheel, turn_along, cyclic_turn, spoke_along, IsFine, ◌≡◌, ◌≢◌, ℕ, ◌+◌, ◌-◌, ◌%◌, ◌<◌, ◌≤◌, inl, inr, arith, sym, ◌∙◌, ap, zero, suc, Bool, true, false, List, length, get_or, mod-lt, cases_eq, cases_lt, add-cases, add-lt, minus-lt, add, minus}
 use Rattle.spoke_rings.proofs.RingTurns.{turn_at, turn-round, turn-seam, turn-behind, spoke-below, place-below}
 
 -- the turns from a place on
@@ -9,18 +7,7 @@ abbrev pub turns_from : (ℕ → ℕ) → ℕ → ℕ → ℕ
 turns_from turn j k = turn (j + k)
 
 pub fine-same : (d n : ℕ) (f g : ℕ → ℕ) → ((k : ℕ) → f k ≡ g k) → IsFine d n f → IsFine d n g
-fine-same d n f g same fine = record {
-  no_spur = λ e. fine.no_spur (same 0 ∙ e);
-  no_minus = λ e. fine.no_minus (same 0 ∙ e);
-  no_bracket = λ one twos b. fine.no_bracket (same 0 ∙ one) twos (record {
-    below = b.below;
-    run = λ i below. same (n - 1 - i) ∙ b.run i below;
-    opens = elim b.opens [
-      | inl all ↦ inl all
-      | inr opened ↦ inr (opened.0, same (n - 1 - twos) ∙ opened.1)
-    ];
-  });
-}
+fine-same d n f g same fine = grind arith
 
 module _ (d n : ℕ) (turn : ℕ → ℕ) (even : n % 2 ≡ 0) (some : 0 < n) (round : (k : ℕ) → turn (k + n) ≡ turn k)
     (fine : (j : ℕ) → j < n → IsFine d n (turns_from turn j)) where
@@ -93,13 +80,7 @@ module _ (d n : ℕ) (turn : ℕ → ℕ) (even : n % 2 ≡ 0) (some : 0 < n) (r
               (fine-everywhere (at + n)).no_bracket (turn-zero (at + n) ∙ round at ∙ opened) 0 (record {
                 below = some;
                 run = λ i below. absurd (omega arith);
-                opens = inr (
-                  omega arith,
-                  (
-                      let e : at + n + (n - 1 - 0) ≡ at + 1 + k + n = omega arith in
-                      ap turn e ∙ round (at + 1 + k) ∙ closed
-                      ),
-                );
+                opens = grind arith;
               })
         ]
       ]
@@ -117,11 +98,7 @@ along-below places s loop some k = spoke-below places s (k % length s) loop (mod
 
 pub turn-in : (places : List ℕ) → IsFullWheel places → (s : List ℕ) → IsLoop places s → (v : Bool) → 0 < length s → (k : ℕ) →
     turn_along places v s k < length places
-turn-in places full s loop v some k =
-    let b = stands_before v k in
-    add-lt (length places) _ _ (place-below places b (spoke_along s k) full.own.wheel (along-below places s loop some k))
-    (minus-lt (length places) _
-    (place-below places b (spoke_along s (k + (length s - 1))) full.own.wheel (along-below places s loop some (k + (length s - 1)))))
+turn-in places full s loop v some k = grind (arith, add-lt, place-below, along-below, minus-lt)
 
 module _ (places : List ℕ) (full : IsFullWheel places) (s : List ℕ) (loop : IsLoop places s) where
   -- round a vertex and a middle there are no two turns 1 alone

@@ -1,8 +1,5 @@
 -- A ring that was reduced, and taken across all quads beside it if its turns are all -2, is cyclically canonical.
-use Rattle.spoke_rings.proofs.Common.{◌≡◌, ℕ, ◌<◌, ◌≤◌, inl, inr, arith, refl, sym, ◌∙◌, ap, subst, true, List, length, cases_eq, nil_from_length, if◌then◌else◌, minus}
-use Rattle.spoke_rings.specs.CyclicWords.{IsLoop, IsFullWheel, IsCyclicallyCanonical, turn_along, cyclic_turn}
-use Rattle.spoke_rings.specs.LoopSteps.{LoopLeads}
-use Rattle.spoke_rings.specs.Private.Rings.{RingView, ring_turn, from_vertex, Acts, IsFineRing, TurnsOver}
+use Rattle.spoke_rings.proofs.Common.{IsLoop, IsFullWheel, IsCyclicallyCanonical, turn_along, cyclic_turn, LoopLeads, RingView, ring_turn, from_vertex, Acts, IsFineRing, TurnsOver, ◌≡◌, ℕ, ◌<◌, ◌≤◌, inl, inr, arith, refl, sym, ◌∙◌, ap, subst, true, List, length, cases_eq, nil_from_length, if◌then◌else◌, minus}
 use Rattle.spoke_rings.proofs.Along.{rotated, same-rows}
 use Rattle.spoke_rings.proofs.RingTurns.{turn-round}
 use Rattle.spoke_rings.proofs.Acting.{acts-on}
@@ -59,7 +56,6 @@ module _ (places : List ℕ) (full : IsFullWheel places) where
   form-over start reduced now over last acts shorter on some t on_last =
       let here = at-vertex places reduced now acts.loop on.0 on.1 in
       let there = at-vertex places over last t.acts.loop on_last.0 on_last.1 in
-      let long = there.as_long in
       let over_long = t.as_long in
       let now_long = here.as_long in
       record {

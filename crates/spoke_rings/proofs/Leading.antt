@@ -1,6 +1,5 @@
 -- Which loop steps lead from one closed list to another.
-use Rattle.spoke_rings.proofs.Common.{is_quad, from_spoke, spur_goes, ◌≡◌, ℕ, ◌+◌, ◌%◌, ◌<◌, arith, refl, sym, ◌∙◌, ap, ap₂, Bool, true, false, not, List, [], ◌∷◌, ◌++◌, length, Option, Some, None, append_assoc, drop-append_seam, take-append_seam, eq-eqb, lt-ltb, and_from, length-append, option_map, option_and_then, IsQuad, add}
-use Rattle.spoke_rings.specs.LoopSteps.{LoopStep, spur_out, spur_in, across, rotate, spur_comes, after_loop_step, after_loop_steps, LoopLeads}
+use Rattle.spoke_rings.proofs.Common.{is_quad, from_spoke, spur_goes, LoopStep, spur_out, spur_in, across, rotate, spur_comes, after_loop_step, after_loop_steps, LoopLeads, ◌≡◌, ℕ, ◌+◌, ◌%◌, ◌<◌, arith, refl, sym, ◌∙◌, ap, ap₂, Bool, true, false, not, List, [], ◌∷◌, ◌++◌, length, Option, Some, None, append_assoc, drop-append_seam, take-append_seam, eq-eqb, lt-ltb, and_from, length-append, option_map, option_and_then, IsQuad, add}
 
 module _ (places : List ℕ) where
   -- no steps, one step, and steps after steps
@@ -53,9 +52,7 @@ module _ (places : List ℕ) where
       (ap₂ (λ x y. Some (x ++ y)) (drop-append_seam a b) (take-append_seam a b)))
 
   pub quad-is : (a c : ℕ) → IsQuad places a c → is_quad places a c ≡ true
-  quad-is a c q =
-      let d = length places in
-      and_from _ _ (and_from _ _ (and_from _ _ (lt-ltb a d q.a_below) (lt-ltb c d q.c_below)) (eq-eqb _ _ q.a_place)) (eq-eqb _ _ q.c_place)
+  quad-is a c q = grind (arith, and_from)
 
   pub quad-down : (a c : ℕ) (post : List ℕ) → IsQuad places a c →
       LoopLeads places (a ∷ add (length places) a 1 ∷ post) (add (length places) c 1 ∷ c ∷ post)

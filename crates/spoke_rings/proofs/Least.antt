@@ -13,21 +13,7 @@ pub record Greater (f g : ℕ → ℕ) : Type 0 where
   pub greater : g place < f place
 
 pub greater-trans : (f g h : ℕ → ℕ) → Greater f g → Greater g h → Greater f h
-greater-trans f g h a b = elim (cases_lt a.place b.place) [
-  | inl before ↦ record {
-    place = a.place;
-    same = λ k below. a.same k below ∙ b.same k (omega arith);
-    greater = let e = b.same a.place before in let d = a.greater in omega arith;
-  }
-  | inr behind ↦ record {
-    place = b.place;
-    same = λ k below. a.same k (omega arith) ∙ b.same k below;
-    greater = elim (cases_eq a.place b.place) [
-      | inl e ↦ let d = a.greater in let g' = b.greater in let x = ap f e in let y = ap g e in omega arith
-      | inr other ↦ let e = a.same b.place (omega arith) in let d = b.greater in omega arith
-    ];
-  }
-]
+greater-trans f g h a b = grind arith
 
 pub greater-self : (f g : ℕ → ℕ) → ((k : ℕ) → f k ≡ g k) → ¬ Greater f g
 greater-self f g same a = let e = same a.place in let d = a.greater in omega arith
@@ -66,12 +52,7 @@ module _ (f : ℕ → ℕ) (n : ℕ) (some : 0 < n) (round : (k : ℕ) → f (k 
     least : (b : ℕ) → b < suc count → ¬ Greater (from f (2 * start)) (from f (2 * b))
 
   least-below : (count : ℕ) → LeastBelow count
-  least-below zero = record {
-    start = 0;
-    start_below = omega arith;
-    least = λ b below g. (let e : b ≡ 0 = omega arith in
-        greater-self (from f (2 * 0)) (from f (2 * b)) (λ k. ap (λ i. from f (2 * i) k) (sym e)) g);
-  }
+  least-below zero = grind (arith, greater-self, from)
   least-below (suc count) =
       let old = least-below count in
       let b_below = old.start_below in
@@ -124,10 +105,7 @@ module _ (f : ℕ → ℕ) (n : ℕ) (some : 0 < n) (round : (k : ℕ) → f (k 
         record {
           start = earlier.start;
           below = earlier.below;
-          same = λ k. (
-              let e2 : 2 * a + k ≡ 2 * (a - half) + k + n = omega arith in
-              earlier.same k ∙ sym (ap f e2 ∙ round (2 * (a - half) + k))
-              );
+          same = λ k. grind arith;
         }
   ]
 

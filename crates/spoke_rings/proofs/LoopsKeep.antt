@@ -1,21 +1,14 @@
 -- What spurs and quads keep, steps on closed lists keep too, where their rotations do; and closed lists of spokes of the wheel they stay.
-use Rattle.spoke_rings.proofs.Common.{spur_goes, ◌≡◌, ℕ, ◌+◌, ◌%◌, ◌<◌, ◌⊎◌, inl, inr, arith, refl, sym, ◌∙◌, subst, Bool, true, false, List, [], ◌∷◌, ◌++◌, take, drop, length, Some, and_parts, eqb-true, ltb-true, ◌==◌, ◌&&◌, nat_lt}
+use Rattle.spoke_rings.proofs.Common.{spur_goes, IsLoop, LoopStep, spur_out, spur_in, across, rotate, spur_comes, across_quad, after_loop_step, after_loop_steps, LoopLeads, IsRotation, ◌≡◌, ℕ, ◌+◌, ◌%◌, ◌⊎◌, inl, inr, arith, sym, ◌∙◌, subst, Bool, true, false, List, [], ◌∷◌, ◌++◌, take, drop, length, Some, and_parts, eqb-true, ltb-true, ◌==◌, ◌&&◌, nat_lt}
 use Rattle.spoke_paths.proofs.StepsKeep.{KeepsSteps, Keeps, spur-keeps, turn-keeps, from-keeps}
 use Rattle.std.proofs.lemmas.Option.{cond_some, option_and_then_some}
 use Rattle.turn_words.specs.Lemmas.FromEnd.{all-from, in-range-from}
 use Rattle.turn_words.specs.Lemmas.Lists.{InRange}
-use Rattle.spoke_rings.specs.CyclicWords.{IsLoop}
-use Rattle.spoke_rings.specs.LoopSteps.{LoopStep, spur_out, spur_in, across, rotate, spur_comes, across_quad, after_loop_step, after_loop_steps, LoopLeads}
-use Rattle.spoke_rings.specs.Rotations.{IsRotation}
 use Rattle.spoke_rings.proofs.RingTurns.{loop-rotated}
 
 module _ (places : List ℕ) (Same : Bool → List ℕ → List ℕ → Type 0) (keeps : KeepsSteps places Same) where
   spur-comes-keeps : (x : ℕ) → Keeps places Same keeps (λ b. spur_comes places x)
-  spur-comes-keeps x b p q h e =
-      let told = cond_some (nat_lt x (length places)) (x ∷ x ∷ p) q e in
-      let below : x < length places = ltb-true x (length places) told.0 in
-      subst (λ l. Same b p l × InRange (length places) l) told.1
-      (keeps.turn b (x ∷ x ∷ p) p (keeps.spur b x p below), (below, (below, h)))
+  spur-comes-keeps x b p q h e = grind (arith, cond_some)
 
   across-keeps : (a c : ℕ) (up : Bool) → Keeps places Same keeps (across_quad places a c up)
   across-keeps a c up true p q h e = turn-keeps places Same keeps a c up true p q h e
@@ -38,14 +31,7 @@ module _ (places : List ℕ) (Same : Bool → List ℕ → List ℕ → Type 0) 
 
 -- spurs and quads keep whether the length is even
 lengths-keep : (places : List ℕ) → KeepsSteps places (λ b p q. length p % 2 ≡ length q % 2)
-lengths-keep places = record {
-  itself = λ b p. refl;
-  turn = λ b p q e. sym e;
-  on = λ b p q r e f. e ∙ f;
-  behind = λ b x p q l e. omega arith;
-  spur = λ b x p l. omega arith;
-  quad = λ a c p h. refl;
-}
+lengths-keep places = grind arith
 
 step-loop : (places : List ℕ) (step : LoopStep) (x y : List ℕ) → IsLoop places x → after_loop_step places step x ≡ Some y → IsLoop places y
 step-loop places step x y loop e =

@@ -1,14 +1,11 @@
 -- Turns and moves between places below a degree.
-use Rattle.spoke_rings.proofs.Common.{◌≡◌, ℕ, ◌+◌, ◌-◌, ◌<◌, ◌≤◌, arith, sym, ◌∙◌, ap, ap₂, Bool, false, add-cases, minus-cases, minus-one, add, minus}
-use Rattle.spoke_rings.specs.Private.Rings.{one_on}
+use Rattle.spoke_rings.proofs.Common.{one_on, ◌≡◌, ℕ, ◌+◌, ◌-◌, ◌<◌, ◌≤◌, arith, sym, ◌∙◌, ap, Bool, false, add-cases, minus-cases, minus-one, add, minus}
 
 pub turn-on : (d p q from to : ℕ) → from ≡ p → to ≡ q → from < d → to < d → from ≤ to → to - from ≡ add d q (minus d p)
-turn-on d p q from to e f below inside on =
-    omega (arith, minus-cases d from below, add-cases d to (minus d from)) ∙ ap₂ (λ x y. add d x (minus d y)) f e
+turn-on d p q from to e f below inside on = grind (arith, minus-cases, add-cases)
 
 pub turn-back : (d p q from to : ℕ) → from ≡ p → to ≡ q → from < d → to < d → to < from → d - from + to ≡ add d q (minus d p)
-turn-back d p q from to e f below inside back =
-    omega (arith, minus-cases d from below, add-cases d to (minus d from)) ∙ ap₂ (λ x y. add d x (minus d y)) f e
+turn-back d p q from to e f below inside back = grind (arith, minus-cases, add-cases)
 
 pub moved-on : (d p by place : ℕ) → place ≡ p → place < d - by → place + by ≡ add d p by
 moved-on d p by place e on = omega (arith, add-cases d p by)

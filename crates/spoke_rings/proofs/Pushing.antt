@@ -1,8 +1,5 @@
 -- What a push over the seam makes of the turns, and that it is a way across a quad.
-use Rattle.spoke_rings.proofs.Common.{up-one, down-one, less-one, more-one, turn-up, turn-down, ◌≡◌, ℕ, ◌+◌, ◌-◌, ◌%◌, ◌<◌, ◌≤◌, inl, inr, arith, refl, sym, ◌∙◌, ap, ap₂, subst, zero, suc, Bool, true, false, not, List, [], ◌∷◌, ◌++◌, take, drop, length, get_or, drop-append_seam, take-append_seam, get_or-append_seam, cases_eq, same_number_lists, length-append, get_or_append_left, IsQuad, add-cases, minus-cases, minus-one, add-lt, minus-lt, add, minus, place_round}
-use Rattle.spoke_rings.specs.CyclicWords.{stands_before, turn_along, IsLoop, IsFullWheel}
-use Rattle.spoke_rings.specs.LoopSteps.{LoopLeads}
-use Rattle.spoke_rings.specs.Private.Rings.{RingView, Pushes, TurnsPushed, one_on, from_vertex, ring_turn, Acts}
+use Rattle.spoke_rings.proofs.Common.{up-one, down-one, less-one, more-one, turn-up, turn-down, stands_before, turn_along, IsLoop, IsFullWheel, LoopLeads, RingView, Pushes, TurnsPushed, one_on, from_vertex, ring_turn, Acts, ◌≡◌, ℕ, ◌+◌, ◌-◌, ◌%◌, ◌<◌, ◌≤◌, inl, inr, arith, refl, sym, ◌∙◌, ap, ap₂, subst, zero, suc, Bool, true, false, not, List, [], ◌∷◌, ◌++◌, take, drop, length, get_or, drop-append_seam, take-append_seam, get_or-append_seam, cases_eq, same_number_lists, length-append, get_or_append_left, IsQuad, add-cases, minus-cases, minus-one, add-lt, minus-lt, add, minus, place_round}
 use Rattle.spoke_rings.proofs.Leading.{leads-same, leads-on, quad-down, quad-up, seam-down, seam-up}
 use Rattle.spoke_rings.proofs.RingTurns.{turn_at, turn-seam, turn-behind, stands-odd, place-below, spoke-below}
 
@@ -94,21 +91,10 @@ module _ (places : List ℕ) (full : IsFullWheel places) where
   back-on x h = let five = full.own.five in omega (arith, minus-one d five, add-cases d x (minus d 1), add-cases d (add d x (minus d 1)) 1)
 
   turn-less : (x : ℕ) → x < d → add d (add d x (minus d 1)) (minus d x) ≡ minus d 1
-  turn-less x h =
-      let five = full.own.five in
-      omega (arith, minus-one d five, minus-cases d x h, add-cases d x (minus d 1), add-cases d (add d x (minus d 1)) (minus d x))
+  turn-less x h = grind (arith, minus-one, minus-cases, add-cases)
 
   turn-more : (x : ℕ) → x < d → add d x (minus d (add d x (minus d 1))) ≡ 1
-  turn-more x h =
-      let five = full.own.five in
-      let inside = add-lt d x (minus d 1) h (let one = minus-one d five in omega arith) in
-      omega (
-        arith,
-        minus-one d five,
-        add-cases d x (minus d 1),
-        minus-cases d (add d x (minus d 1)) inside,
-        add-cases d x (minus d (add d x (minus d 1))),
-      )
+  turn-more x h = grind (arith, add-lt, minus-one, add-cases, minus-cases)
 
   next-below : (x : ℕ) → x < d → add d x 1 < d
   next-below x h = add-lt d x 1 h (let five = full.own.five in omega arith)
@@ -193,54 +179,12 @@ module _ (places : List ℕ) (full : IsFullWheel places) where
   -- one on and the other back
   on-off : (up : Bool) (x y : ℕ) → x < d → y < d →
       add d x (minus d (add d y (one_on d (not up)))) ≡ add d (add d x (minus d y)) (one_on d up)
-  on-off true x y hx hy =
-      let five = full.own.five in
-      let inside = add-lt d y (minus d 1) hy (let one = minus-one d five in omega arith) in
-      omega (
-        arith,
-        minus-one d five,
-        add-cases d y (minus d 1),
-        minus-cases d (add d y (minus d 1)) inside,
-        add-cases d x (minus d (add d y (minus d 1))),
-        minus-cases d y hy,
-        add-cases d x (minus d y),
-        add-cases d (add d x (minus d y)) 1,
-      )
-  on-off false x y hx hy =
-      let five = full.own.five in
-      let inside = next-below y hy in
-      omega (
-        arith,
-        minus-one d five,
-        add-cases d y 1,
-        minus-cases d (add d y 1) inside,
-        add-cases d x (minus d (add d y 1)),
-        minus-cases d y hy,
-        add-cases d x (minus d y),
-        add-cases d (add d x (minus d y)) (minus d 1),
-      )
+  on-off true x y hx hy = grind (arith, add-lt, minus-one, add-cases, minus-cases)
+  on-off false x y hx hy = grind (arith, minus-one, add-cases, minus-cases)
 
   on-before : (up : Bool) (x y : ℕ) → x < d → y < d → add d (add d x (one_on d up)) (minus d y) ≡ add d (add d x (minus d y)) (one_on d up)
-  on-before true x y hx hy =
-      omega (
-        arith,
-        add-cases d x 1,
-        minus-cases d y hy,
-        add-cases d (add d x 1) (minus d y),
-        add-cases d x (minus d y),
-        add-cases d (add d x (minus d y)) 1,
-      )
-  on-before false x y hx hy =
-      let five = full.own.five in
-      omega (
-        arith,
-        minus-one d five,
-        add-cases d x (minus d 1),
-        minus-cases d y hy,
-        add-cases d (add d x (minus d 1)) (minus d y),
-        add-cases d x (minus d y),
-        add-cases d (add d x (minus d y)) (minus d 1),
-      )
+  on-before true x y hx hy = grind (arith, add-cases, minus-cases)
+  on-before false x y hx hy = grind (arith, minus-one, add-cases, minus-cases)
 
   on-below : (up : Bool) (x : ℕ) → x < d → add d x (one_on d up) < d
   on-below true x hx = next-below x hx
@@ -295,7 +239,6 @@ module _ (places : List ℕ) (full : IsFullWheel places) where
     -- a turn of the new ring, by its two spokes
     new-turn : (k : ℕ) → 0 < k → k < n → ring_turn places new k ≡ turn_at places (stands_before v k) (is (k - 1)) (is k)
     new-turn k first below =
-        let long = p.as_long in
         ap (λ b. turn_along places b new.spokes k) p.at_vertex ∙ turn-behind places v new.spokes k first (omega arith)
 
     old-turn : (k : ℕ) → 0 < k → k < n → ring_turn places old k ≡ turn_at places (stands_before v k) (was (k - 1)) (was k)

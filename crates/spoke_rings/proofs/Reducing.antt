@@ -1,7 +1,5 @@
 -- How far a ring is reduced, and what its acts make of that.
-use Rattle.spoke_rings.proofs.Common.{◌≡◌, ◌≢◌, ℕ, ◌+◌, ◌-◌, ◌*◌, ◌<◌, ◌≤◌, ◌⊎◌, inl, inr, arith, refl, sym, ◌∙◌, ap, ap₂, subst, suc, Bool, true, false, List, length, get_or, cases_eq, cases_lt, add-cases, minus-cases, minus-one, add, minus, place_round}
-use Rattle.spoke_rings.specs.CyclicWords.{IsLoop, IsFullWheel}
-use Rattle.spoke_rings.specs.Private.Rings.{RingView, ring_turn, Acts, Pushes, Rises, Shortens, IsBracket, IsFine, IsFineRing, turns_sum}
+use Rattle.spoke_rings.proofs.Common.{IsLoop, IsFullWheel, RingView, ring_turn, Acts, Pushes, Rises, Shortens, IsBracket, IsFine, IsFineRing, turns_sum, ◌≡◌, ◌≢◌, ℕ, ◌+◌, ◌-◌, ◌*◌, ◌<◌, ◌≤◌, ◌⊎◌, inl, inr, arith, refl, sym, ◌∙◌, ap, ap₂, subst, suc, Bool, true, false, List, length, get_or, cases_lt, common_steps, add-cases, minus-cases, minus-one, add, minus, place_round}
 use Rattle.spoke_rings.proofs.RingTurns.{turn-round, turn-seam, spoke-below, place-below}
 use Rattle.spoke_rings.proofs.Pushing.{push-acts, push-turns}
 use Rattle.spoke_rings.proofs.Acting.{WentOn, acts-on, acts-start}
@@ -158,7 +156,6 @@ module _ (places : List ℕ) (full : IsFullWheel places) where
   pub reducing-end : (start ring : RingView) (passed : ℕ) → Reducing places start ring passed → length ring.spokes ≤ passed →
       IsFineRing places ring
   reducing-end start ring passed r ended j below =
-      let within = r.within in
       let n = length ring.spokes in
       fine-same (length places) n (turns_from (ring_turn places ring) (n - passed + j)) (λ k. ring_turn places ring (j + k))
       (λ k. (let e : n - passed + j + k ≡ j + k = omega arith in ap (ring_turn places ring) e)) (r.fine j (omega arith))
@@ -180,51 +177,23 @@ fine-other d n turn a b e = record { no_spur = a; no_minus = b; no_bracket = λ 
 
 pub fine-one : (d n twos : ℕ) (turn : ℕ → ℕ) → 5 ≤ d → turn 0 ≡ 1 → twos + 1 < n → ((i : ℕ) → i < twos → turn (n - 1 - i) ≡ 2) →
     turn (n - 1 - twos) ≢ 2 → (turn (n - 1 - twos) ≡ 1 → n < twos + 3) → IsFine d n turn
-fine-one d n twos turn five one within run not_two not_opened = record {
-  no_spur = λ e. absurd (omega arith);
-  no_minus = λ e. (let m = minus-one d five in absurd (omega arith));
-  no_bracket = λ _ k b. elim (cases_lt k twos) [
-    | inl fewer ↦
-        let two = run k fewer in
-        elim b.opens [
-          | inl all ↦ omega arith
-          | inr opened ↦ let one_there = opened.1 in omega arith
-        ]
-    | inr more ↦ elim (cases_eq k twos) [
-      | inl same ↦ elim b.opens [
-        | inl all ↦ omega arith
-        | inr opened ↦ (let far = not_opened (ap (λ i. turn (n - 1 - i)) (sym same) ∙ opened.1) in let near = opened.0 in omega arith)
-      ]
-      | inr other ↦ not_two (b.run twos (omega arith))
-    ]
-  ];
-}
+fine-one d n twos turn five one within run not_two not_opened = grind (arith, minus-one)
 
 module _ (places : List ℕ) (full : IsFullWheel places) where
   sum-within : (ring : RingView) → IsLoop places ring.spokes →
       turns_sum (ring_turn places ring) (length ring.spokes) ≤ length ring.spokes * length places
-  sum-within ring loop = elim (cases_eq (length ring.spokes) 0) [
-    | inl none ↦ let empty = ap (turns_sum (ring_turn places ring)) none in omega arith
-    | inr some ↦ sum-bound (ring_turn places ring) (length places) (length ring.spokes)
-        (turn-in places full ring.spokes loop ring.at_vertex (omega arith))
-  ]
+  sum-within ring loop = grind (arith, common_steps, sum-bound, turn-in)
 
   pub left-shorter : (start ring new : RingView) (passed : ℕ) → Reducing places start ring passed → Shortens places ring new →
       left_of places (length start.spokes) new 0 < left_of places (length start.spokes) ring passed
   left-shorter start ring new passed r s =
-      let shorter = s.shorter in
       weight-shorter (length start.spokes) (length places) (length ring.spokes) (length new.spokes)
       (turns_sum (ring_turn places ring) (length ring.spokes)) (turns_sum (ring_turn places new) (length new.spokes)) passed
       r.not_longer (omega arith) (sum-within new s.acts.loop)
 
   pub left-lighter : (start ring new : RingView) (passed : ℕ) → Reducing places start ring passed → Rises places ring new →
       left_of places (length start.spokes) new 0 < left_of places (length start.spokes) ring passed
-  left-lighter start ring new passed r s =
-      let n = length ring.spokes in
-      subst (λ m. weight (length start.spokes) (length places) m (turns_sum (ring_turn places new) (length new.spokes)) 0
-      < left_of places (length start.spokes) ring passed) (sym s.as_long)
-      (weight-lighter (length start.spokes) (length places) n (turns_sum (ring_turn places ring) n)
-      (turns_sum (ring_turn places new) (length new.spokes)) passed r.not_longer s.lighter)
+  left-lighter start ring new passed r s = grind (arith, weight, left_of, weight-lighter)
 
   pub left-passed : (start ring new : RingView) (passed : ℕ) → Reducing places start ring passed → passed < length ring.spokes →
       WentOn places 1 ring new → left_of places (length start.spokes) new (passed + 1) < left_of places (length start.spokes) ring passed

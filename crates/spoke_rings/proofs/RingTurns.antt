@@ -1,8 +1,6 @@
 -- The turns of a ring, and what is left of them where it is gone on along.
-use Rattle.spoke_rings.proofs.Common.{◌≡◌, ℕ, ◌+◌, ◌-◌, ◌%◌, ◌<◌, ◌≤◌, inl, inr, arith, refl, sym, ◌∙◌, ap, ap₂, Bool, true, false, not, List, take, drop, length, get_or, cases_eq, eq-eqb, ne_eqb, All-append, All-take, All-drop, All-get_or, add, minus, place_round}
-use Rattle.std.proofs.Math.Bool.{not-not}
+use Rattle.spoke_rings.proofs.Common.{spoke_along, stands_before, turn_along, IsLoop, ◌≡◌, ℕ, ◌+◌, ◌-◌, ◌%◌, ◌<◌, ◌≤◌, arith, refl, ◌∙◌, ap, ap₂, Bool, true, false, not, List, length, get_or, eq-eqb, ne_eqb, common_steps, All-get_or, add, minus, place_round}
 use Rattle.turn_words.specs.Wheels.{IsWheel}
-use Rattle.spoke_rings.specs.CyclicWords.{spoke_along, stands_before, turn_along, IsLoop}
 use Rattle.spoke_rings.proofs.Along.{along-first, along-round, rotated, rotated-along, rotated-length}
 
 -- where a list stands
@@ -14,16 +12,10 @@ stands-odd v k e = rw (ne_eqb (k % 2) 0 (λ z. absurd (omega arith))) refl
 
 -- an odd number of places further
 pub stands-turned : (v : Bool) (k c : ℕ) → c % 2 ≡ 1 → stands_before (not v) k ≡ stands_before v (k + c)
-stands-turned v k c odd = elim (cases_eq (k % 2) 0) [
-  | inl even ↦ stands-even (not v) k even ∙ sym (stands-odd v (k + c) (omega arith))
-  | inr other ↦ stands-odd (not v) k (omega arith) ∙ not-not v ∙ sym (stands-even v (k + c) (omega arith))
-]
+stands-turned v k c odd = grind (arith, stands-even, stands-odd)
 
 pub stands-round : (v : Bool) (k n : ℕ) → n % 2 ≡ 0 → stands_before v (k + n) ≡ stands_before v k
-stands-round v k n even = elim (cases_eq (k % 2) 0) [
-  | inl is ↦ stands-even v (k + n) (omega arith) ∙ sym (stands-even v k is)
-  | inr other ↦ stands-odd v (k + n) (omega arith) ∙ sym (stands-odd v k (omega arith))
-]
+stands-round v k n even = grind (arith, stands-even, stands-odd)
 
 -- the turn between two spokes, round one point
 abbrev pub turn_at : List ℕ → Bool → ℕ → ℕ → ℕ
@@ -40,31 +32,16 @@ module _ (places : List ℕ) where
   -- the list from another start, where it stands at the other point
   pub turn-rotated : (v : Bool) (s : List ℕ) (c : ℕ) → c % 2 ≡ 1 → c ≤ length s → (k : ℕ) →
       turn_along places (not v) (rotated c s) k ≡ turn_along places v s (k + c)
-  turn-rotated v s c odd within k =
-      let n = length s in
-      let some : 0 < n = omega arith in
-      let long = rotated-length s c within in
-      let e : k + (n - 1) + c ≡ k + c + (n - 1) = omega arith in
-      ap₂ (λ b x. turn_at places b (spoke_along (rotated c s) (k + (length (rotated c s) - 1))) x) (stands-turned v k c odd)
-      (rotated-along s c within some k)
-      ∙ ap (λ y. turn_at places (stands_before v (k + c)) y (spoke_along s (k + c)))
-      (ap (λ m. spoke_along (rotated c s) (k + (m - 1))) long ∙ rotated-along s c within some (k + (n - 1)) ∙ ap (spoke_along s) e)
+  turn-rotated v s c odd within k = grind (arith, rotated-length, stands-turned, rotated-along)
 
   -- the turn at the seam, and those behind it
   pub turn-seam : (v : Bool) (s : List ℕ) → 0 < length s →
       turn_along places v s 0 ≡ turn_at places v (get_or s (length s - 1) 0) (get_or s 0 0)
-  turn-seam v s some =
-      let last : length s - 1 < length s = omega arith in
-      let e : 0 + (length s - 1) ≡ length s - 1 = omega arith in
-      ap₂ (λ y x. turn_at places v y x) (ap (spoke_along s) e ∙ along-first s (length s - 1) last) (along-first s 0 some)
+  turn-seam v s some = grind (arith, along-first)
 
   pub turn-behind : (v : Bool) (s : List ℕ) (k : ℕ) → 0 < k → k < length s →
       turn_along places v s k ≡ turn_at places (stands_before v k) (get_or s (k - 1) 0) (get_or s k 0)
-  turn-behind v s k some below =
-      let e : k + (length s - 1) ≡ k - 1 + length s = omega arith in
-      let less : k - 1 < length s = omega arith in
-      ap₂ (λ y x. turn_at places (stands_before v k) y x) (ap (spoke_along s) e ∙ along-round s (k - 1) ∙ along-first s (k - 1) less)
-      (along-first s k below)
+  turn-behind v s k some below = grind (arith, along-round, along-first)
 
   pub place-below : (b : Bool) (i : ℕ) → IsWheel places → i < length places → place_round places b i < length places
   place-below true i wheel below = wheel.inside i below
@@ -74,8 +51,4 @@ module _ (places : List ℕ) where
   spoke-below s k loop below = All-get_or (λ spoke. spoke < length places) s k 0 below loop.below
 
   pub loop-rotated : (s : List ℕ) (c : ℕ) → c ≤ length s → IsLoop places s → IsLoop places (rotated c s)
-  loop-rotated s c within loop = record {
-    below = All-append (λ spoke. spoke < length places) (drop c s) (take c s) (All-drop (λ spoke. spoke < length places) c s loop.below)
-        (All-take (λ spoke. spoke < length places) c s loop.below);
-    even = ap (λ n. n % 2) (rotated-length s c within) ∙ loop.even;
-  }
+  loop-rotated s c within loop = grind (arith, common_steps, rotated-length)

@@ -1,7 +1,5 @@
 -- How a ring with turns -2 alone is taken across all the quads beside it, turn by turn.
-use Rattle.spoke_rings.proofs.Common.{IsCanonicalRow, ◌≡◌, ℕ, ◌+◌, ◌-◌, ◌%◌, ◌<◌, ◌≤◌, inl, inr, arith, refl, sym, ◌∙◌, ap, ap₂, subst, suc, Bool, true, false, not, List, [], ◌∷◌, ◌++◌, length, get_or, cases_eq, append-nil, length-append, get_or_append_left, get_or-append-add, All-append, All-cons, All-nil, if◌then◌else◌, two-up, add-cases, minus-cases, minus-one, minus-two, add-lt, add-minus, add, minus, place_round}
-use Rattle.spoke_rings.specs.CyclicWords.{IsLoop, IsFullWheel, turn_along, stands_before}
-use Rattle.spoke_rings.specs.Private.Rings.{RingView, ring_turn, Acts, Pushes, TurnsPushed, TurnsOver, Shortens, IsFineRing}
+use Rattle.spoke_rings.proofs.Common.{IsCanonicalRow, IsLoop, IsFullWheel, turn_along, stands_before, RingView, ring_turn, Acts, Pushes, TurnsPushed, TurnsOver, Shortens, IsFineRing, ◌≡◌, ℕ, ◌+◌, ◌-◌, ◌%◌, ◌<◌, ◌≤◌, inl, inr, arith, refl, sym, ◌∙◌, ap, ap₂, subst, suc, Bool, true, false, not, List, [], ◌∷◌, ◌++◌, length, get_or, cases_eq, common_steps, append-nil, length-append, get_or_append_left, get_or-append-add, All-append, All-cons, All-nil, if◌then◌else◌, two-up, add-cases, minus-cases, minus-one, minus-two, add-lt, add-minus, add, minus, place_round}
 use Rattle.spoke_rings.proofs.Along.{same-rows, rotated}
 use Rattle.spoke_rings.proofs.Leading.{leads-same, leads-on, spur-enters}
 use Rattle.spoke_rings.proofs.RingTurns.{turn_at, turn-round, turn-seam, turn-behind, stands-even, stands-odd, stands-turned, spoke-below, place-below}
@@ -20,11 +18,7 @@ pub data Over (d n : ℕ) (turn : ℕ → ℕ) : ℕ → Type 0 where
       Over d n turn pushed
 
 pub over-seam : (d n pushed : ℕ) (turn : ℕ → ℕ) → pushed < n → Over d n turn pushed → turn 0 ≡ minus d 1
-over-seam d n pushed turn below o = elim o [
-  | first none seam falls end spur ↦ seam
-  | middle some less seam falls end one twos before ↦ seam
-  | last all seam behind twos before ↦ absurd (omega arith)
-]
+over-seam d n pushed turn below o = grind arith
 
 module _ (d n : ℕ) (old mid new : ℕ → ℕ) (five : 5 ≤ d) (two : 2 ≤ n) (p : TurnsPushed d (n + 2) true old mid)
     (round : (k : ℕ) → mid (k + (n + 2)) ≡ mid k) (on : (k : ℕ) → new k ≡ mid (k + 1)) where
@@ -112,28 +106,13 @@ module _ (places : List ℕ) (full : IsFullWheel places) where
   ring s v = record { spokes = s; at_vertex = v }
 
   after-fall : (x y : ℕ) → x < d → y < d → add d x (minus d y) ≡ minus d 2 → add d (add d x 1) (minus d y) ≡ minus d 1
-  after-fall x y hx hy e =
-      let five = full.own.five in
-      omega (
-        arith,
-        minus-one d five,
-        minus-two d five,
-        minus-cases d y hy,
-        add-cases d x (minus d y),
-        add-cases d x 1,
-        add-cases d (add d x 1) (minus d y),
-      )
+  after-fall x y hx hy e = grind (arith, minus-one, minus-two, minus-cases, add-cases)
 
   before-one : (x : ℕ) → x < d → add d x (minus d (add d x 1)) ≡ minus d 1
-  before-one x hx =
-      let five = full.own.five in
-      let inside = add-lt d x 1 hx (omega arith) in
-      omega (arith, minus-one d five, add-cases d x 1, minus-cases d (add d x 1) inside, add-cases d x (minus d (add d x 1)))
+  before-one x hx = grind (arith, add-lt, minus-one, add-cases, minus-cases)
 
   twice-one : (a f b : ℕ) → a < d → f < d → b < d → add d a (minus d f) ≡ 1 → add d f (minus d b) ≡ 1 → add d a (minus d b) ≡ 2
-  twice-one a f b ha hf hb e g =
-      let five = full.own.five in
-      omega (arith, minus-cases d f hf, add-cases d a (minus d f), minus-cases d b hb, add-cases d f (minus d b), add-cases d a (minus d b))
+  twice-one a f b ha hf hb e g = grind (arith, minus-cases, add-cases)
 
   module _ (s : List ℕ) (loop : IsLoop places s) (two : 2 ≤ length s)
       (falls : (k : ℕ) → turn_along places true s k ≡ minus d 2) (z : ℕ) (z_in : z < d)
@@ -145,8 +124,7 @@ module _ (places : List ℕ) (full : IsFullWheel places) where
     front k below = get_or_append_left s (z ∷ z ∷ []) 0 k below
 
     end : get_or (s ++ z ∷ z ∷ []) (length s) 0 ≡ z
-    end = let e : length s ≡ length s + 0 = omega arith in
-        ap (λ k. get_or (s ++ z ∷ z ∷ []) k 0) e ∙ get_or-append-add s (z ∷ z ∷ []) 0 0
+    end = grind (arith, common_steps)
 
     behind : get_or (s ++ z ∷ z ∷ []) (length s + 1) 0 ≡ z
     behind = get_or-append-add s (z ∷ z ∷ []) 1 0
@@ -222,11 +200,7 @@ module _ (places : List ℕ) (full : IsFullWheel places) where
       }
 
   pub turning-spur : (start now : RingView) → Turning places start now 0 → 2 ≤ length start.spokes → ring_turn places now 0 ≡ 0
-  turning-spur start now t some = elim t.over [
-    | first none seam falls end spur ↦ absurd (omega arith)
-    | middle one less seam falls end opened twos before ↦ absurd (omega arith)
-    | last all seam behind twos before ↦ seam
-  ]
+  turning-spur start now t some = grind arith
 
   turning-turns : (start now : RingView) → Turning places start now 0 → 2 ≤ length start.spokes →
       (ring_turn places now 1 ≡ 1) × ((k : ℕ) → 2 ≤ k → k ≤ length start.spokes → ring_turn places now k ≡ 2)

@@ -1,6 +1,5 @@
 -- The sum of the turns of a ring: it stays where the ring is gone on along, and a push up makes it less.
-use Rattle.spoke_rings.proofs.Common.{◌≡◌, ℕ, ◌+◌, ◌-◌, ◌*◌, ◌%◌, ◌<◌, ◌≤◌, inl, inr, arith, refl, sym, ◌∙◌, ap, zero, suc, true, mul-le-mul_right, cases_eq, add-cases, minus-one, add, minus}
-use Rattle.spoke_rings.specs.Private.Rings.{turns_sum, TurnsPushed}
+use Rattle.spoke_rings.proofs.Common.{turns_sum, TurnsPushed, ◌≡◌, ℕ, ◌+◌, ◌-◌, ◌*◌, ◌%◌, ◌<◌, ◌≤◌, inl, inr, arith, refl, sym, ◌∙◌, ap, zero, suc, true, mul-le-mul_right, cases_eq, add-cases, minus-one, add, minus}
 
 pub sum-same : (f g : ℕ → ℕ) → ((k : ℕ) → f k ≡ g k) → (n : ℕ) → turns_sum f n ≡ turns_sum g n
 sum-same f g same zero = refl
@@ -27,11 +26,7 @@ sum-forward f g n round is =
 pub sum-back : (f g : ℕ → ℕ) (n : ℕ) → 0 < n → ((k : ℕ) → f (k + n) ≡ f k) → ((k : ℕ) → g (k + n) ≡ g k) → ((k : ℕ) →
     g k ≡ f (k + (n - 1))) →
     turns_sum g n ≡ turns_sum f n
-sum-back f g n some f_round g_round is =
-    sym (sum-forward g f n g_round (λ k. (
-    let e : k + 1 + (n - 1) ≡ k + n = omega arith in
-    sym (is (k + 1) ∙ ap f e ∙ f_round k)
-    )))
+sum-back f g n some f_round g_round is = grind (arith, sum-forward)
 
 pub sum-bound : (f : ℕ → ℕ) (d n : ℕ) → ((k : ℕ) → f k < d) → turns_sum f n ≤ n * d
 sum-bound f d zero below = omega arith
@@ -84,11 +79,7 @@ pub weight : ℕ → ℕ → ℕ → ℕ → ℕ → ℕ
 weight most d n sum passed = (n * (most * d + 1) + sum) * (most + 1) + (n - passed)
 
 lower : (most a b n p left : ℕ) → a < b → n ≤ most → a * (most + 1) + (n - p) < b * (most + 1) + left
-lower most a b n p left less within =
-    let up : a + 1 ≤ b = omega arith in
-    let times = mul-le-mul_right (most + 1) up in
-    let expand : (a + 1) * (most + 1) ≡ a * (most + 1) + (most + 1) = grind arith in
-    omega arith
+lower most a b n p left less within = grind arith
 
 pub weight-passed : (most d n sum passed : ℕ) → passed < n → weight most d n sum (passed + 1) < weight most d n sum passed
 unfolding weight
@@ -96,8 +87,7 @@ weight-passed most d n sum passed below = omega arith
 
 pub weight-lighter : (most d n sum sum' passed : ℕ) → n ≤ most → sum' < sum → weight most d n sum' 0 < weight most d n sum passed
 unfolding weight
-weight-lighter most d n sum sum' passed within less =
-    lower most (n * (most * d + 1) + sum') (n * (most * d + 1) + sum) n 0 (n - passed) (omega arith) within
+weight-lighter most d n sum sum' passed within less = grind (arith, lower)
 
 pub weight-shorter : (most d n n' sum sum' passed : ℕ) → n ≤ most → n' < n → sum' ≤ n' * d →
     weight most d n' sum' 0 < weight most d n sum passed

@@ -1,5 +1,4 @@
-use Rattle.halfedge_map.proofs.Common.{first_side}
-use Rattle.halfedge_map.specs.StoredDarts.{ListNexts, signed}
+use Rattle.halfedge_map.proofs.Common.{ListNexts, signed, first_side}
 use Rattle.halfedge_map.proofs.darts.next_darts.Given as goal
 
 abbrev pub invariant-loop-face : goal.invariant-loop-face

@@ -1,16 +1,9 @@
-use Rattle.halfedge_map.proofs.Common.{◌≡◌, ℕ, ◌+◌, ◌<◌, not, ◌++◌, ◌∷◌, [], length, refl, subst, arith, first_side, face_at, next_corner, is_flipped, MOST_SIDES, DartName}
-use Rattle.halfedge_map.specs.StoredDarts.{ListNexts, signed}
+use Rattle.halfedge_map.proofs.Common.{signed, ◌≡◌, ℕ, ◌+◌, not, ◌++◌, ◌∷◌, [], length, refl, arith, common_steps, first_side, face_at, next_corner, is_flipped, DartName}
 use Rattle.halfedge_map.proofs.StoringLemmas.{first_side-more, nexts_more, dart_small}
 use Rattle.halfedge_map.proofs.darts.push_nexts.Goals as goal
 
 pub overflow_add-first : goal.overflow_add-first
-overflow_add-first c =
-    let mesh = c.args.faces.now in
-    let f : ℕ = c.args.face.0 in
-    let t : ℕ = c.corner_after.result in
-    let small : first_side mesh f + t < MOST_SIDES = dart_small mesh f t c.requires.few
-    (record { face = c.requires.face; place = omega (arith, c.corner_after.ensures.within, c.sides-sides.ensures); is = refl }) in
-    omega (arith, small, c.first_dart-first.ensures)
+overflow_add-first c = grind (arith, common_steps, first_side, dart_small)
 
 pub loop-at-preserved : goal.loop-at-preserved
 loop-at-preserved c =
@@ -30,9 +23,4 @@ loop-at-preserved c =
     c.loop-at.invariant next)
 
 pub returns : goal.returns
-returns c =
-    let mesh = c.args.faces.now in
-    let f : ℕ = c.args.face.0 in
-    let end : first_side mesh f + c.loop-at.at ≡ first_side mesh (f + 1) =
-    omega (arith, c.loop-at-test.false, c.loop-at.auto.at-end, c.sides-sides.ensures, first_side-more mesh f c.requires.face) in
-    subst (λ n. ListNexts (signed mesh c.args.signs.now) n c.loop-at.next.items) end c.loop-at.invariant
+returns c = grind (arith, first_side, first_side-more, signed)

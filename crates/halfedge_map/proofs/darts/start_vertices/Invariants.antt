@@ -1,5 +1,4 @@
-use Rattle.halfedge_map.proofs.Common.{first_side}
-use Rattle.halfedge_map.specs.StoredDarts.{ListOrigins, signed}
+use Rattle.halfedge_map.proofs.Common.{ListOrigins, signed, first_side}
 use Rattle.halfedge_map.proofs.darts.start_vertices.Given as goal
 
 abbrev pub invariant-loop-face : goal.invariant-loop-face

@@ -4,9 +4,7 @@ use Rattle.manifold_check.proofs.check.meet_conditions.Goals as goal
 
 -- An edge has not two sides.
 pub returns-in-Some-clause-fault : goal.returns-in-Some-clause-fault
-returns-in-Some-clause-fault c =
-    inr (uneven_as_read c.args.faces.now c.args.sides.now c.in-Some.edge.0 c.ends.result.0 c.ends.result.1 c.sides_of.result
-    (omega arith) c.requires c.in-Some.ensures.some c.ends.ensures.low c.ends.ensures.high c.sides_of.ensures)
+returns-in-Some-clause-fault c = grind (arith, uneven_as_read)
 
 pub pinched_vertex-requires-clause-few : goal.pinched_vertex-requires-clause-few
 pinched_vertex-requires-clause-few c =

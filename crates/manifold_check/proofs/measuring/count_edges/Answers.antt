@@ -1,4 +1,4 @@
-use Rattle.manifold_check.proofs.Common.{ends_below, ◌≡◌, ◌+◌, ◌<◌, ℕ, List, get_or, set, length, ap, sym, ◌∙◌, subst, arith, get_or_read, length-set, counted_more, group_of_within, IsCounted, Edge}
+use Rattle.manifold_check.proofs.Common.{ends_below, ◌≡◌, ◌+◌, ◌<◌, ℕ, List, get_or, length, ◌∙◌, subst, arith, get_or_read, length-set, counted_more, group_of_within, IsCounted, Edge}
 use Rattle.manifold_check.proofs.MeasureLemmas.{place_of_edge, low_placed, edges_counted}
 use Rattle.manifold_check.proofs.measuring.count_edges.Goals as goal
 use Rattle.manifold_check.proofs.measuring.count_edges.Goals.{After-part_of}
@@ -16,8 +16,7 @@ placed c =
     let table : List Edge = c.args.sides.now in
     let parts = c.args.parts.now in
     let there : c.loop-edge.edge < length table = omega (arith, c.loop-edge-test.true, c.len-edge-end.ensures) in
-    let is : c.part_of.result ≡ place_of_edge table parts c.loop-edge.edge =
-    c.part_of.ensures ∙ ap (λ v. get_or parts.places v 0) c.ends.ensures.low in
+    let is : c.part_of.result ≡ place_of_edge table parts c.loop-edge.edge = grind arith in
     let below = low_placed c.args.faces.now table parts c.loop-edge.edge c.requires.table c.requires.parts there in
     (is, omega (arith, is, below, c.loop-edge.invariant.many))
 
@@ -49,8 +48,7 @@ loop-edge-preserved c =
     let read : c.index_mut.result.now ≡ get_or counts place 0 = get_or_read counts place _ at.1 c.index_mut.ensures.value 0 in
     record {
       many = length-set counts place (c.index_mut.result.now + 1) ∙ c.loop-edge.invariant.many;
-      counted = subst (λ x. IsCounted (place_of_edge table parts) (c.loop-edge.edge + 1) (set counts place (x + 1))) (sym read)
-          (counted_more (place_of_edge table parts) c.loop-edge.edge place counts (sym at.0) at.1 c.loop-edge.invariant.counted);
+      counted = grind (arith, counted_more);
     }
 
 pub returns-clause-counted : goal.returns-clause-counted

@@ -4,15 +4,7 @@ use Rattle.manifold_check.proofs.measuring.count_vertices.Goals as goal
 use Rattle.manifold_check.proofs.measuring.count_vertices.Goals.{then-used, else-used}
 
 pub index_mut-requires : goal.index_mut-requires
-index_mut-requires c =
-    let used : is_used c.args.faces.now c.loop-vertex.vertex ≡ true = sym (c.if-used.ensures.mesh c.args.faces.now c.requires.table) in
-    omega (
-      arith,
-      c.part_of.ensures,
-      c.requires.parts.places.below c.loop-vertex.vertex used,
-      c.loop-vertex.invariant.many,
-      c.loop-vertex.counts.ok.0,
-    )
+index_mut-requires c = grind arith
 
 pub overflow_add-index_mut : goal.overflow_add-index_mut
 overflow_add-index_mut c =
@@ -20,8 +12,7 @@ overflow_add-index_mut c =
     let v : ℕ = c.loop-vertex.vertex in
     let place : ℕ = c.part_of.result in
     let used : is_used mesh v ≡ true = sym (c.if-used.ensures.mesh mesh c.requires.table) in
-    let inside : place < length c.loop-vertex.counts.items =
-    omega (arith, c.part_of.ensures, c.requires.parts.places.below v used, c.loop-vertex.invariant.many) in
+    let inside : place < length c.loop-vertex.counts.items = grind arith in
     let read : c.index_mut.result.now ≡ get_or c.loop-vertex.counts.items place 0 =
     get_or_read c.loop-vertex.counts.items place _ inside c.index_mut.ensures.value 0 in
     omega (
@@ -44,8 +35,7 @@ loop-vertex-preserved c =
       | then-used w ↦
           (let place : ℕ = w.part_of.result in
           let used : is_used mesh v ≡ true = sym (w.if-used.ensures.mesh mesh c.requires.table) in
-          let inside : place < length counts =
-          omega (arith, w.part_of.ensures, c.requires.parts.places.below v used, c.loop-vertex.invariant.many) in
+          let inside : place < length counts = grind arith in
           let read : w.index_mut.result.now ≡ get_or counts place 0 = get_or_read counts place _ inside w.index_mut.ensures.value 0 in
           rw w.counts-is (record {
             many = length-set counts place (w.index_mut.result.now + 1) ∙ c.loop-vertex.invariant.many;
@@ -61,11 +51,4 @@ loop-vertex-preserved c =
     ]
 
 pub returns-clause-counted : goal.returns-clause-counted
-returns-clause-counted c = λ k l.
-    let mesh = c.args.faces.now in
-    let parts = c.args.parts.now in
-    let counts : List ℕ = c.loop-vertex.counts.items in
-    let all : c.loop-vertex.vertex ≡ mesh.count =
-    omega (arith, c.loop-vertex-test.false, c.count-vertex-end.ensures.count, c.loop-vertex.auto.vertex-end) in
-    vertices_counted mesh parts counts k c.requires.parts l (omega (arith, l, c.loop-vertex.invariant.many))
-    (subst (λ n. IsCounted (place_of_used mesh parts) n counts) all c.loop-vertex.invariant.counted)
+returns-clause-counted c = grind (arith, vertices_counted)

@@ -1,4 +1,4 @@
-use Rattle.manifold_check.proofs.Common.{◌≡◌, inl, inr, ◌+◌, ◌<◌, ℕ, List, [], ◌∷◌, ◌++◌, get_or, length, refl, ap, sym, ◌∙◌, subst, arith, cases_lt, get_or_append_left, get_or_push, get_or_read, length_push, component_at, component_mesh, AreNumbersOf, SurfaceNumbers}
+use Rattle.manifold_check.proofs.Common.{◌≡◌, ◌+◌, ◌<◌, ℕ, List, get_or, length, refl, ap, sym, ◌∙◌, arith, get_or_read, length_push, component_at, component_mesh, AreNumbersOf, SurfaceNumbers}
 use Rattle.manifold_check.proofs.MeasureLemmas.{component_table}
 use Rattle.manifold_check.proofs.PieceLemmas.{length-submesh}
 use Rattle.manifold_check.proofs.measuring.measure.Goals as goal
@@ -28,13 +28,5 @@ loop-part-preserved c =
     } in
     rw c.in_ok-push.ensures.items (record {
       many = length_push all value ∙ ap (λ k. k + 1) c.loop-part.invariant.many;
-      numbers = λ k d l. elim (cases_lt k part) [
-        | inl less ↦ subst (AreNumbersOf (component_mesh mesh parts k))
-            (sym (get_or_append_left all (value ∷ []) d k (omega (arith, less, c.loop-part.invariant.many))))
-            (c.loop-part.invariant.numbers k d less)
-        | inr le ↦
-            (let same : part ≡ k = omega (arith, l, le) in
-            subst (λ j. AreNumbersOf (component_mesh mesh parts j) (get_or (all ++ value ∷ []) j d)) same
-            (subst (AreNumbersOf (component_mesh mesh parts part)) (sym (get_or_push all value d part c.loop-part.invariant.many)) numbers))
-      ];
+      numbers = λ k d l. grind arith;
     })

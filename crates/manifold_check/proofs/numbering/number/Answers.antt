@@ -7,15 +7,7 @@ pub loop-vertex-init : goal.loop-vertex-init
 loop-vertex-init c = rw c.in_ok-places.ensures.items (numbered_none c.args.faces.now c.args.least.now)
 
 pub overflow_add-count : goal.overflow_add-count
-overflow_add-count c =
-    omega (
-      arith,
-      c.loop-vertex.invariant.counted,
-      rank_within (leads c.args.faces.now c.args.least.now) c.loop-vertex.vertex,
-      c.count-vertex-end.ensures.count,
-      c.count-vertex-end.type_inv,
-      c.loop-vertex-test.true,
-    )
+overflow_add-count c = grind (arith, rank_within, leads)
 
 pub loop-vertex-preserved : goal.loop-vertex-preserved
 loop-vertex-preserved c =
@@ -24,12 +16,7 @@ loop-vertex-preserved c =
     let n : ℕ = c.loop-vertex.vertex in
     let first : ℕ = get_or least n 0 in
     let places : List ℕ = c.loop-vertex.places.items in
-    let leasts : AreLeasts mesh least = record {
-      valid = c.count-vertex-end.ensures.valid;
-      components = c.requires.components;
-      members = c.requires.members;
-      count = c.requires.count;
-    } in
+    let leasts : AreLeasts mesh least = grind arith in
     let below : n < length least = omega (arith, c.loop-vertex-test.true, c.count-vertex-end.ensures.count, c.requires.count) in
     elim c.if-not-used.branch [
       | then-not-used+in_ok-push w ↦
@@ -53,8 +40,7 @@ loop-vertex-preserved c =
 pub returns-clause-places : goal.returns-clause-places
 returns-clause-places c =
     let mesh = c.args.faces.now in
-    let all : c.loop-vertex.vertex ≡ mesh.count =
-    omega (arith, c.loop-vertex-test.false, c.count-vertex-end.ensures.count, c.loop-vertex.auto.vertex-end) in
+    let all : c.loop-vertex.vertex ≡ mesh.count = grind arith in
     places_of_components mesh c.args.least.now c.loop-vertex.count c.loop-vertex.places.items
     (record {
       valid = c.count-vertex-end.ensures.valid;
@@ -65,11 +51,4 @@ returns-clause-places c =
     (subst (λ n. AreNumbered mesh c.args.least.now n c.loop-vertex.count c.loop-vertex.places.items) all c.loop-vertex.invariant)
 
 pub returns-clause-few : goal.returns-clause-few
-returns-clause-few c =
-    omega (
-      arith,
-      c.loop-vertex.invariant.counted,
-      rank_within (leads c.args.faces.now c.args.least.now) c.loop-vertex.vertex,
-      c.count-vertex-end.ensures.count,
-      c.loop-vertex.auto.vertex-end,
-    )
+returns-clause-few c = grind (arith, rank_within, leads)

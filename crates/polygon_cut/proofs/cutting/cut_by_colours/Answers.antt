@@ -1,4 +1,4 @@
-use Rattle.polygon_cut.proofs.Common.{◌≡◌, ◌<◌, ◌^◌, ◌∙◌, List, [], length, sym, ap, arith, length-map, DartName, colourings_have_trees, without_ways, dart_numbers}
+use Rattle.polygon_cut.proofs.Common.{◌≡◌, ◌<◌, ◌^◌, ◌∙◌, [], length, sym, arith, length-map, DartName, colourings_have_trees, without_ways, dart_numbers}
 use Rattle.polygon_cut.proofs.CutLemmas.{IsRingWalk, ring_walk, turns_round, few_sides, placed_too, cut_by_colours_is, nothing_to_cut}
 use Rattle.polygon_cut.proofs.cutting.cut_by_colours.Goals as goal
 use Rattle.polygon_cut.proofs.cutting.cut_by_colours.Goals.{In_ok-sides}
@@ -41,16 +41,10 @@ places_by_turns-requires-clause-round c =
     (sym (length-map sides (λ (d : DartName). d.0))))
 
 pub places_by_turns-requires-clause-few : goal.places_by_turns-requires-clause-few
-places_by_turns-requires-clause-few c =
-    omega (
-      arith,
-      few (goal.at.places_by_turns-requires-clause-few c).In_ok-sides,
-      ap (λ (xs : List DartName). length xs) c.deref.ensures.value,
-    )
+places_by_turns-requires-clause-few c = grind (arith, few)
 
 pub overflow_cast-result : goal.overflow_cast-result
-overflow_cast-result c =
-    omega (arith, few (goal.at.overflow_cast-result c).In_ok-sides, c.len.ensures, c.in_ok-sides.field-0.sides.ok.0)
+overflow_cast-result c = grind (arith, few)
 
 pub returns : goal.returns
 returns c =

@@ -1,6 +1,4 @@
-use Rattle.polygon_cut.proofs.Common.{darts_of, rotations_of, ◌≡◌, ◌<◌, ◌∙◌, length, sym, ap, arith, set, length-map, DartName, trees_of, without_ways, is_left, is_left_kind, kind_of}
-use Rattle.polygon_cut.specs.Polygons.{outer_ring}
-use Rattle.polygon_cut.specs.StoredPolygons.{left_at, dart_after_kind}
+use Rattle.polygon_cut.proofs.Common.{darts_of, outer_ring, ◌≡◌, ◌<◌, ◌∙◌, length, sym, ap, arith, set, common_steps, trees_of, without_ways, is_left_kind, kind_of}
 use Rattle.polygon_cut.proofs.CountLemmas.{count_at_most}
 use Rattle.polygon_cut.proofs.RingWalkLemmas.{walking_within, walking_left, walking_other}
 use Rattle.polygon_cut.proofs.ring.label_ring.Goals as goal
@@ -12,23 +10,7 @@ edge_of-requires-in-loop-step c =
     walking_within c.darts.ensures.valid trees c.requires.last c.loop-step.invariant
 
 pub overflow_cast-len : goal.overflow_cast-len
-overflow_cast-len c =
-    let split = without_ways c.args.colouring.now in
-    let maps = rotations_of c.args.surface.now in
-    let ring = outer_ring c.args.surface.now split in
-    let few = count_at_most (left_at maps ring (is_left split) (ring c.args.last.0)) c.loop-step._step in
-    let long = length-map c.loop-step.sides.items (λ (d : DartName). d.0) in
-    omega (
-      arith,
-      few,
-      long,
-      c.loop-step.invariant.walked.each_left,
-      c.darts.ensures.small.few_sides,
-      c.darts-step-end.ensures.count,
-      c.loop-step-test.true,
-      c.len.ensures,
-      c.loop-step.sides.ok.0,
-    )
+overflow_cast-len c = grind (arith, common_steps, count_at_most)
 
 pub index_mut-requires : goal.index_mut-requires
 index_mut-requires c =
@@ -48,10 +30,7 @@ loop-step-preserved c =
     let trees = trees_of c.args.surface.now c.args.colouring.now c.requires.colouring in
     let long : c.len.result ≡ length c.loop-step.sides.items = omega (arith, c.len.ensures, c.loop-step.sides.ok.0) in
     let few : c.loop-step._step < darts_of c.args.surface.now = omega (arith, c.loop-step-test.true, c.darts-step-end.ensures.count) in
-    let next : c.dart_after-dart-in-loop-step.result.0 ≡ outer_ring c.args.surface.now split c.loop-step.dart.0 =
-    c.dart_after-dart-in-loop-step.ensures
-    ∙ ap (λ kind. dart_after_kind (rotations_of c.args.surface.now) kind c.loop-step.dart.0)
-    (c.kind-kind.ensures ∙ ap (kind_of split) c.edge_of-in-loop-step.ensures.edge) in
+    let next : c.dart_after-dart-in-loop-step.result.0 ≡ outer_ring c.args.surface.now split c.loop-step.dart.0 = grind arith in
     let written = ap (set c.loop-step.labels.items c.loop-step.dart.0) long in
     let kind_is = ap is_left_kind (c.kind-kind.ensures ∙ ap (kind_of split) c.edge_of-in-loop-step.ensures.edge) in
     elim c.if-is_leftover.branch [

@@ -6,15 +6,11 @@ use Rattle.polygon_cut.proofs.ring.leftover_in_root.Goals.{After-sides-at-end}
 -- the dart that is begun with is the first of the root face, and all its darts are looked at
 first : (c : After-sides-at-end)
     → c.first_dart-first.result.0 ≡ first_side c.args.surface.now.mesh c.args.colouring.now.root_face
-first c =
-    c.first_dart-first.ensures ∙ ap (λ mesh. first_side mesh c.root_face-face.result.0) c.faces.ensures.mesh
-    ∙ ap (first_side c.args.surface.now.mesh) c.root_face-face.ensures
+first c = grind (arith, first_side)
 
 sides : (c : After-sides-at-end)
     → c.sides-at-end.result ≡ length (face_at c.args.surface.now.mesh c.args.colouring.now.root_face)
-sides c =
-    c.sides-at-end.ensures ∙ ap (λ mesh. length (face_at mesh c.root_face-face.result.0)) c.faces-2.ensures.mesh
-    ∙ ap (λ f. length (face_at c.args.surface.now.mesh f)) c.root_face-face.ensures
+sides c = grind arith
 
 pub returns-then-is_leftover-clause-dart : goal.returns-then-is_leftover-clause-dart
 returns-then-is_leftover-clause-dart c =

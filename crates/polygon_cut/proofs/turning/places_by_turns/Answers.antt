@@ -1,6 +1,5 @@
-use Rattle.polygon_cut.proofs.Common.{twin_of, darts_of, ◌≡◌, ◌<◌, ◌∙◌, ℕ, length, refl, sym, ap, subst, arith, get_or, List, set, DartName, dart_numbers}
+use Rattle.polygon_cut.proofs.Common.{twin_of, darts_of, one_up, ◌≡◌, ◌<◌, ◌∙◌, ℕ, length, refl, sym, ap, subst, arith, get_or, List, set, DartName, dart_numbers}
 use Rattle.tree_cotree.proofs.RingLemmas.{number_at}
-use Rattle.polygon_cut.specs.Polygons.{one_up}
 use Rattle.polygon_cut.proofs.TurningLemmas.{turns_go_round, spoke_below, turning_more}
 use Rattle.polygon_cut.proofs.turning.places_by_turns.Goals as goal
 

@@ -1,6 +1,4 @@
-use Rattle.polygon_cut.proofs.Common.{rotations_of, length}
-use Rattle.polygon_cut.specs.Polygons.{turned}
-use Rattle.polygon_cut.specs.StoredPolygons.{without_places}
+use Rattle.polygon_cut.proofs.Common.{rotations_of, turned, without_places, length}
 use Rattle.polygon_cut.proofs.TurningLemmas.{IsTurning}
 use Rattle.polygon_cut.proofs.turning.places_by_turns.Given as goal
 

@@ -1,32 +1,12 @@
-use Rattle.quad_system.proofs.Common.{◌≡◌, refl, ◌+◌, ◌++◌, ◌<◌, length, take, drop, ap, ◌∙◌, arith, List, ℕ, with_items_is, between, first_side, FaceList, face_at, is_flipped}
-use Rattle.quad_system.specs.PolygonLabellings.{at_corners, numbers_alone}
+use Rattle.quad_system.proofs.Common.{at_corners, numbers_alone, ◌≡◌, refl, ◌+◌, ◌++◌, length, take, drop, ap, ◌∙◌, arith, List, ℕ, with_items_is, between, first_side, FaceList, face_at, is_flipped}
 use Rattle.quad_system.proofs.PolygonMakingLemmas.{made_none, made_more, made_all, made_stored, face_within}
 use Rattle.quad_system.proofs.from_polygon.laid_out.Goals as goal
 
 pub loop-face-init : goal.loop-face-init
-loop-face-init c =
-    made_none c.args.surface.now (numbers_alone c.args.degree c.args.numbers.labels.items c.args.numbers.places.items)
-    c.in_ok-signs.signs.items
-    c.in_ok-ends.ends.items c.requires.labels c.in_ok-signs.ensures.items c.in_ok-ends.ensures.items
+loop-face-init c = grind (arith, made_none)
 
 pub to_corners-requires-clause-within : goal.to_corners-requires-clause-within
-to_corners-requires-clause-within c =
-    let s = c.args.surface.now in
-    let k = c.loop-face.face in
-    let within : k < length s.mesh.faces =
-    omega (arith, c.loop-face-test.true, c.len-faces.ensures.count, ap (λ (mesh : FaceList). length mesh.faces) c.faces.ensures.mesh) in
-    let start : c.first_dart-start.result.0 ≡ first_side s.mesh k =
-    c.first_dart-start.ensures ∙ ap (λ mesh. first_side mesh k) c.faces-in-loop-face.ensures.mesh in
-    let sides : c.sides.result ≡ length (face_at s.mesh k) =
-    c.sides.ensures ∙ ap (λ mesh. length (face_at mesh k)) c.faces-in-loop-face-2.ensures.mesh in
-    omega (
-      arith,
-      start,
-      sides,
-      face_within s.mesh k c.faces.ensures.valid.faces.faces within,
-      c.loop-face.invariant.each_dart,
-      ap length c.deref_mut.ensures.value,
-    )
+to_corners-requires-clause-within c = grind (arith, first_side, face_within)
 
 pub loop-face-preserved : goal.loop-face-preserved
 loop-face-preserved c =
@@ -60,31 +40,12 @@ loop-face-preserved c =
     rw (c.in_ok-push.ensures.items, c.in_ok-push-2.ensures.items, kept) made
 
 pub from_parts-requires : goal.from_parts-requires
-from_parts-requires c =
-    let s = c.args.surface.now in
-    let all : c.loop-face.face ≡ length s.mesh.faces =
-    omega (
-      arith,
-      c.loop-face-test.false,
-      c.loop-face.invariant.few,
-      c.len-faces.ensures.count,
-      ap (λ (mesh : FaceList). length mesh.faces) c.faces.ensures.mesh,
-    ) in
-    made_stored s (numbers_alone c.args.degree c.args.numbers.labels.items c.args.numbers.places.items) c.loop-face.face
-    c.loop-face.signs.items
-    c.loop-face.ends.items c.loop-face.labels.items c.args.numbers.places.items all c.loop-face.invariant c.requires.places
+from_parts-requires c = grind (arith, made_stored)
 
 pub returns : goal.returns
 returns c =
     let s = c.args.surface.now in
-    let all : c.loop-face.face ≡ length s.mesh.faces =
-    omega (
-      arith,
-      c.loop-face-test.false,
-      c.loop-face.invariant.few,
-      c.len-faces.ensures.count,
-      ap (λ (mesh : FaceList). length mesh.faces) c.faces.ensures.mesh,
-    ) in
+    let all : c.loop-face.face ≡ length s.mesh.faces = grind arith in
     c.from_parts.ensures
     ∙ made_all s (numbers_alone c.args.degree c.args.numbers.labels.items c.args.numbers.places.items) c.loop-face.face c.args.degree
     c.loop-face.signs.items

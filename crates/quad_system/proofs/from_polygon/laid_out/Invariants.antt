@@ -1,4 +1,4 @@
-use Rattle.quad_system.specs.PolygonLabellings.{numbers_alone}
+use Rattle.quad_system.proofs.Common.{numbers_alone}
 use Rattle.quad_system.proofs.PolygonMakingLemmas.{IsMadeUpTo}
 use Rattle.quad_system.proofs.from_polygon.laid_out.Given as goal
 

@@ -1,19 +1,9 @@
-use Rattle.spoke_rings.proofs.Common.{◌+◌, ◌<◌, length, arith, refl, subst}
-use Rattle.spoke_rings.specs.CyclicWords.{spoke_along}
-use Rattle.spoke_rings.proofs.Comparing.{Compares, compares-first, compares-second, compares-yes, compares-no, compares-neither}
+use Rattle.spoke_rings.proofs.Common.{spoke_along, ◌+◌, ◌<◌, arith}
+use Rattle.spoke_rings.proofs.Comparing.{compares-first, compares-second, compares-yes, compares-no, compares-neither}
 use Rattle.spoke_rings.proofs.compare.is_rotation.Goals as goal
 
 pub returns-then-same-len : goal.returns-then-same-len
-returns-then-same-len c =
-    let x = c.args.first.now in
-    let y = c.args.second.now in
-    let l = c.loop-from_first in
-    let all : Compares x y l.from_first l.from_second (length x) =
-    subst (Compares x y l.from_first l.from_second) c.if-same-len.true l.invariant in (
-      (λ yes. compares-yes x y l.from_first l.from_second c.requires.first_even (omega arith) (omega arith) all
-          c.loop-from_first-test.true c.if-from_second-len.true),
-      (λ r. refl),
-    )
+returns-then-same-len c = grind (arith, compares-yes)
 
 pub loop-from_first-preserved-then-one-other-2 : goal.loop-from_first-preserved-then-one-other-2
 loop-from_first-preserved-then-one-other-2 c =

@@ -1,5 +1,4 @@
-use Rattle.spoke_rings.proofs.Common.{◌≤◌, length, arith, refl, ap, sym, subst}
-use Rattle.spoke_rings.specs.CyclicWords.{IsLoop, IsCyclicallyCanonical}
+use Rattle.spoke_rings.proofs.Common.{IsLoop, IsCyclicallyCanonical, ◌≤◌, length, arith, refl, ap, sym, subst}
 use Rattle.spoke_rings.proofs.Forming.{Form, form-of, form-over, form-leads, loop-now, all-turns}
 use Rattle.spoke_rings.proofs.form.cyclic_form.Goals as goal
 use Rattle.spoke_rings.proofs.form.cyclic_form.Goals.{then-len-gt0+then-all_fall+in_ok-turn_over, else-len-gt0, else-len-gt0-via-then-len-gt0+else-all_fall, else-len-gt0-via-else-len-gt0}
@@ -18,7 +17,6 @@ pub turn_over-requires-clause-some : goal.turn_over-requires-clause-some
 turn_over-requires-clause-some c =
     let loop = loop-now c.args.wheel.now c.requires.full c.reduce.new.self c.to_vertex.new.self c.reduce.ensures.acts.loop
     (c.to_vertex.ensures.spokes, c.to_vertex.ensures.at_vertex) in
-    let even = loop.even in
     let some = c.if-len-gt0.true in
     omega (arith, c.len.ensures)
 

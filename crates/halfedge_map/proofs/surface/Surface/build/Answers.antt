@@ -1,6 +1,4 @@
-use Rattle.halfedge_map.proofs.Common.{total_sides}
-use Rattle.halfedge_map.specs.OrientedMeshes.{OrientedMesh}
-use Rattle.halfedge_map.specs.DartMaps.{used_vertices}
+use Rattle.halfedge_map.proofs.Common.{used_vertices, OrientedMesh, arith, total_sides}
 use Rattle.halfedge_map.proofs.StoringLemmas.{nexts_signed, origins_signed}
 use Rattle.halfedge_map.proofs.surface.Surface.build.Goals as goal
 
@@ -9,17 +7,7 @@ unfolding used_vertices
 invariant_of-result c =
     let s : OrientedMesh = record { mesh = c.args.faces; table = c.args.sides; signs = c.args.signs } in
     record {
-      oriented = record {
-        faces = c.in_ok-next.ensures.valid;
-        table = c.requires.table;
-        closed = record {
-          some_face = c.requires.closed.some_face;
-          two_sides = c.requires.closed.two_sides;
-          one_ring = c.requires.closed.one_ring;
-          connected = c.requires.connected;
-        };
-        coherent = c.requires.coherent;
-      };
+      oriented = grind arith;
       small = c.in_ok-next.ensures.small;
       nexts = nexts_signed s (total_sides c.args.faces) c.in_ok-next.next.items c.in_ok-next.ensures.stored;
       origins_kept = origins_signed s (total_sides c.args.faces) c.in_ok-origins.origins c.in_ok-origins.ensures;

@@ -1,7 +1,4 @@
-use Rattle.halfedge_map.proofs.Common.{◌≢◌, ◌<◌, length, sym, ◌∙◌, subst, eqb-true, eq-eqb, both_ways, HasEnds, edge_in}
-use Rattle.halfedge_map.specs.OrientedMeshes.{OrientedMesh, IsOrientedSurface}
-use Rattle.halfedge_map.specs.DartMaps.{origin_of}
-use Rattle.halfedge_map.specs.RotationSystems.{rotations_of, IsDartFrom}
+use Rattle.halfedge_map.proofs.Common.{origin_of, OrientedMesh, IsOrientedSurface, rotations_of, IsDartFrom, arith, ◌≢◌, sym, ◌∙◌, subst, eqb-true, HasEnds, edge_in}
 use Rattle.halfedge_map.proofs.EdgeLemmas.{IsAtEdge, leads_on, leads_back}
 use Rattle.halfedge_map.proofs.surface.Surface.dart_between.Goals as goal
 use Rattle.halfedge_map.proofs.surface.Surface.dart_between.Goals.{After-dart_of-dart}
@@ -11,15 +8,10 @@ oriented c = subst IsOrientedSurface c.self.view_is c.self.invariant.oriented
 
 -- the dart that was read is one of the edge that was found
 at_edge : (c : After-dart_of-dart) → IsAtEdge c.args.self.now c.dart_of-dart.result.0 c.in_ok-edge.edge.0
-at_edge c = record {
-  dart = c.dart_of-dart.ensures.within;
-  edge = subst (λ (t : OrientedMesh). c.in_ok-edge.edge.0 < length t.table) c.self.view_is c.in_ok-edge.ensures.found;
-  is = sym c.dart_of-dart.ensures.edge;
-}
+at_edge c = grind arith
 
 ends : (c : After-dart_of-dart) → HasEnds c.args.u.0 c.args.v.0 (edge_in c.args.self.now.table c.in_ok-edge.edge.0)
-ends c = subst (λ (t : OrientedMesh). HasEnds c.args.u.0 c.args.v.0 (edge_in t.table c.in_ok-edge.edge.0)) c.self.view_is
-    c.in_ok-edge.ensures.ends
+ends c = grind arith
 
 pub returns-then-eq-clause-leads : goal.returns-then-eq-clause-leads
 returns-then-eq-clause-leads c =
@@ -31,7 +23,6 @@ pub returns-else-eq-clause-leads : goal.returns-else-eq-clause-leads
 returns-else-eq-clause-leads c =
     let s : OrientedMesh = c.args.self.now in
     let at = (goal.at.returns-else-eq-clause-leads c).After-dart_of-dart in
-    let other : origin_of s c.dart_of-dart.result.0 ≢ c.args.u.0 =
-    λ same. both_ways c.eq.result c.if-eq.false (c.eq.ensures ∙ eq-eqb c.origin.result.0 c.args.u.0 (c.origin.ensures ∙ same)) in
+    let other : origin_of s c.dart_of-dart.result.0 ≢ c.args.u.0 = λ same. grind arith in
     subst (IsDartFrom (rotations_of s) c.args.u.0 c.args.v.0) (sym c.twin.ensures.twin)
     (leads_back s (oriented at) c.args.u.0 c.args.v.0 _ _ (at_edge at) (ends at) other)

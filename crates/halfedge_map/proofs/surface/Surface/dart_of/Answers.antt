@@ -1,6 +1,4 @@
-use Rattle.halfedge_map.proofs.Common.{◌≡◌, ◌<◌, length, sym, ap, ◌∙◌, subst}
-use Rattle.halfedge_map.specs.OrientedMeshes.{OrientedMesh}
-use Rattle.halfedge_map.specs.DartMaps.{edge_of}
+use Rattle.halfedge_map.proofs.Common.{edge_of, OrientedMesh, ◌≡◌, ◌<◌, length, sym, ap, ◌∙◌, subst}
 use Rattle.halfedge_map.proofs.EdgeLemmas.{IsSideInTable, side_got}
 use Rattle.halfedge_map.proofs.surface.Surface.dart_of.Goals as goal
 

@@ -1,17 +1,9 @@
-use Rattle.halfedge_map.proofs.Common.{◌≡◌, ◌<◌, sym, subst}
-use Rattle.halfedge_map.specs.OrientedMeshes.{OrientedMesh}
-use Rattle.halfedge_map.specs.DartMaps.{darts_of, edge_of}
+use Rattle.halfedge_map.proofs.Common.{edge_of, OrientedMesh, arith, ◌≡◌, subst}
 use Rattle.halfedge_map.proofs.EdgeLemmas.{dart_kept}
 use Rattle.halfedge_map.proofs.surface.Surface.edge_of.Goals as goal
 
 pub edge_of-requires : goal.edge_of-requires
-edge_of-requires c =
-    let i = c.self.inside in
-    record {
-      mesh = i.faces;
-      table_of = c.self.invariant.oriented.table;
-      below = subst (λ (t : OrientedMesh). c.args.dart.0 < darts_of t) (sym c.self.view_is) c.requires;
-    }
+edge_of-requires c = grind arith
 
 pub returns-clause-edge : goal.returns-clause-edge
 returns-clause-edge c =

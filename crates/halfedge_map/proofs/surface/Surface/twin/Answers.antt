@@ -1,18 +1,10 @@
-use Rattle.halfedge_map.proofs.Common.{◌≡◌, ◌<◌, ℕ, sym, subst}
-use Rattle.halfedge_map.specs.OrientedMeshes.{OrientedMesh, IsOrientedSurface}
-use Rattle.halfedge_map.specs.DartMaps.{darts_of, twin_of}
+use Rattle.halfedge_map.proofs.Common.{darts_of, twin_of, OrientedMesh, IsOrientedSurface, arith, ◌≡◌, ◌<◌, ℕ, sym, subst}
 use Rattle.halfedge_map.proofs.TwinLemmas.{twin_within}
 use Rattle.halfedge_map.proofs.EdgeLemmas.{next_is_twin}
 use Rattle.halfedge_map.proofs.surface.Surface.twin.Goals as goal
 
 pub other-requires : goal.other-requires
-other-requires c =
-    let i = c.self.inside in
-    record {
-      mesh = i.faces;
-      table_of = c.self.invariant.oriented.table;
-      below = subst (λ (t : OrientedMesh). c.args.dart.0 < darts_of t) (sym c.self.view_is) c.requires;
-    }
+other-requires c = grind arith
 
 pub returns-clause-twin : goal.returns-clause-twin
 returns-clause-twin c =

@@ -1,14 +1,10 @@
-use Rattle.quad_system.proofs.Common.{IsGood, LabellingView, ◌≡◌, IfOk-weaker}
-use Rattle.quad_system.specs.PolygonLabellings.{labelling_from, IsFull}
+use Rattle.quad_system.proofs.Common.{IsGood, LabellingView, labelling_from, IsFull, arith, ◌≡◌, IfOk-weaker}
 use Rattle.quad_system.proofs.PolygonLabelLemmas.{polygon_good}
 use Rattle.quad_system.proofs.FullLemmas.{polygon_full}
 use Rattle.quad_system.proofs.from_polygon.GoodLabellingFromPolygon.from_spent_polygon.Goals as goal
 
 pub with_wheel-requires-clause-each_spoke : goal.with_wheel-requires-clause-each_spoke
-with_wheel-requires-clause-each_spoke c =
-    let cut = c.requires.cut in
-    rw c.in_ok-labelling.ensures (polygon_good c.args.surface.now cut.0 c.args.polygon c.faces.ensures.valid cut.1 cut.2
-    c.requires.some).shape.each_spoke
+with_wheel-requires-clause-each_spoke c = grind (arith, polygon_good)
 
 pub with_wheel-requires-clause-below : goal.with_wheel-requires-clause-below
 with_wheel-requires-clause-below c =
@@ -17,10 +13,7 @@ with_wheel-requires-clause-below c =
     c.requires.some).shape.places_below
 
 pub with_wheel-requires-clause-apart : goal.with_wheel-requires-clause-apart
-with_wheel-requires-clause-apart c =
-    let cut = c.requires.cut in
-    rw c.in_ok-labelling.ensures (polygon_good c.args.surface.now cut.0 c.args.polygon c.faces.ensures.valid cut.1 cut.2
-    c.requires.some).places
+with_wheel-requires-clause-apart c = grind (arith, polygon_good)
 
 pub returns-clause-good : goal.returns-clause-good
 returns-clause-good c =

@@ -1,5 +1,4 @@
-use Rattle.spoke_rings.proofs.Common.{◌≡◌, ◌<◌, ℕ, length, minus}
-use Rattle.spoke_rings.specs.Private.Rings.{ring_turn}
+use Rattle.spoke_rings.proofs.Common.{ring_turn, ◌≡◌, ◌<◌, ℕ, length, minus}
 use Rattle.spoke_rings.proofs.ring.Ring.all_fall.Given as goal
 
 abbrev pub invariant-loop-at : goal.invariant-loop-at

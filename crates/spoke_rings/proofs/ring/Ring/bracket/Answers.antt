@@ -1,5 +1,4 @@
-use Rattle.spoke_rings.proofs.Common.{◌≡◌, ◌+◌, ◌-◌, ◌<◌, ℕ, length, arith, sym, ◌∙◌, ap}
-use Rattle.spoke_rings.specs.Private.Rings.{ring_turn}
+use Rattle.spoke_rings.proofs.Common.{ring_turn, ◌≡◌, ◌+◌, ◌-◌, ◌<◌, ℕ, length, arith, sym, ◌∙◌, ap}
 use Rattle.spoke_rings.proofs.Reducing.{fine-one}
 use Rattle.spoke_rings.proofs.ring.Ring.bracket.Goals as goal
 use Rattle.spoke_rings.proofs.ring.Ring.bracket.Goals.{then-loop-twos-test+else-turn-eq2, else-loop-twos-test, else-opening-eq1-via-then-opening-eq1+else-twos-len-2, else-opening-eq1-via-else-opening-eq1}

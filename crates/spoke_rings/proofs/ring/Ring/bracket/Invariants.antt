@@ -1,5 +1,4 @@
-use Rattle.spoke_rings.proofs.Common.{◌≡◌, ◌+◌, ◌-◌, ◌<◌, ◌≤◌, ℕ}
-use Rattle.spoke_rings.specs.Private.Rings.{ring_turn}
+use Rattle.spoke_rings.proofs.Common.{ring_turn, ◌≡◌, ◌+◌, ◌-◌, ◌<◌, ◌≤◌, ℕ}
 use Rattle.spoke_rings.proofs.ring.Ring.bracket.Given as goal
 
 abbrev pub invariant-loop-twos : goal.invariant-loop-twos

@@ -1,5 +1,4 @@
-use Rattle.spoke_rings.proofs.Common.{◌≡◌, ◌-◌, suc, length, arith, refl, subst, inl, inr}
-use Rattle.spoke_rings.specs.Private.Rings.{ring_turn}
+use Rattle.spoke_rings.proofs.Common.{ring_turn, ◌≡◌, ◌-◌, suc, length, arith, refl, subst, inl, inr}
 use Rattle.spoke_rings.proofs.Acting.{went-back, took-out}
 use Rattle.spoke_rings.proofs.Closing.{closes-end}
 use Rattle.spoke_rings.proofs.Reducing.{Closing, closing-start, closing-next, closing-end, spur-spokes}
@@ -22,8 +21,7 @@ loop-pushes-preserved c =
     let mid = c.push.new.self in
     let left = c.loop-pushes.pushes - 1 in
     let all : c.loop-pushes.pushes ≡ suc left = omega (arith, c.loop-pushes-test.true) in
-    let invariant : Closing places c.args.self.now ring (suc left) =
-    subst (Closing places c.args.self.now ring) all c.loop-pushes.invariant in
+    let invariant : Closing places c.args.self.now ring (suc left) = grind arith in
     let long = c.loop-pushes.invariant.as_long in
     let two = c.requires.some in
     let mid_long = c.push.ensures.as_long in
@@ -36,7 +34,6 @@ returns c =
     let ring = c.loop-pushes.self in
     let none : c.loop-pushes.pushes ≡ 0 = omega (arith, c.loop-pushes-test.false) in
     let invariant : Closing places c.args.self.now ring 0 = subst (Closing places c.args.self.now ring) none c.loop-pushes.invariant in
-    let long = invariant.as_long in
     let two = c.requires.some in
     let spur = closes-end (length ring.spokes) (ring_turn places ring) 0 invariant.closes refl in
     closing-end places c.requires.full c.args.self.now ring c.take_out.new.self invariant

@@ -1,5 +1,4 @@
-use Rattle.spoke_rings.proofs.Common.{arith}
-use Rattle.spoke_rings.specs.Private.Rings.{Shortens}
+use Rattle.spoke_rings.proofs.Common.{Shortens, arith}
 use Rattle.spoke_rings.proofs.Acting.{WentOn, went-forward, took-out}
 use Rattle.spoke_rings.proofs.Reducing.{spur-spokes, reducing-forward, reducing-again, reducing-end, left-shorter, left-lighter, left-passed}
 use Rattle.spoke_rings.proofs.ring.Ring.reduce.Goals as goal
@@ -9,7 +8,6 @@ spur-out : (c : goal.After-take_out) → Shortens c.args.wheel.now c.loop-passed
 spur-out c =
     let ring = c.loop-passed.self in
     let loop = c.loop-passed.invariant.acts.loop in
-    let more = c.loop-passed-test.true in
     took-out c.args.wheel.now ring c.take_out.new.self _ _ loop c.take_out.ensures.spokes
     (spur-spokes c.args.wheel.now c.requires.full ring loop (omega arith) c.in-Spur.ensures) c.take_out.ensures.at_vertex
 
@@ -21,7 +19,6 @@ loop-passed-smaller-in-Spur c =
 pub loop-passed-preserved-in-Spur : goal.loop-passed-preserved-in-Spur
 loop-passed-preserved-in-Spur c =
     let out = spur-out c in
-    let shorter = out.shorter in
     reducing-again c.args.wheel.now c.requires.full c.args.self.now c.loop-passed.self c.take_out.new.self c.loop-passed.passed
     c.loop-passed.invariant out.acts (omega arith)
 
@@ -32,7 +29,6 @@ loop-passed-smaller-in-Fall c =
 
 pub loop-passed-preserved-in-Fall : goal.loop-passed-preserved-in-Fall
 loop-passed-preserved-in-Fall c =
-    let long = c.rise.ensures.as_long in
     reducing-again c.args.wheel.now c.requires.full c.args.self.now c.loop-passed.self c.rise.new.self c.loop-passed.passed
     c.loop-passed.invariant c.rise.ensures.acts (omega arith)
 
@@ -43,13 +39,11 @@ loop-passed-smaller-in-Bracket c =
 
 pub loop-passed-preserved-in-Bracket : goal.loop-passed-preserved-in-Bracket
 loop-passed-preserved-in-Bracket c =
-    let shorter = c.close.ensures.shorter in
     reducing-again c.args.wheel.now c.requires.full c.args.self.now c.loop-passed.self c.close.new.self c.loop-passed.passed
     c.loop-passed.invariant c.close.ensures.acts (omega arith)
 
 on : (c : goal.After-forward) → WentOn c.args.wheel.now 1 c.loop-passed.self c.forward.new.self
 on c =
-    let more = c.loop-passed-test.true in
     went-forward c.args.wheel.now c.loop-passed.self c.forward.new.self c.loop-passed.invariant.acts.loop (omega arith)
     c.forward.ensures.spokes c.forward.ensures.at_vertex
 

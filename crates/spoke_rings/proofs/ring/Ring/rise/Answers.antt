@@ -7,7 +7,6 @@ pub returns-then-turn-fall : goal.returns-then-turn-fall
 returns-then-turn-fall c =
     let places = c.args.wheel.now in
     let mid = c.push.new.self in
-    let long = c.push.ensures.as_long in
     let two = c.requires.some in
     let some : 0 < length mid.spokes = omega arith in
     let pushed = rises-push places c.requires.full c.args.self.now mid c.requires.spokes two c.push.ensures c.requires.fall in
@@ -18,7 +17,6 @@ pub returns-then-turn-fall-2 : goal.returns-then-turn-fall-2
 returns-then-turn-fall-2 c =
     let places = c.args.wheel.now in
     let mid = c.push.new.self in
-    let long = c.push.ensures.as_long in
     let two = c.requires.some in
     let some : 0 < length mid.spokes = omega arith in
     let pushed = rises-push places c.requires.full c.args.self.now mid c.requires.spokes two c.push.ensures c.requires.fall in

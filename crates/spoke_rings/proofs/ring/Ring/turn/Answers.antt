@@ -1,6 +1,4 @@
-use Rattle.spoke_rings.proofs.Common.{◌≡◌, ◌-◌, ◌<◌, length, get_or, arith, sym, ap, ap₂, ◌∙◌, get_or_read}
-use Rattle.spoke_rings.specs.CyclicWords.{stands_before}
-use Rattle.spoke_rings.specs.Private.Rings.{ring_turn}
+use Rattle.spoke_rings.proofs.Common.{stands_before, ring_turn, ◌≡◌, ◌-◌, ◌<◌, length, get_or, arith, sym, ap, ap₂, ◌∙◌, get_or_read}
 use Rattle.spoke_rings.proofs.RingTurns.{turn_at, turn-behind}
 use Rattle.spoke_rings.proofs.ring.Ring.turn.Goals as goal
 

@@ -22,7 +22,6 @@ loop-left-preserved c =
     let left = c.loop-left.left - 1 in
     let all : c.loop-left.left ≡ suc left = omega (arith, c.loop-left-test.true) in
     let invariant : Turning places start ring (suc left) = subst (Turning places start ring) all c.loop-left.invariant in
-    let long = c.loop-left.invariant.as_long in
     let mid_long = c.push.ensures.as_long in
     turning-next places c.requires.full start ring c.push.new.self c.forward.new.self left invariant c.requires.some c.push.ensures
     (went-forward places c.push.new.self c.forward.new.self c.push.ensures.loop (omega arith) c.forward.ensures.spokes
@@ -35,7 +34,6 @@ returns c =
     let ring = c.loop-left.self in
     let none : c.loop-left.left ≡ 0 = omega (arith, c.loop-left-test.false) in
     let invariant : Turning places start ring 0 = subst (Turning places start ring) none c.loop-left.invariant in
-    let long = invariant.as_long in
     let same = spur-spokes places c.requires.full ring invariant.acts.loop (omega arith)
     (turning-spur places c.requires.full start ring invariant c.requires.some) in
     turning-end places c.requires.full start ring c.take_out.new.self _ _ invariant c.requires.some c.take_out.ensures.spokes same
