@@ -1,5 +1,5 @@
 -- `certify` in the words of the mesh.
-use Rattle.certify_commands.proofs.Common.{behind, refused_behind, yes_or_no, none_over, refused_beyond, sound-pass_unless, unless_told, IsSound, sound-then, held, Answer, Exactly, decision_status, Refuse, Pass, walk_at, ◌≡◌, ℕ, List, [], ◌∷◌, codes, refl, sym, ap, ◌∙◌, subst, ◌↔◌, Option, Some, Files, FaceList, Homotopic}
+use Rattle.certify_commands.proofs.Common.{certify, IsCertifyInput, IsWithinLimits, IsCertificatePrinted, IsCertified, certify_limits, limit_fault, limit_word, certified, certificate_answer, behind, refused_behind, yes_or_no, none_over, refused_beyond, sound-pass_unless, unless_told, IsSound, sound-then, held, Answer, Exactly, decision_status, Refuse, Pass, walk_at, ◌≡◌, ℕ, List, [], ◌∷◌, codes, refl, sym, ap, ◌∙◌, subst, ◌↔◌, Option, Some, Files, FaceList, Homotopic}
 use Rattle.commands.proofs.RightAnswers.{refused_so, yes_exactly}
 use Rattle.commands.proofs.Rows.{IsOutcomeOf, sound-pair}
 use Rattle.commands.specs.Outcomes.{Outcome, AnswersTo, IsAnswerOf}
@@ -10,7 +10,6 @@ use Rattle.surface_commands.specs.Surface.{surface}
 use Rattle.surf_model.specs.declared.decisions.Answer as deciding
 use Rattle.surf_model.specs.declared.decisions.Answer.TheVariants as answers
 use Rattle.certify_commands.proofs.Certifying.{after_pair, after_limits, limited, sound-certified}
-use Rattle.certify_commands.specs.Certify.{certify, IsCertifyInput, IsWithinLimits, IsCertificatePrinted, IsCertified, certify_limits, limit_fault, limit_word, certified, certificate_answer}
 
 pub sound-certify : (held : Option Files) (mesh walks : List ℕ) → IsSound held (certify held mesh walks)
 sound-certify held mesh walks =

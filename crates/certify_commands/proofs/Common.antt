@@ -1,4 +1,7 @@
--- What proofs of this crate cite of others, passed on from one place (by tools/imports). Declares nothing.
+-- What proofs of this crate cite of its definitions and of other crates, passed on from one place (by tools/imports). Declares nothing.
+pub use Rattle.certify_commands.specs.Certify.{IsCertificatePrinted, IsCertified, IsCertifyInput, IsWithinLimits, certificate_answer, certified, certify, certify_limits, limit_fault, limit_word}
+pub use Rattle.certify_commands.specs.Findings.{IsFinding, IsOfFaces, TellsOfSome}
+pub use Rattle.certify_commands.specs.declared.finding.Finding.TheVariants.{Moves, Words}
 pub use Rattle.closed_surfaces.proofs.Genera.{one_genus, part_sphere, whole_sphere}
 pub use Rattle.closed_surfaces.specs.SignedSurfaces.{IsComponentOf, IsPart, surface_of}
 pub use Rattle.closed_surfaces.specs.declared.component.Component.{Component}

@@ -1,5 +1,5 @@
 -- What is found of two walks on the component in which they lie, and what it tells of the whole mesh.
-use Rattle.certify_commands.proofs.Common.{IsPart, IsComponentOf, surface_of, Component, Whole, Alone, DenialHolds, IsGood, LabellingView, signs_of, ◌≡◌, ℕ, ◌+◌, ◌<◌, List, ◌∷◌, ◌++◌, length, get_or, take, sym, ap, ◌∙◌, subst, arith, [], map-append, take_more, All, Some, max, component_at, component_mesh, FaceList, total_sides, apply, apply_all, Leads, PeakedMoves, LeadsAtPeak, submesh, renamed_move, renamed_moves, signs_among, IsWalk, Word}
+use Rattle.certify_commands.proofs.Common.{IsWithinLimits, IsOfFaces, TellsOfSome, Words, IsPart, IsComponentOf, surface_of, Component, Whole, Alone, DenialHolds, IsGood, LabellingView, signs_of, ◌≡◌, ℕ, ◌+◌, ◌<◌, List, ◌∷◌, ◌++◌, length, get_or, take, sym, ap, ◌∙◌, subst, arith, [], map-append, take_more, All, Some, max, component_at, component_mesh, FaceList, total_sides, apply, apply_all, Leads, PeakedMoves, LeadsAtPeak, submesh, renamed_move, renamed_moves, signs_among, IsWalk, Word}
 use Rattle.closed_surfaces.specs.declared.component.Part.{Part}
 use Rattle.manifold_check.proofs.PartPieces.{IsOfComponent, piece_of_parts}
 use Rattle.manifold_check.proofs.PieceLemmas.{length-submesh}
@@ -14,9 +14,6 @@ use Rattle.surf_model.specs.declared.moves.Move.TheVariants.{Insert, Remove, Acr
 use Rattle.widening.proofs.WidenedLemmas.{Widening, good_widened}
 use Rattle.widening.proofs.WidenedPaths.{word_alike}
 use Rattle.widening.specs.Widened.{IsWidened}
-use Rattle.certify_commands.specs.Certify.{IsWithinLimits}
-use Rattle.certify_commands.specs.Findings.{IsOfFaces, TellsOfSome}
-use Rattle.certify_commands.specs.declared.finding.Finding.TheVariants.{Words}
 
 -- ---- the walks
 

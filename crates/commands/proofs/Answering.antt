@@ -1,16 +1,9 @@
 -- What answers a check, and how a run ended that wrote an answer.
-use Rattle.commands.proofs.Common.{◌≡◌, ◌⊎◌, inl, inr, ℕ, List, refl, sym, subst, Option, Files}
-use Rattle.commands.proofs.Sound.{IsSound}
-use Rattle.commands.specs.Answers.{Answer, IsText}
-use Rattle.commands.specs.Checks.{Check, Refuse, Pass, Passes, pass, ◌>>=◌}
-use Rattle.commands.specs.Outcomes.{Outcome, AnswersTo, IsAnswerOf}
+use Rattle.commands.proofs.Common.{Answer, IsText, Check, Refuse, Pass, Passes, pass, ◌>>=◌, Outcome, AnswersTo, IsAnswerOf, Stops, bytes_of, Status, Refused, WriteFault, Stop, ◌≡◌, ◌⊎◌, inl, inr, ℕ, List, refl, sym, subst, Option, Files}
 use Rattle.commands.specs.Statuses.{IsAnswered}
-use Rattle.commands.specs.Stops.{Stops, bytes_of}
-use Rattle.commands.specs.declared.status.Status.{Status}
-use Rattle.commands.specs.declared.status.Status.TheVariants.{Refused, WriteFault}
-use Rattle.commands.specs.declared.stop.Stop.{Stop}
-use Rattle.commands.specs.declared.stop.Stop.TheVariants as stops
 use Rattle.commands.specs.declared.text.Text.{Text}
+use Rattle.commands.proofs.Sound.{IsSound}
+use Rattle.commands.specs.declared.stop.Stop.TheVariants as stops
 
 -- what is answered by an outcome is answered exactly, where the files are told
 pub answers : (files : Option Files) (check : Check Answer) (outcome : Outcome) (status : Status) (text : List ℕ) → IsSound files check

@@ -1,10 +1,6 @@
 -- How checks that follow one another end.
-use Rattle.commands.proofs.Common.{◌≡◌, ◌⊎◌, inl, inr, ℕ, ◌+◌, ◌<◌, List, length, refl, ap, ◌∙◌, subst, arith, length-replicate, Option, Some, None, IfSome, Result, Ok, Err, replicate}
-use Rattle.commands.specs.Answers.{Texts, NoText, IsText}
-use Rattle.commands.specs.Checks.{Check, Refuse, Pass, Passes, meant, pass_unless, ◌>>=◌}
-use Rattle.commands.specs.Stops.{Ends, Stops, Tells, bytes_of}
-use Rattle.commands.specs.declared.stop.Stop.{Stop}
-use Rattle.commands.specs.declared.stop.Stop.TheVariants.{Refused, ReadFault, OutOfMemory}
+use Rattle.commands.proofs.Common.{Texts, NoText, IsText, Check, Refuse, Pass, Passes, meant, pass_unless, ◌>>=◌, Ends, Stops, Tells, bytes_of, Stop, ReadFault, OutOfMemory, ◌≡◌, ◌⊎◌, inl, inr, ℕ, ◌+◌, ◌<◌, List, length, refl, ap, ◌∙◌, subst, arith, length-replicate, Option, Some, None, IfSome, Result, Ok, Err, replicate}
+use Rattle.commands.specs.declared.stop.Stop.TheVariants.{Refused}
 
 -- what stops the first check stops the sequence
 pub stops_first : {A B : Type 0} (first : Check A) (next : A → Check B) (stop : Stop) → Stops first stop → Stops (first >>= next) stop

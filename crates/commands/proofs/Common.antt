@@ -1,7 +1,25 @@
--- What proofs of this crate cite of others, passed on from one place (by tools/imports). Declares nothing.
-pub use Rattle.off_reader.specs.OffTexts.{Header, Keyword, bare_counts, coordinates_of, corners_of, counted, counts_behind, face_fault, has_piece, keyword_in, line_before, meaning_of, point_fault, ring_fault, rings_of, two_naturals, ◌>>=◌}
+-- What proofs of this crate cite of its definitions and of other crates, passed on from one place (by tools/imports). Declares nothing.
+pub use Rattle.commands.specs.Answers.{Answer, Exactly, IsText, NoText, OfOddChain, Texts}
+pub use Rattle.commands.specs.Certificates.{decision_line, decision_status, decision_word}
+pub use Rattle.commands.specs.Checks.{Check, End, Holds, IsTold, Pass, Passes, Refuse, decided_by, file, found_or, meant, pass, pass_unless, refuse, where_told, ◌>>=◌}
+pub use Rattle.commands.specs.Inputs.{IsInputWith, SpellsMesh, SpellsPair, mesh_in, orientable, pair_in, text_in, walk_at, walks_unless}
+pub use Rattle.commands.specs.Limits.{FitsLimits, IsRefusedBeyond, darts_line, first_over, limit_line, over_line, sides_line}
+pub use Rattle.commands.specs.Lines.{behind_blank, in_lines, line, link_phrases, odd_chain_line, phrase_text}
+pub use Rattle.commands.specs.Outcomes.{AnswersTo, IsAnswerOf, Outcome}
+pub use Rattle.commands.specs.Refusals.{certificate_line, numbers_line, off_line, pair_line, too_large}
+pub use Rattle.commands.specs.Replies.{Concludes, Replies, Runs, reply_text}
+pub use Rattle.commands.specs.Stops.{Ends, Reads, Stops, StopsReading, Tells, bytes_of}
+pub use Rattle.commands.specs.WordTexts.{word_line}
+pub use Rattle.commands.specs.declared.inputs.TheConstants.{MOST_BYTES}
+pub use Rattle.commands.specs.declared.line.Phrase.{Phrase}
+pub use Rattle.commands.specs.declared.refusal.Input.TheVariants.{Mesh, Walks}
+pub use Rattle.commands.specs.declared.status.Status.{Status}
+pub use Rattle.commands.specs.declared.status.Status.TheVariants.{No, Refused, WriteFault, Yes}
+pub use Rattle.commands.specs.declared.stop.Stop.{Stop}
+pub use Rattle.commands.specs.declared.stop.Stop.TheVariants.{OutOfMemory, ReadFault}
+pub use Rattle.off_reader.specs.OffTexts.{Header, Keyword, bare_counts, coordinates_of, corners_of, counted, counts_behind, face_fault, has_piece, keyword_in, line_before, meaning_of, point_fault, ring_fault, rings_of, two_naturals}
 unfoldable pub use Rattle.off_reader.specs.OffTexts.{counts_at, header_of, mesh_of, taken}
-pub use Rattle.off_reader.specs.declared.off_fault.OffFault.TheVariants.{OutOfMemory, TooMany, UnreadForm}
+pub use Rattle.off_reader.specs.declared.off_fault.OffFault.TheVariants.{TooMany, UnreadForm}
 pub use Rattle.std.proofs.Common.{Bool, List, ap, append_assoc, arith, drop, false, get_or, inl, inr, length, refl, subst, suc, sym, take, true, zero, ℕ, [], ◌++◌, ◌+◌, ◌<◌, ◌∙◌, ◌∷◌, ◌≡◌, ◌≤◌, ◌⊎◌}
 pub use Rattle.std.proofs.lemmas.Bool.{and_parts, cases_lt, leb-true}
 pub use Rattle.std.proofs.lemmas.Grind.{flat_map-append}

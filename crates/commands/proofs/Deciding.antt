@@ -1,16 +1,10 @@
 -- How the decision on two walks ends, and what it leaves to be answered.
-use Rattle.commands.proofs.Common.{◌≡◌, ◌⊎◌, inl, inr, ℕ, List, [], length, get_or, refl, sym, ap, ◌∙◌, subst, get_or_from_slice_get, ◌↔◌, Option, Some, slice_get, Files, FaceList, AreWalkPair, Homotopic, Different, IsPair}
+use Rattle.commands.proofs.Common.{Texts, decision_status, decision_line, Check, End, Refuse, Pass, Passes, IsTold, ◌>>=◌, walk_at, Outcome, IsAnswerOf, Status, ◌≡◌, ◌⊎◌, inl, inr, ℕ, List, [], length, get_or, refl, sym, ap, ◌∙◌, subst, get_or_from_slice_get, ◌↔◌, Option, Some, slice_get, Files, FaceList, AreWalkPair, Homotopic, Different, IsPair}
+use Rattle.commands.specs.Decisions.{decided, decision_answer}
 use Rattle.surf_model.specs.Moves as moves
 use Rattle.surf_model.specs.declared.decisions.Answer as deciding
 use Rattle.commands.proofs.RightAnswers.{IsRightLine, right_line}
 use Rattle.commands.proofs.Sound.{IsSound, IsYesOrNo, one_right, sound-decided_by}
-use Rattle.commands.specs.Answers.{Texts}
-use Rattle.commands.specs.Certificates.{decision_status, decision_line}
-use Rattle.commands.specs.Checks.{Check, End, Refuse, Pass, Passes, IsTold, ◌>>=◌}
-use Rattle.commands.specs.Inputs.{walk_at}
-use Rattle.commands.specs.Decisions.{decided, decision_answer}
-use Rattle.commands.specs.Outcomes.{Outcome, IsAnswerOf}
-use Rattle.commands.specs.declared.status.Status.{Status}
 
 -- ---- a decision
 

@@ -1,10 +1,7 @@
 -- Lines that are gathered in a piece, in the words that say how they are put.
-use Rattle.commands.proofs.Common.{◌≡◌, ℕ, ◌≤◌, List, [], ◌∷◌, ◌++◌, length, refl, sym, ap, ◌∙◌, append_assoc, arith, flat_map-append, append-nil, codes, decimal, flat_map, map, line_of-numbers, spaced, Homotopic, Different, line_of, entry_words}
+use Rattle.commands.proofs.Common.{decision_line, decision_word, behind_blank, link_phrases, odd_chain_line, word_line, ◌≡◌, ℕ, ◌≤◌, List, [], ◌∷◌, ◌++◌, length, refl, sym, ap, ◌∙◌, append_assoc, arith, flat_map-append, append-nil, codes, decimal, flat_map, map, line_of-numbers, spaced, Homotopic, Different, line_of, entry_words}
 use Rattle.surf_model.specs.declared.chains.ChainLink.{ChainLink}
 use Rattle.surf_model.specs.declared.decisions.Answer as deciding
-use Rattle.commands.specs.Certificates.{decision_line, decision_word}
-use Rattle.commands.specs.Lines.{behind_blank, link_phrases, odd_chain_line}
-use Rattle.commands.specs.WordTexts.{word_line}
 
 -- the line of a turn word, as denials have it
 pub word_line-put : (word : List ℕ) → line_of (entry_words word) ≡ word_line word

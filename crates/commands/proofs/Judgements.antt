@@ -1,13 +1,8 @@
 -- Commands that read a mesh, two walks of it and a certificate: as the judgement on the certificate ends, the command does.
-use Rattle.commands.proofs.Common.{◌≡◌, inl, inr, ℕ, zero, suc, ◌<◌, List, [], ◌∷◌, subst, arith, cases_lt, Option, Files, FaceList}
+use Rattle.commands.proofs.Common.{Answer, Check, Passes, IsTold, Holds, ◌>>=◌, IsInputWith, mesh_in, pair_in, walk_at, SpellsPair, Outcome, AnswersTo, Status, ◌≡◌, inl, inr, ℕ, zero, suc, ◌<◌, List, [], ◌∷◌, subst, arith, cases_lt, Option, Files, FaceList}
 use Rattle.commands.proofs.Deciding.{behind}
 use Rattle.commands.proofs.Rows.{behind_pair, pair_told, mesh_told, mesh_passes, spelled_pair}
 use Rattle.commands.proofs.Sound.{IsSound, held}
-use Rattle.commands.specs.Answers.{Answer}
-use Rattle.commands.specs.Checks.{Check, Passes, IsTold, Holds, ◌>>=◌}
-use Rattle.commands.specs.Inputs.{IsInputWith, mesh_in, pair_in, walk_at, SpellsPair}
-use Rattle.commands.specs.Outcomes.{Outcome, AnswersTo}
-use Rattle.commands.specs.declared.status.Status.{Status}
 
 -- below a bound there is a least number of which something fails, or it holds of all
 pub first_failing : (n : ℕ) (P : ℕ → Type 0) → ((k : ℕ) → k < n → (P k → ⊥) → ((j : ℕ) → j < k → P j) → ⊥)

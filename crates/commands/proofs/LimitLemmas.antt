@@ -1,11 +1,8 @@
 -- How the limits of a command that makes lists of moves are kept, and what is refused beyond them.
-use Rattle.commands.proofs.Common.{◌≡◌, ℕ, ◌+◌, ◌<◌, ◌≤◌, Bool, true, false, List, refl, ap, arith, option_map, nat_lt, if◌then◌else◌, Option, Some, None, FaceList, total_sides, darts}
-use Rattle.std.proofs.lemmas.Bool.Decides.{nat_tests}
-use Rattle.commands.specs.Limits.{FitsLimits, IsRefusedBeyond, first_over, over_line, sides_line, darts_line, limit_line}
+use Rattle.commands.proofs.Common.{FitsLimits, IsRefusedBeyond, first_over, over_line, sides_line, darts_line, limit_line, Status, Refused, ◌≡◌, ℕ, ◌+◌, ◌<◌, ◌≤◌, Bool, true, false, List, refl, ap, arith, option_map, nat_lt, if◌then◌else◌, Option, Some, None, FaceList, total_sides, darts}
 use Rattle.commands.specs.declared.limits.Limits.{Limits}
 use Rattle.commands.specs.declared.limits.OverLimit.TheVariants.{Sides, Darts}
-use Rattle.commands.specs.declared.status.Status.{Status}
-use Rattle.commands.specs.declared.status.Status.TheVariants.{Refused}
+use Rattle.std.proofs.lemmas.Bool.Decides.{nat_tests}
 
 module _ (limits : Limits) (mesh : FaceList) (first second : List ℕ) where
   -- what is over its limit, by the numbers that were counted

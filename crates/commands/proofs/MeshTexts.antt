@@ -1,6 +1,7 @@
 -- A mesh that a text means is a face list.
-use Rattle.commands.proofs.Common.{◌>>=◌, Header, Keyword, coordinates_of, has_piece, counts_at, bare_counts, counts_behind, counted, two_naturals, line_before, keyword_in, header_of, taken, point_fault, face_fault, ring_fault, corners_of, rings_of, mesh_of, meaning_of, TooMany, UnreadForm, ◌≡◌, inr, inl, ℕ, zero, suc, ◌≤◌, Bool, true, false, List, [], ◌∷◌, ◌++◌, length, take, drop, refl, sym, ap, ◌∙◌, subst, arith, and_parts, leb-true, nat_le, ◌&&◌, if◌then◌else◌, Option, Some, None, Result, Ok, Err, All, sum_by, bytes_eq, codes, Files, FaceList, IsFace, IsFaceList, HasFileSize}
+use Rattle.commands.proofs.Common.{OfOddChain, Passes, meant, End, Refuse, Pass, mesh_in, orientable, off_line, Header, Keyword, coordinates_of, has_piece, counts_at, bare_counts, counts_behind, counted, two_naturals, line_before, keyword_in, header_of, taken, point_fault, face_fault, ring_fault, corners_of, rings_of, mesh_of, meaning_of, TooMany, UnreadForm, ◌≡◌, inr, inl, ℕ, zero, suc, ◌≤◌, Bool, true, false, List, [], ◌∷◌, ◌++◌, length, take, drop, refl, sym, ap, ◌∙◌, subst, arith, and_parts, leb-true, nat_le, ◌&&◌, if◌then◌else◌, Option, Some, None, Result, Ok, Err, All, sum_by, bytes_eq, codes, Files, FaceList, IsFace, IsFaceList, HasFileSize}
 use Rattle.off_reader.proofs.RingLemmas.{ring_face, ring_room}
+use Rattle.off_reader.specs.OffTexts.{◌>>=◌}
 use Rattle.off_reader.specs.declared.header.TheConstants.{MOST_FACES}
 use Rattle.off_reader.specs.declared.off_fault.OffFault.{OffFault}
 use Rattle.std.proofs.lemmas.List.Elements.{filter_map-append, All-nil, All-cons, All-append}
@@ -8,11 +9,7 @@ use Rattle.std.proofs.lemmas.List.Sums.{sum_by-append}
 use Rattle.std.specs.List.{list_any}
 use Rattle.surf_model.specs.declared.limits.TheConstants.{MOST_VERTICES, MOST_SIDES}
 use Rattle.text_scan.specs.Lines.{Line, is_filled, full_lines, end_line}
-use Rattle.commands.specs.Checks.{Passes, meant, End, Refuse, Pass}
-use Rattle.commands.specs.Inputs.{mesh_in, orientable}
-use Rattle.commands.specs.Refusals.{off_line}
 use Rattle.commands.proofs.Sound.{IsSound}
-use Rattle.commands.specs.Answers.{OfOddChain}
 
 -- ---- a header has few vertices
 

@@ -1,11 +1,6 @@
 -- What a refusal gives as an answer, and a decision that is right.
-use Rattle.commands.proofs.Common.{◌≡◌, ◌⊎◌, inl, inr, ℕ, List, sym, ap, ◌∙◌, subst, ◌↔◌}
+use Rattle.commands.proofs.Common.{Answer, Exactly, Refuse, Pass, decided_by, Outcome, IsAnswerOf, Status, Yes, No, Refused, ◌≡◌, ◌⊎◌, inl, inr, ℕ, List, sym, ap, ◌∙◌, subst, ◌↔◌}
 use Rattle.commands.proofs.Sound.{IsYesOrNo}
-use Rattle.commands.specs.Answers.{Answer, Exactly}
-use Rattle.commands.specs.Checks.{Refuse, Pass, decided_by}
-use Rattle.commands.specs.Outcomes.{Outcome, IsAnswerOf}
-use Rattle.commands.specs.declared.status.Status.{Status}
-use Rattle.commands.specs.declared.status.Status.TheVariants.{Yes, No, Refused}
 
 pub no_yes : No ≡ Yes → ⊥
 no_yes e = cc

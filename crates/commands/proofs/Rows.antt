@@ -1,17 +1,10 @@
 -- The files that commands look at: the check of each has an end, and one where its files are told.
-use Rattle.commands.proofs.Common.{meaning_of, inr, ℕ, ◌≤◌, List, ◌∷◌, length, refl, [], Option, Some, None, IsSomeAnd, Files, file_of, FaceList, IsPair, pair_fault}
+use Rattle.commands.proofs.Common.{Answer, Check, End, Passes, Holds, IsTold, ◌>>=◌, IsInputWith, mesh_in, pair_in, SpellsMesh, SpellsPair, Outcome, IsAnswerOf, off_line, pair_line, MOST_BYTES, Status, meaning_of, inr, ℕ, ◌≤◌, List, ◌∷◌, length, refl, [], Option, Some, None, IsSomeAnd, Files, file_of, FaceList, IsPair, pair_fault}
 use Rattle.walk_files.proofs.PairLemmas.{none_of_pair}
 use Rattle.commands.specs.declared.refusal.Input.TheVariants as inputs
 use Rattle.commands.proofs.Deciding.{behind}
 use Rattle.commands.proofs.Sound.{IsSound, sound-then, sound-meant, sound-file, meant_told, held}
 use Rattle.commands.proofs.WalkInputs.{sound-walks, walks_passed, walks_told}
-use Rattle.commands.specs.Answers.{Answer}
-use Rattle.commands.specs.Checks.{Check, End, Passes, Holds, IsTold, ◌>>=◌}
-use Rattle.commands.specs.Inputs.{IsInputWith, mesh_in, pair_in, SpellsMesh, SpellsPair}
-use Rattle.commands.specs.Outcomes.{Outcome, IsAnswerOf}
-use Rattle.commands.specs.Refusals.{off_line, pair_line}
-use Rattle.commands.specs.declared.status.Status.{Status}
-use Rattle.commands.specs.declared.inputs.TheConstants.{MOST_BYTES}
 
 -- ---- the files
 

@@ -1,17 +1,11 @@
 -- Calls that read, one behind another.
-use Rattle.commands.proofs.Common.{◌≡◌, ℕ, ◌<◌, sym, ap, ◌∙◌, subst, arith, refl, Option, Result, Ok, Err, MatchResult, IsErrAnd, OnlyReads, Rose, Files}
+use Rattle.commands.proofs.Common.{Answer, Texts, Check, certificate_line, too_large, Concludes, Replies, Runs, Reads, Stops, StopsReading, Tells, Stop, ReadFault, OutOfMemory, ◌≡◌, ℕ, ◌<◌, sym, ap, ◌∙◌, subst, arith, refl, Option, Result, Ok, Err, MatchResult, IsErrAnd, OnlyReads, Rose, Files}
+use Rattle.commands.specs.declared.reply.Reply.{Reply}
+use Rattle.commands.specs.declared.stop.Stop.TheVariants.{Refused}
 use Rattle.walk_files.specs.declared.stream_end.StreamEnd.{StreamEnd}
 use Rattle.walk_files.specs.declared.stream_end.StreamEnd.TheVariants.{Fault, TooLarge, Cert}
 use Rattle.walk_files.specs.declared.stream_end.StreamEnd.TheVariants as ends
-use Rattle.commands.specs.Answers.{Answer, Texts}
-use Rattle.commands.specs.Checks.{Check}
-use Rattle.commands.specs.Replies.{Concludes, Replies, Runs}
-use Rattle.commands.specs.Refusals.{certificate_line, too_large}
-use Rattle.commands.specs.Stops.{Reads, Stops, StopsReading, Tells}
 use Rattle.commands.specs.declared.refusal.Input.TheVariants as inputs
-use Rattle.commands.specs.declared.reply.Reply.{Reply}
-use Rattle.commands.specs.declared.stop.Stop.{Stop}
-use Rattle.commands.specs.declared.stop.Stop.TheVariants.{Refused, ReadFault, OutOfMemory}
 
 -- what tells a fault of a text tells no read fault
 pub tells_no_fault : (texts : Texts) (stop : Stop) → Tells texts stop → stop ≡ ReadFault → ⊥

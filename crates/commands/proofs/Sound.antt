@@ -1,9 +1,5 @@
 -- What holds of checks, part by part: no check is without an end, and it has one where the files that it looks at are told.
-use Rattle.commands.proofs.Common.{◌≡◌, ◌⊎◌, inl, inr, ℕ, ◌<◌, ◌≤◌, List, [], length, refl, sym, ap, ◌∙◌, subst, arith, cases_lt, ◌↔◌, Option, Some, None, Result, Ok, Err, IfSome, IsSome, IsSomeAnd, MatchOption, Files, file_of}
-use Rattle.commands.specs.Answers.{Texts}
-use Rattle.commands.specs.Checks.{Check, End, Refuse, Pass, Passes, IsTold, Holds, pass, refuse, file, found_or, decided_by, meant, pass_unless, where_told, ◌>>=◌}
-use Rattle.commands.specs.Refusals.{too_large}
-use Rattle.commands.specs.declared.inputs.TheConstants.{MOST_BYTES}
+use Rattle.commands.proofs.Common.{Texts, Check, End, Refuse, Pass, Passes, IsTold, Holds, pass, refuse, file, found_or, decided_by, meant, pass_unless, where_told, ◌>>=◌, too_large, MOST_BYTES, ◌≡◌, ◌⊎◌, inl, inr, ℕ, ◌<◌, ◌≤◌, List, [], length, refl, sym, ap, ◌∙◌, subst, arith, cases_lt, ◌↔◌, Option, Some, None, Result, Ok, Err, IfSome, IsSome, IsSomeAnd, MatchOption, Files, file_of}
 use Rattle.commands.specs.declared.refusal.Input.{Input}
 
 -- the check has an end, and one where the files that it looks at are told

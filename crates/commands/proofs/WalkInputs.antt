@@ -1,17 +1,11 @@
 -- How the check of a walk file ends, whatever is looked for in its walks.
-use Rattle.commands.proofs.Common.{◌≡◌, inl, inr, ℕ, List, refl, subst, Option, Some, None, Result, Ok, Err, Files, walk_text_of, walks_of, walks_in}
+use Rattle.commands.proofs.Common.{Texts, IsText, Check, Passes, IsTold, file, meant, pass_unless, ◌>>=◌, text_in, walks_unless, numbers_line, Stops, Tells, bytes_of, Stop, ReadFault, OutOfMemory, ◌≡◌, inl, inr, ℕ, List, refl, subst, Option, Some, None, Result, Ok, Err, Files, walk_text_of, walks_of, walks_in}
+use Rattle.commands.specs.declared.stop.Stop.TheVariants.{Refused}
 use Rattle.walk_files.specs.WalkLists.{WalkText}
 use Rattle.walk_files.specs.declared.fault.WalkFault.{WalkFault}
 use Rattle.commands.proofs.Checking.{stops_first, stops_next, stopped_where, told_stops}
 use Rattle.commands.proofs.Sound.{IsSound, sound-file, sound-then, sound-meant, sound-pass_unless, meant_told, unless_told}
-use Rattle.commands.specs.Answers.{Texts, IsText}
-use Rattle.commands.specs.Checks.{Check, Passes, IsTold, file, meant, pass_unless, ◌>>=◌}
-use Rattle.commands.specs.Inputs.{text_in, walks_unless}
-use Rattle.commands.specs.Refusals.{numbers_line}
-use Rattle.commands.specs.Stops.{Stops, Tells, bytes_of}
 use Rattle.commands.specs.declared.refusal.Input.TheVariants as inputs
-use Rattle.commands.specs.declared.stop.Stop.{Stop}
-use Rattle.commands.specs.declared.stop.Stop.TheVariants.{Refused, ReadFault, OutOfMemory}
 
 -- ---- what a text stands for
 

@@ -1,9 +1,7 @@
 -- What is written piece by piece.
-use Rattle.commands.proofs.Common.{◌≡◌, ℕ, suc, ◌+◌, ◌<◌, ◌≤◌, List, [], ◌∷◌, ◌++◌, length, get_or, take, drop, sym, ap, subst, ◌∙◌, append_assoc, arith, flat_map-append, take_all, take_more, map-append, append-nil, Option, Result, Ok, Err, OnOk, OnErr, map, flat_map, appends_twice, on_err, part_after, part_first, part_last, EachPut, all-written, on_ok, only-then, part-written, append_told, Appends, AppendsPrefix, OnlyWrites, WroteAll, WrotePart, Rose, Gathers, Puts}
-use Rattle.std.proofs.Math.Seq.{split_at}
-use Rattle.commands.specs.Lines.{line, behind_blank, in_lines, phrase_text}
+use Rattle.commands.proofs.Common.{line, behind_blank, in_lines, phrase_text, Phrase, ◌≡◌, ℕ, suc, ◌+◌, ◌<◌, ◌≤◌, List, [], ◌∷◌, ◌++◌, length, get_or, take, drop, sym, ap, subst, ◌∙◌, append_assoc, arith, flat_map-append, take_all, take_more, map-append, append-nil, Option, Result, Ok, Err, OnOk, OnErr, map, flat_map, appends_twice, on_err, part_after, part_first, part_last, EachPut, all-written, on_ok, only-then, part-written, append_told, Appends, AppendsPrefix, OnlyWrites, WroteAll, WrotePart, Rose, Gathers, Puts}
 use Rattle.commands.specs.Writes.{Writes}
-use Rattle.commands.specs.declared.line.Phrase.{Phrase}
+use Rattle.std.proofs.Math.Seq.{split_at}
 
 -- the whole is a first part of itself
 AppendsPrefix-whole : (a b : Option (List ℕ)) (bytes : List ℕ) → Appends a b bytes → AppendsPrefix a b bytes

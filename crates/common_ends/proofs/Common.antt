@@ -1,4 +1,5 @@
--- What proofs of this crate cite of others, passed on from one place (by tools/imports). Declares nothing.
+-- What proofs of this crate cite of its definitions and of other crates, passed on from one place (by tools/imports). Declares nothing.
+pub use Rattle.common_ends.specs.Trimmed.{AreCommonDarts, between, put_around}
 pub use Rattle.std.proofs.Common.{List, ap, append_assoc, arith, drop, get_or, inl, inr, length, length-append, max, refl, subst, sym, take, true, ℕ, [], ◌++◌, ◌+◌, ◌-◌, ◌<◌, ◌∙◌, ◌∷◌, ◌≡◌, ◌≤◌}
 pub use Rattle.std.proofs.lemmas.List.{append-nil, drop-drop, drop-take, drop_more, get_or-append-add, get_or-drop, get_or-take, get_or_append_left, length-drop, length-take-le, map_push, take-append-drop, take-take, take_all, take_more}
 pub use Rattle.std.specs.Prelude.{All, IsTrue, Some, slice_get}

@@ -1,8 +1,7 @@
 -- What two walks begin with and end with: taken off, and put back around a list of moves between what is left.
-use Rattle.common_ends.proofs.Common.{◌≡◌, ℕ, ◌+◌, ◌-◌, ◌<◌, ◌≤◌, true, List, [], ◌∷◌, ◌++◌, length, take, drop, get_or, refl, ap, sym, ◌∙◌, subst, arith, append_assoc, length-append, append-nil, drop_more, drop-drop, get_or-append-add, get_or_append_left, get_or-drop, get_or-take, length-drop, length-take-le, take-append-drop, take-take, take_all, take_more, IsTrue, list_in_context, one_after_another, FaceList, is_edge, is_used, Homotopic, PeakedMoves, LeadsAtPeak, raised, all_raised, IsWalk, darts, AreWalkPair, Move, Insert, Remove, Across, VertexName}
-use Rattle.surf_model.proofs.EdgeLemmas.{edge_swap}
-use Rattle.common_ends.specs.Trimmed.{AreCommonDarts, between, put_around}
+use Rattle.common_ends.proofs.Common.{AreCommonDarts, between, put_around, ◌≡◌, ℕ, ◌+◌, ◌-◌, ◌<◌, ◌≤◌, true, List, [], ◌∷◌, ◌++◌, length, take, drop, get_or, refl, ap, sym, ◌∙◌, subst, arith, append_assoc, length-append, append-nil, drop_more, drop-drop, get_or-append-add, get_or_append_left, get_or-drop, get_or-take, length-drop, length-take-le, take-append-drop, take-take, take_all, take_more, IsTrue, list_in_context, one_after_another, FaceList, is_edge, is_used, Homotopic, PeakedMoves, LeadsAtPeak, raised, all_raised, IsWalk, darts, AreWalkPair, Move, Insert, Remove, Across, VertexName}
 use Rattle.common_ends.specs.declared.common_darts.CommonDarts.{CommonDarts}
+use Rattle.surf_model.proofs.EdgeLemmas.{edge_swap}
 use Rattle.common_ends.proofs.PeakLemmas.{greatest_raised, spur_comes, spur_goes}
 
 -- the last entry of a walk

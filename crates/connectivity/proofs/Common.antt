@@ -1,4 +1,11 @@
--- What proofs of this crate cite of others, passed on from one place (by tools/imports). Declares nothing.
+-- What proofs of this crate cite of its definitions and of other crates, passed on from one place (by tools/imports). Declares nothing.
+pub use Rattle.connectivity.specs.Classes.{AreLeastMembers, HasSameRoots, IsForest, KeepsJoined, ancestor, joined_at, renamed}
+unfoldable pub use Rattle.connectivity.specs.Classes.{root_of, roots_of}
+pub use Rattle.connectivity.specs.Joined.{AreLeastApart, EachVertexHasOneRing, IsLeastPinch, IsLeastUsed, NoEdgeHasThreeSides}
+pub use Rattle.connectivity.specs.Links.{AreCornersAcross, AreLinks, AreLinksUpTo, AreMadeJoined, HasTwoLeast, IsFirstPinched, IsJoinedAcross, IsLeastCorner, IsTrueLink, link_at, with_ring}
+pub use Rattle.connectivity.specs.Partitions.{AreComponents, AreRings, IsCornerStep, IsEdgeStep, IsLeastElsewhere, JoinsOnlyByCornerSteps, JoinsOnlyBySteps}
+pub use Rattle.connectivity.specs.declared.corners.Link.{Link}
+pub use Rattle.connectivity.specs.declared.corners.Link.TheVariants.{NoRing, OneRing, Pinched}
 pub use Rattle.std.proofs.Common.{Bool, Err, List, Ok, Result, Vec, add-one, ap, arith, below_more, eqb, false, get_or, inl, inr, length, map, max, min, refl, rules, set, subst, suc, sym, true, zero, ℕ, [], ◌++◌, ◌+◌, ◌<◌, ◌||◌, ◌∙◌, ◌∷◌, ◌≡◌, ◌≢◌, ◌≤◌, ◌⊎◌}
 pub use Rattle.std.proofs.lemmas.Bool.{cases_Bool, cases_eq, cases_lt, cases_order, eq-eqb, eqb-true}
 pub use Rattle.std.proofs.lemmas.Bool.Decides.{nat_tests}

@@ -1,7 +1,5 @@
 -- Vertices in classes, as the edges of the table are gone through.
-use Rattle.connectivity.proofs.Common.{◌≡◌, inl, inr, ℕ, ◌+◌, ◌<◌, ◌≤◌, List, length, get_or, ap, sym, ◌∙◌, subst, arith, below_more, length-range_with_len, range_with_len, IsEdgeBetween, edge_between, table_pair, Edge, IsTableOf, edge_in, FaceList, IsFaceList}
-use Rattle.connectivity.specs.Classes.{joined_at}
-use Rattle.connectivity.specs.Partitions.{JoinsOnlyBySteps, IsEdgeStep, AreComponents}
+use Rattle.connectivity.proofs.Common.{joined_at, JoinsOnlyBySteps, IsEdgeStep, AreComponents, ◌≡◌, inl, inr, ℕ, ◌+◌, ◌<◌, ◌≤◌, List, length, get_or, ap, sym, ◌∙◌, subst, arith, below_more, length-range_with_len, range_with_len, IsEdgeBetween, edge_between, table_pair, Edge, IsTableOf, edge_in, FaceList, IsFaceList}
 use Rattle.connectivity.proofs.Joining.{length-joined_at, joined_at_ends, joined_at_keeps, joins_only-joined_at, joins_only-alone}
 use Rattle.connectivity.proofs.EdgeLemmas.{edge_swap, ends_below}
 

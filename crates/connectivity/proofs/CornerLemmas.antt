@@ -1,7 +1,5 @@
 -- Corners at a vertex, and steps round it.
-use Rattle.connectivity.proofs.Common.{◌≡◌, ◌⊎◌, refl, inl, inr, ℕ, ◌<◌, true, eqb, List, [], ◌∷◌, length, get_or, ap, sym, ◌∙◌, subst, arith, eq-eqb, eqb-true, get_or_default, list_any_at, Any-from_list_any, list_any, Contains, ends_differ, face_side, length-all_sides, IsWholeSide, whole_side, face_side_in, next_within, IsSide, side_number, side_after, tail_of, head_of, side_name, FaceList, FaceSide, IsFaceList, face_at, all_sides, total_sides, is_used, IsPath, AreJoined, ArePartners, IsCornerAt, IsCornerOfSide, IsStepAround, HasOneRing, Side}
-use Rattle.connectivity.specs.Links.{AreCornersAcross}
-use Rattle.connectivity.specs.Partitions.{IsCornerStep, AreRings}
+use Rattle.connectivity.proofs.Common.{AreCornersAcross, IsCornerStep, AreRings, ◌≡◌, ◌⊎◌, refl, inl, inr, ℕ, ◌<◌, true, eqb, List, [], ◌∷◌, length, get_or, ap, sym, ◌∙◌, subst, arith, eq-eqb, eqb-true, get_or_default, list_any_at, Any-from_list_any, list_any, Contains, ends_differ, face_side, length-all_sides, IsWholeSide, whole_side, face_side_in, next_within, IsSide, side_number, side_after, tail_of, head_of, side_name, FaceList, FaceSide, IsFaceList, face_at, all_sides, total_sides, is_used, IsPath, AreJoined, ArePartners, IsCornerAt, IsCornerOfSide, IsStepAround, HasOneRing, Side}
 use Rattle.connectivity.proofs.Joining.{joined_keep}
 
 pub after_in_mesh : (mesh : FaceList) (side : Side) → IsSide mesh side → IsSide mesh (side_after mesh side)

@@ -1,6 +1,5 @@
 -- How many sides edges have, by the table of the mesh.
-use Rattle.connectivity.proofs.Common.{◌≡◌, inl, inr, ℕ, ◌<◌, ◌≤◌, Bool, true, false, ◌||◌, List, [], ◌∷◌, length, refl, ap, sym, ◌∙◌, subst, arith, cases_Bool, list_any, filter, cond, IsEdgeBetween, edge_between, sides_of_edge, sides_between_swap, place_before, same_pair, Edge, IsTableOf, edge_in, IsPairBefore, FaceList, all_sides, joins, is_edge, sides_between, EachEdgeHasTwoSides}
-use Rattle.connectivity.specs.Joined.{NoEdgeHasThreeSides}
+use Rattle.connectivity.proofs.Common.{NoEdgeHasThreeSides, ◌≡◌, inl, inr, ℕ, ◌<◌, ◌≤◌, Bool, true, false, ◌||◌, List, [], ◌∷◌, length, refl, ap, sym, ◌∙◌, subst, arith, cases_Bool, list_any, filter, cond, IsEdgeBetween, edge_between, sides_of_edge, sides_between_swap, place_before, same_pair, Edge, IsTableOf, edge_in, IsPairBefore, FaceList, all_sides, joins, is_edge, sides_between, EachEdgeHasTwoSides}
 
 -- where no side passes, none is kept
 kept_first : {X : Type 0} (passes any : Bool) (x : X) (kept : List X) → (passes || any) ≡ false → (any ≡ false → length kept ≡ 0)

@@ -1,8 +1,7 @@
 -- Edges of a mesh, by its table.
-use Rattle.connectivity.proofs.Common.{◌≡◌, ◌≢◌, ◌⊎◌, inl, inr, ℕ, ◌<◌, ◌≤◌, true, List, length, sym, ◌∙◌, subst, arith, nat_tests, Any-from_list_any, list_any-from_Any, ends_differ, IsWholeSide, whole_side, table_pair, sides_of_edge, joins_swap, IsSide, side_after, tail_of, head_of, Edge, IsTableOf, side_name, edge_in, FaceList, FaceSide, IsFaceList, all_sides, joins, is_edge, is_used, Side}
+use Rattle.connectivity.proofs.Common.{NoEdgeHasThreeSides, ◌≡◌, ◌≢◌, ◌⊎◌, inl, inr, ℕ, ◌<◌, ◌≤◌, true, List, length, sym, ◌∙◌, subst, arith, nat_tests, Any-from_list_any, list_any-from_Any, ends_differ, IsWholeSide, whole_side, table_pair, sides_of_edge, joins_swap, IsSide, side_after, tail_of, head_of, Edge, IsTableOf, side_name, edge_in, FaceList, FaceSide, IsFaceList, all_sides, joins, is_edge, is_used, Side}
 pub use Rattle.surf_model.proofs.EdgeLemmas.{used_below}
 use Rattle.connectivity.proofs.CornerLemmas.{after_in_mesh, corner_used}
-use Rattle.connectivity.specs.Joined.{NoEdgeHasThreeSides}
 
 pub edge_swap : (mesh : FaceList) (u v : ℕ) → is_edge mesh u v ≡ true → is_edge mesh v u ≡ true
 unfolding is_edge

@@ -1,6 +1,5 @@
 -- What fails nowhere at a first place fails nowhere; and what is least is one.
-use Rattle.connectivity.proofs.Common.{◌≡◌, ◌⊎◌, inl, inr, ℕ, zero, suc, ◌<◌, Bool, true, ap, sym, subst, arith, Result, Ok, Err, cases_lt, cases_order, OnOk, IfErr, IsPairBefore, FaceList, VertexName}
-use Rattle.connectivity.specs.Joined.{IsLeastPinch}
+use Rattle.connectivity.proofs.Common.{IsLeastPinch, ◌≡◌, ◌⊎◌, inl, inr, ℕ, zero, suc, ◌<◌, Bool, true, ap, sym, subst, arith, Result, Ok, Err, cases_lt, cases_order, OnOk, IfErr, IsPairBefore, FaceList, VertexName}
 
 -- what holds below n and at n holds up to n
 pub up_to : (P : ℕ → Type 0) (n : ℕ) → ((k : ℕ) → k < n → P k) → P n → (k : ℕ) → k < suc n → P k

@@ -1,6 +1,5 @@
 -- Forests in which no parent is greater than its child.
-use Rattle.connectivity.proofs.Common.{◌≡◌, ◌⊎◌, inl, inr, ℕ, zero, suc, ◌<◌, ◌≤◌, ◌≢◌, List, [], ◌∷◌, ◌++◌, ◌+◌, length, min, max, get_or, set, refl, ap, sym, ◌∙◌, subst, arith, cases_lt, cases_eq, nat_tests, length-set, length-map, map-id, get_or-set_same, get_or-set_other, get_or_past, get_or-map, ext_get_or, length-range_with_len, get_or-range_with_len, get_or-map-range_with_len, map-range_with_len_more, range_with_len}
-use Rattle.connectivity.specs.Classes.{renamed, joined_at, AreLeastMembers, IsForest, ancestor, root_of, roots_of, HasSameRoots}
+use Rattle.connectivity.proofs.Common.{renamed, joined_at, AreLeastMembers, IsForest, ancestor, root_of, roots_of, HasSameRoots, ◌≡◌, ◌⊎◌, inl, inr, ℕ, zero, suc, ◌<◌, ◌≤◌, ◌≢◌, List, [], ◌∷◌, ◌++◌, ◌+◌, length, min, max, get_or, set, refl, ap, sym, ◌∙◌, subst, arith, cases_lt, cases_eq, nat_tests, length-set, length-map, map-id, get_or-set_same, get_or-set_other, get_or_past, get_or-map, ext_get_or, length-range_with_len, get_or-range_with_len, get_or-map-range_with_len, map-range_with_len_more, range_with_len}
 
 -- no parent is greater, past the end too
 pub parent_le : {parents : List ℕ} (x : ℕ) → IsForest parents → get_or parents x 0 ≤ x

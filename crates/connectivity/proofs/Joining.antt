@@ -1,7 +1,5 @@
 -- Being joined by steps, and the classes that are made along them.
-use Rattle.connectivity.proofs.Common.{◌≡◌, ◌≢◌, ◌⊎◌, inl, inr, ℕ, ◌<◌, List, [], ◌∷◌, ◌++◌, length, min, max, get_or, refl, ap, sym, ◌∙◌, subst, arith, cases_eq, nat_tests, length-map, get_or-map, ext_get_or, length-range_with_len, get_or-range_with_len, range_with_len, IsPath, AreJoined}
-use Rattle.connectivity.specs.Classes.{renamed, joined_at, AreLeastMembers}
-use Rattle.connectivity.specs.Partitions.{JoinsOnlyBySteps}
+use Rattle.connectivity.proofs.Common.{renamed, joined_at, AreLeastMembers, JoinsOnlyBySteps, ◌≡◌, ◌≢◌, ◌⊎◌, inl, inr, ℕ, ◌<◌, List, [], ◌∷◌, ◌++◌, length, min, max, get_or, refl, ap, sym, ◌∙◌, subst, arith, cases_eq, nat_tests, length-map, get_or-map, ext_get_or, length-range_with_len, get_or-range_with_len, range_with_len, IsPath, AreJoined}
 use Rattle.connectivity.proofs.Forests.{renamed_old, renamed_other}
 
 path-append : {X : Type 0} (step : X → X → Type 0) (x : X) (path : List X) (y : X) (more : List X) (z : X) → IsPath step x path y

@@ -1,11 +1,5 @@
 -- Links of vertices, as the corners are gone through by their numbers.
-use Rattle.connectivity.proofs.Common.{◌≡◌, ◌⊎◌, inl, inr, ℕ, ◌+◌, ◌<◌, List, length, get_or, set, refl, ap, sym, ◌∙◌, subst, arith, cases_lt, cases_eq, length-set, get_or-set_same, get_or-set_other, Option, Some, None, IfSome, IfNone, MatchOption, length-all_sides, IsWholeSide, whole_side, IsSide, side_number, tail_of, side_name, FaceList, FaceSide, IsFaceList, all_sides, total_sides, AreJoined, IsCornerAt, HasOneRing, Side, VertexName}
-use Rattle.connectivity.specs.Classes.{AreLeastMembers}
-use Rattle.connectivity.specs.Joined.{EachVertexHasOneRing, IsLeastPinch}
-use Rattle.connectivity.specs.Links.{with_ring, IsLeastCorner, HasTwoLeast, IsTrueLink, link_at, AreLinksUpTo, AreLinks, IsFirstPinched}
-use Rattle.connectivity.specs.Partitions.{IsCornerStep, AreRings}
-use Rattle.connectivity.specs.declared.corners.Link.{Link}
-use Rattle.connectivity.specs.declared.corners.Link.TheVariants.{NoRing, OneRing, Pinched}
+use Rattle.connectivity.proofs.Common.{AreLeastMembers, EachVertexHasOneRing, IsLeastPinch, with_ring, IsLeastCorner, HasTwoLeast, IsTrueLink, link_at, AreLinksUpTo, AreLinks, IsFirstPinched, IsCornerStep, AreRings, Link, NoRing, OneRing, Pinched, ◌≡◌, ◌⊎◌, inl, inr, ℕ, ◌+◌, ◌<◌, List, length, get_or, set, refl, ap, sym, ◌∙◌, subst, arith, cases_lt, cases_eq, length-set, get_or-set_same, get_or-set_other, Option, Some, None, IfSome, IfNone, MatchOption, length-all_sides, IsWholeSide, whole_side, IsSide, side_number, tail_of, side_name, FaceList, FaceSide, IsFaceList, all_sides, total_sides, AreJoined, IsCornerAt, HasOneRing, Side, VertexName}
 use Rattle.connectivity.proofs.CornerLemmas.{number_below, number_once, corner_vertex, corner_used, one_ring_from_same, same_from_one_ring}
 use Rattle.connectivity.proofs.EdgeLemmas.{used_below}
 use Rattle.connectivity.proofs.Joining.{joined_keep}

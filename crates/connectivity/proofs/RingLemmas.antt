@@ -1,11 +1,7 @@
 -- Corners in rings, as the sides are gone through by their numbers.
-use Rattle.connectivity.proofs.Common.{◌≡◌, ◌⊎◌, inl, inr, ℕ, zero, suc, ◌+◌, ◌<◌, ◌≤◌, true, List, length, map, get_or, refl, ap, sym, ◌∙◌, subst, arith, cases_eq, nat_tests, length-map, get_or-map, get_or_default, length-range_with_len, range_with_len, Contains, IsSideOfEdge, side_of_edge, edge_has_side, ends_agree, partners_of_edge, table_edge, next_within, IsSide, side_number, side_after, tail_of, head_of, Edge, IsTableOf, IsEdgeOf, edge_in, FaceList, IsFaceList, next_corner, total_sides, ArePartners, IsCornerOfSide, Side}
+use Rattle.connectivity.proofs.Common.{joined_at, KeepsJoined, NoEdgeHasThreeSides, AreCornersAcross, AreMadeJoined, IsJoinedAcross, JoinsOnlyByCornerSteps, IsCornerStep, AreRings, ◌≡◌, ◌⊎◌, inl, inr, ℕ, zero, suc, ◌+◌, ◌<◌, ◌≤◌, true, List, length, map, get_or, refl, ap, sym, ◌∙◌, subst, arith, cases_eq, nat_tests, length-map, get_or-map, get_or_default, length-range_with_len, range_with_len, Contains, IsSideOfEdge, side_of_edge, edge_has_side, ends_agree, partners_of_edge, table_edge, next_within, IsSide, side_number, side_after, tail_of, head_of, Edge, IsTableOf, IsEdgeOf, edge_in, FaceList, IsFaceList, next_corner, total_sides, ArePartners, IsCornerOfSide, Side}
 use Rattle.surf_model.specs.EdgeDarts.{IsNextInEdge}
-use Rattle.connectivity.specs.Classes.{joined_at, KeepsJoined}
-use Rattle.connectivity.specs.Links.{AreCornersAcross, AreMadeJoined, IsJoinedAcross}
-use Rattle.connectivity.specs.Partitions.{JoinsOnlyByCornerSteps, IsCornerStep, AreRings}
 use Rattle.connectivity.proofs.Joining.{length-joined_at, joined_at_ends, joined_at_keeps, joins_only-joined_at, joins_only-alone}
-use Rattle.connectivity.specs.Joined.{NoEdgeHasThreeSides}
 use Rattle.connectivity.proofs.EdgeLemmas.{few_in_table}
 use Rattle.connectivity.proofs.CornerLemmas.{number_below, number_once, corner_in_mesh, each_across, partners_swap, step_across}
 

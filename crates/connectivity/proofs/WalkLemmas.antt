@@ -1,9 +1,7 @@
 -- Walks along edges, and vertices that are joined by them.
-use Rattle.connectivity.proofs.Common.{◌≡◌, ℕ, zero, suc, ◌+◌, ◌<◌, true, List, [], ◌∷◌, length, get_or, refl, ap, sym, ◌∙◌, subst, arith, add-one, All, FaceList, IsFaceList, is_edge, is_used, IsPath, AreJoined, IsWalkBetween, AreJoinedByWalk}
+use Rattle.connectivity.proofs.Common.{IsLeastUsed, AreLeastApart, IsEdgeStep, AreComponents, IsLeastElsewhere, ◌≡◌, ℕ, zero, suc, ◌+◌, ◌<◌, true, List, [], ◌∷◌, length, get_or, refl, ap, sym, ◌∙◌, subst, arith, add-one, All, FaceList, IsFaceList, is_edge, is_used, IsPath, AreJoined, IsWalkBetween, AreJoinedByWalk}
 use Rattle.surf_model.specs.Components.{EachTwoAreJoined}
 use Rattle.surf_model.specs.Walks.{IsWalk, darts}
-use Rattle.connectivity.specs.Partitions.{IsEdgeStep, AreComponents, IsLeastElsewhere}
-use Rattle.connectivity.specs.Joined.{IsLeastUsed, AreLeastApart}
 use Rattle.connectivity.proofs.EdgeLemmas.{edge_swap, edge_used, used_below}
 use Rattle.connectivity.proofs.Joining.{joined_refl, joined_step, joined_trans, joined_sym, joined_keep}
 

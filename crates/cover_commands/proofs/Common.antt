@@ -1,4 +1,4 @@
--- What proofs of this crate cite of others, passed on from one place (by tools/imports). Declares nothing.
+-- What proofs of this crate cite of its definitions and of other crates, passed on from one place (by tools/imports). Declares nothing.
 pub use Rattle.commands.proofs.Answering.{stop_answers, thing_answers, wrote_all, wrote_part}
 pub use Rattle.commands.proofs.Checking.{first_fault_stops, next_end, stops_first, stops_next}
 pub use Rattle.commands.proofs.MeshTexts.{has_file_size, mesh_valid}
@@ -12,6 +12,7 @@ pub use Rattle.commands.specs.Outcomes.{AnswersTo, IsAnswerOf}
 pub use Rattle.commands.specs.Stops.{Stops, bytes_of}
 pub use Rattle.commands.specs.declared.status.Status.TheVariants.{No, Refused, Yes}
 pub use Rattle.connectivity.proofs.EdgeCounts.{few_of_two}
+pub use Rattle.cover_commands.specs.MeshCover.{AreLiftsTold, WithWays, cover_in, cover_line, covered, do_meet, lifted_walks, lifts_answer, lifts_behind, lifts_in, lifts_on, lifts_status, lifts_text, mesh_cover, seen, seen_lifts, walk_line, walk_lines, ways_in, ways_of, with_ways}
 pub use Rattle.off_writer.specs.WrittenMeshes.{off_text}
 pub use Rattle.orientation_cover.specs.Turns.{cover_by, lift_by}
 pub use Rattle.orientation_cover.specs.Ways.{AreWays}

@@ -1,5 +1,5 @@
 -- What is answered of files that spell a closed manifold, and two walks of it.
-use Rattle.cover_commands.proofs.Common.{mesh_valid, has_file_size, mesh_passes, spelled_pair, pair_told, held, meant_told, yes_with, Pass, Passes, Holds, IsTold, SpellsMesh, SpellsPair, AnswersTo, IsAnswerOf, Yes, No, off_text, cover_by, lift_by, AreWays, ◌≡◌, inl, inr, ℕ, ◌<◌, Bool, true, false, List, [], ◌∷◌, length, get_or, refl, ap, sym, ◌∙◌, arith, cases_Bool, eqb-true, eq-eqb, both_ways, Option, Ok, if◌then◌else◌, Files, FaceList, IsFaceList, HasFileSize, IsClosedManifold, darts, IsWalk, HaveCommonEnds, AreWalkPair, WalkPair, walks_of}
+use Rattle.cover_commands.proofs.Common.{mesh_valid, has_file_size, mesh_passes, spelled_pair, pair_told, held, meant_told, yes_with, Pass, Passes, Holds, IsTold, SpellsMesh, SpellsPair, AnswersTo, IsAnswerOf, Yes, No, WithWays, ways_in, mesh_cover, lifts_on, lifts_answer, lifts_status, lifts_text, lifted_walks, do_meet, walk_lines, AreLiftsTold, off_text, cover_by, lift_by, AreWays, ◌≡◌, inl, inr, ℕ, ◌<◌, Bool, true, false, List, [], ◌∷◌, length, get_or, refl, ap, sym, ◌∙◌, arith, cases_Bool, eqb-true, eq-eqb, both_ways, Option, Ok, if◌then◌else◌, Files, FaceList, IsFaceList, HasFileSize, IsClosedManifold, darts, IsWalk, HaveCommonEnds, AreWalkPair, WalkPair, walks_of}
 use Rattle.closed_covers.proofs.ClosedCovers.{cover_surface}
 use Rattle.commands.specs.Certificates.{decision_line}
 use Rattle.commands.specs.Refusals.{off_line}
@@ -15,7 +15,6 @@ use Rattle.surf_model.specs.Moves.{Homotopic}
 use Rattle.surf_model.specs.OrientableSurfaces.{IsOrientableSurface}
 use Rattle.surf_model.specs.declared.decisions.Answer.TheVariants.{Different}
 use Rattle.cover_commands.proofs.WalkTexts.{lifts_read}
-use Rattle.cover_commands.specs.MeshCover.{WithWays, ways_in, mesh_cover, lifts_on, lifts_answer, lifts_status, lifts_text, lifted_walks, do_meet, walk_lines, AreLiftsTold}
 
 -- the mesh of a file, with ways round its vertices
 ways_passed : (files : Option Files) (name : List ℕ) (mesh : FaceList) (bits : List Bool) → Holds files name (SpellsMesh mesh)

@@ -1,16 +1,15 @@
 -- How the checks of the cover and of lifts end, and what answers them.
-use Rattle.cover_commands.proofs.Common.{stop_answers, thing_answers, stops_first, stops_next, mesh_valid, sound-mesh, sound-pair, IsSound, sound-then, sound-pass, sound-unless_fault, yes_with, Check, End, Refuse, Pass, Passes, pass, ◌>>=◌, mesh_in, pair_in, AnswersTo, Stops, bytes_of, Yes, Refused, few_of_two, off_text, cover_by, AreWays, ◌≡◌, inl, inr, ℕ, Bool, List, refl, ap, sym, subst, Option, Result, Ok, Err, MatchResult, Files, FaceList, IsFaceList, HasFileSize, IsClosedManifold, closed, WalkPair}
+use Rattle.cover_commands.proofs.Common.{stop_answers, thing_answers, stops_first, stops_next, mesh_valid, sound-mesh, sound-pair, IsSound, sound-then, sound-pass, sound-unless_fault, yes_with, Check, End, Refuse, Pass, Passes, pass, ◌>>=◌, mesh_in, pair_in, AnswersTo, Stops, bytes_of, Yes, Refused, few_of_two, WithWays, ways_of, with_ways, ways_in, seen, cover_line, covered, cover_in, mesh_cover, lifts_on, lifts_behind, lifts_in, seen_lifts, lifts_status, lifts_text, lifts_answer, lifted_walks, off_text, cover_by, AreWays, ◌≡◌, inl, inr, ℕ, Bool, List, refl, ap, sym, subst, Option, Result, Ok, Err, MatchResult, Files, FaceList, IsFaceList, HasFileSize, IsClosedManifold, closed, WalkPair}
 use Rattle.commands.specs.declared.stop.Stop.{Stop}
 use Rattle.commands.specs.declared.text.Text.{Text}
+use Rattle.cover_commands.specs.declared.lifting.Lifts.{Lifts}
+use Rattle.cover_commands.specs.declared.reading.MeshWithWays.{MeshWithWays}
 use Rattle.doubling.proofs.LimitLemmas.{fits_or_too_large, not_too_large, one_limit}
 use Rattle.doubling.specs.DoubleFaults.{IsTooLarge}
 use Rattle.orientation_cover.proofs.ClassLemmas.{one_ways}
 use Rattle.orientation_cover.proofs.ExistingWays.{ways_exist}
 use Rattle.surface_commands.proofs.Surfaces.{sound-closed}
 use Rattle.commands.specs.declared.stop.Stop.TheVariants as stops
-use Rattle.cover_commands.specs.MeshCover.{WithWays, ways_of, with_ways, ways_in, seen, cover_line, covered, cover_in, mesh_cover, lifts_on, lifts_behind, lifts_in, seen_lifts, lifts_status, lifts_text, lifts_answer, lifted_walks}
-use Rattle.cover_commands.specs.declared.lifting.Lifts.{Lifts}
-use Rattle.cover_commands.specs.declared.reading.MeshWithWays.{MeshWithWays}
 
 -- ---- each check has one end
 

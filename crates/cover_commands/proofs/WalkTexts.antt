@@ -1,5 +1,5 @@
 -- The line of a walk, put vertex after vertex, and the lines of two walks, read back.
-use Rattle.cover_commands.proofs.Common.{◌≡◌, ℕ, suc, ◌+◌, ◌-◌, ◌<◌, ◌≤◌, ◌^◌, Bool, true, false, List, [], ◌∷◌, ◌++◌, length, map, get_or, drop, refl, ap, sym, ◌∙◌, subst, arith, append_assoc, and_parts, lt-leb, le-ltb, Some, Result, Ok, All, slice_get, flat_map, decimal, codes, nat_le, nat_lt, ◌==◌, if◌then◌else◌, line_of-numbers, spaced, FaceList, IsFaceList, IsWalk, walks_behind, has_header, in_version, walk_text_of_lines, walks_in, walks_of}
+use Rattle.cover_commands.proofs.Common.{walk_line, ◌≡◌, ℕ, suc, ◌+◌, ◌-◌, ◌<◌, ◌≤◌, ◌^◌, Bool, true, false, List, [], ◌∷◌, ◌++◌, length, map, get_or, drop, refl, ap, sym, ◌∙◌, subst, arith, append_assoc, and_parts, lt-leb, le-ltb, Some, Result, Ok, All, slice_get, flat_map, decimal, codes, nat_le, nat_lt, ◌==◌, if◌then◌else◌, line_of-numbers, spaced, FaceList, IsFaceList, IsWalk, walks_behind, has_header, in_version, walk_text_of_lines, walks_in, walks_of}
 use Rattle.std.proofs.lemmas.List.{append-nil, length-map}
 use Rattle.std.proofs.lemmas.List.Elements.{All-nil, All-cons, All-head}
 use Rattle.std.proofs.lemmas.Option.{slice_get-get_or}
@@ -13,7 +13,6 @@ use Rattle.text_scan.specs.Unread.{are_words}
 use Rattle.walk_files.specs.NumberTexts.{walk_of, line_of_numbers, plain_walks_of}
 use Rattle.walk_files.specs.declared.fault.WalkFault.{WalkFault}
 use Rattle.walk_files.specs.declared.limits.TheConstants.{MOST_LINES, MOST_WALK_VERTICES}
-use Rattle.cover_commands.specs.MeshCover.{walk_line}
 
 pub line_put : (walk : List ℕ) (start : ℕ) → 0 < length walk → start ≡ get_or walk 0 0
     → decimal start ++ (flat_map spaced (drop 1 walk) ++ 10 ∷ []) ≡ walk_line walk

@@ -1,10 +1,11 @@
--- What proofs of this crate cite of others, passed on from one place (by tools/imports). Declares nothing.
+-- What proofs of this crate cite of its definitions and of other crates, passed on from one place (by tools/imports). Declares nothing.
 pub use Rattle.common_ends.proofs.PeakLemmas.{greatest_darts-more, greatest_darts-none}
 pub use Rattle.double_covers.proofs.LowerMoves.{lower_move, moves_under}
 pub use Rattle.doubling.proofs.DoubleFaces.{IsRimQuad, double_size, kept_face, length-mirror_face, mirrored_face, no_side, number_kinds, quad_face, rim_kind, rims}
 pub use Rattle.doubling.proofs.FoldedMoves.{mirror_round, walk_folds}
 pub use Rattle.doubling.specs.Doubles.{double_of, mirror_face, rim_quad, rim_quads}
 pub use Rattle.doubling.specs.Folds.{fold, folded, steps_behind, without_repeats}
+pub use Rattle.folded_lists.specs.FoldedLists.{IsMoveBelow, along_edge}
 pub use Rattle.std.proofs.Common.{Bool, List, ap, append_assoc, arith, false, get_or, inl, inr, length, map, max, not, refl, subst, suc, sym, take, true, zero, ℕ, [], ◌++◌, ◌+◌, ◌-◌, ◌<◌, ◌∙◌, ◌∷◌, ◌≡◌, ◌≢◌, ◌≤◌, ◌⊎◌}
 pub use Rattle.std.proofs.lemmas.Bool.{cases_eq, eq-eqb, ne_eqb}
 pub use Rattle.std.proofs.lemmas.List.{get_or-map, length-append, length-map, map-append, take_all, take_more}

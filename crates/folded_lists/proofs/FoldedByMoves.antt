@@ -1,7 +1,6 @@
 -- A list of moves of the double, folded move by move.
-use Rattle.folded_lists.proofs.Common.{greatest_darts-more, greatest_darts-none, number_kinds, walk_folds, double_of, fold, folded, ◌≡◌, ◌⊎◌, inl, inr, ℕ, ◌+◌, ◌<◌, ◌≤◌, Bool, List, [], ◌∷◌, ◌++◌, length, get_or, refl, ap, sym, ◌∙◌, subst, arith, append_assoc, cases_eq, length-append, Some, first_answer, stays_walk, by_replacing, FaceList, IsFaceList, face_at, PeakedMoves, apply, apply_all, greatest_darts, LeadsAtPeak, IsReplacement, Replaces, IsWalk, Move, Insert, Remove, Across, VertexName, end_from}
+use Rattle.folded_lists.proofs.Common.{greatest_darts-more, greatest_darts-none, number_kinds, walk_folds, double_of, fold, folded, IsMoveBelow, along_edge, ◌≡◌, ◌⊎◌, inl, inr, ℕ, ◌+◌, ◌<◌, ◌≤◌, Bool, List, [], ◌∷◌, ◌++◌, length, get_or, refl, ap, sym, ◌∙◌, subst, arith, append_assoc, cases_eq, length-append, Some, first_answer, stays_walk, by_replacing, FaceList, IsFaceList, face_at, PeakedMoves, apply, apply_all, greatest_darts, LeadsAtPeak, IsReplacement, Replaces, IsWalk, Move, Insert, Remove, Across, VertexName, end_from}
 use Rattle.surf_model.proofs.WayBackLemmas.{AreAlike, alike, at_first}
-use Rattle.folded_lists.specs.FoldedLists.{IsMoveBelow, along_edge}
 use Rattle.folded_lists.proofs.FoldedParts.{end-last, front_ends, length-folded, move_folds, same_fold}
 use Rattle.folded_lists.proofs.MovesBelow.{across_kept, across_mirror, insert_flat, insert_high, quad_flat, quad_in, quad_out, remove_flat, remove_high}
 use Rattle.folded_lists.proofs.QuadLemmas.{opposite}

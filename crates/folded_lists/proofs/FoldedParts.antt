@@ -1,6 +1,5 @@
 -- The fold of a walk that is parted at an entry, and of one where a part is replaced by another.
-use Rattle.folded_lists.proofs.Common.{fold, steps_behind, folded, ◌≡◌, inl, inr, ℕ, ◌+◌, ◌<◌, ◌≤◌, true, false, List, [], ◌∷◌, ◌++◌, length, map, refl, ap, sym, ◌∙◌, arith, append_assoc, cases_eq, eq-eqb, ne_eqb, length-append, length-map, map-append, Some, ◌==◌, by_replacing, FaceList, apply, Move, end_from}
-use Rattle.folded_lists.specs.FoldedLists.{IsMoveBelow}
+use Rattle.folded_lists.proofs.Common.{fold, steps_behind, folded, IsMoveBelow, ◌≡◌, inl, inr, ℕ, ◌+◌, ◌<◌, ◌≤◌, true, false, List, [], ◌∷◌, ◌++◌, length, map, refl, ap, sym, ◌∙◌, arith, append_assoc, cases_eq, eq-eqb, ne_eqb, length-append, length-map, map-append, Some, ◌==◌, by_replacing, FaceList, apply, Move, end_from}
 
 -- ---- lists of vertices that follow one another
 

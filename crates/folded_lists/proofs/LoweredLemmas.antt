@@ -3,10 +3,10 @@ use Rattle.folded_lists.proofs.Common.{greatest_darts-more, greatest_darts-none,
 use Rattle.double_covers.proofs.LiftedWalks.{walk_under}
 use Rattle.double_covers.proofs.Sheets.{length-lifted}
 use Rattle.double_covers.specs.Covers.{cover_of, under}
+use Rattle.folded_lists.specs.LoweredLists.{LeadsBelow, LeadsBelowLifts}
 use Rattle.orientation_cover.specs.Turns.{turns_by, lift_by}
 use Rattle.orientation_cover.specs.Ways.{told_by}
 use Rattle.std.proofs.lemmas.Bool.Decides.{nat_tests}
-use Rattle.folded_lists.specs.LoweredLists.{LeadsBelow, LeadsBelowLifts}
 
 abbrev pub lower_list : FaceList → PeakedMoves → PeakedMoves
 lower_list mesh list = record { moves = map (lower_move mesh.count (length mesh.faces)) list.moves; peak = list.peak }

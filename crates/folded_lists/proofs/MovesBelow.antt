@@ -1,12 +1,11 @@
 -- What each move of the double becomes on the mesh.
-use Rattle.folded_lists.proofs.Common.{IsRimQuad, kept_face, mirrored_face, length-mirror_face, quad_face, no_side, rim_kind, rims, double_size, mirror_round, mirror_face, rim_quad, rim_quads, double_of, fold, without_repeats, folded, ◌≡◌, ◌≢◌, inl, inr, ℕ, zero, suc, ◌+◌, ◌-◌, ◌<◌, ◌≤◌, Bool, true, false, not, List, [], ◌∷◌, length, map, get_or, refl, ap, sym, ◌∙◌, subst, arith, eq-eqb, ne_eqb, get_or-map, length-map, ◌==◌, FaceList, IsFaceList, face_at, corners_from, next_corner, is_edge, Replaces, Insert, Remove, Across, VertexName}
+use Rattle.folded_lists.proofs.Common.{IsRimQuad, kept_face, mirrored_face, length-mirror_face, quad_face, no_side, rim_kind, rims, double_size, mirror_round, mirror_face, rim_quad, rim_quads, double_of, fold, without_repeats, folded, IsMoveBelow, along_edge, ◌≡◌, ◌≢◌, inl, inr, ℕ, zero, suc, ◌+◌, ◌-◌, ◌<◌, ◌≤◌, Bool, true, false, not, List, [], ◌∷◌, length, map, get_or, refl, ap, sym, ◌∙◌, subst, arith, eq-eqb, ne_eqb, get_or-map, length-map, ◌==◌, FaceList, IsFaceList, face_at, corners_from, next_corner, is_edge, Replaces, Insert, Remove, Across, VertexName}
 use Rattle.connectivity.proofs.EdgeLemmas.{edge_differs}
 use Rattle.doubling.proofs.FoldedSides.{FoldsToEdge, edge_folds}
 use Rattle.doubling.proofs.RepeatLemmas.{fold_kept, fold_mirror, linked_folds, linked_repeats}
 use Rattle.surf_model.proofs.EdgeLemmas.{edge_swap, step_within, head_used, tail_used, used_below}
 use Rattle.surf_model.proofs.LinkLemmas.{Linked, round_linked}
 use Rattle.surf_model.proofs.RoundLemmas.{first_corner}
-use Rattle.folded_lists.specs.FoldedLists.{IsMoveBelow, along_edge}
 use Rattle.folded_lists.proofs.QuadLemmas.{along_both, folded_quad, opposite, quad_way, there_and_back}
 
 -- ---- spurs

@@ -1,6 +1,5 @@
 -- What a move of the double becomes, in the words of a function that has the double beside the mesh.
-use Rattle.folded_lists.proofs.Common.{double_of, fold, folded, ◌≡◌, ◌≢◌, ℕ, ◌+◌, ◌-◌, ◌<◌, ◌≤◌, Bool, true, false, not, List, ◌∷◌, length, get_or, ap, sym, ◌∙◌, subst, arith, eq-eqb, ◌==◌, FaceList, IsFaceList, face_at, Replaces, Insert, Remove, Across, VertexName}
-use Rattle.folded_lists.specs.FoldedLists.{IsMoveBelow, along_edge}
+use Rattle.folded_lists.proofs.Common.{double_of, fold, folded, IsMoveBelow, along_edge, ◌≡◌, ◌≢◌, ℕ, ◌+◌, ◌-◌, ◌<◌, ◌≤◌, Bool, true, false, not, List, ◌∷◌, length, get_or, ap, sym, ◌∙◌, subst, arith, eq-eqb, ◌==◌, FaceList, IsFaceList, face_at, Replaces, Insert, Remove, Across, VertexName}
 use Rattle.folded_lists.proofs.MovesBelow.{across_kept, across_mirror, insert_high, quad_flat, quad_in, quad_out, quad_size, remove_high}
 use Rattle.folded_lists.proofs.QuadLemmas.{opposite}
 

@@ -1,6 +1,5 @@
 -- Ways round a quad of the double, folded: every second side leads along the edge.
-use Rattle.folded_lists.proofs.Common.{without_repeats, ◌≡◌, ◌≢◌, ℕ, zero, suc, ◌+◌, ◌-◌, ◌<◌, ◌≤◌, Bool, true, false, not, List, [], ◌∷◌, get_or, refl, sym, arith, eq-eqb, ne_eqb, ◌%◌, ◌==◌, corners_from}
-use Rattle.folded_lists.specs.FoldedLists.{along_edge}
+use Rattle.folded_lists.proofs.Common.{without_repeats, along_edge, ◌≡◌, ◌≢◌, ℕ, zero, suc, ◌+◌, ◌-◌, ◌<◌, ◌≤◌, Bool, true, false, not, List, [], ◌∷◌, get_or, refl, sym, arith, eq-eqb, ne_eqb, ◌%◌, ◌==◌, corners_from}
 
 -- there, there and back, and so on, in so many steps
 abbrev pub there_and_back : ℕ → ℕ → ℕ → List ℕ

@@ -1,8 +1,6 @@
 -- A list between what is left of two walks stays within its bound where the common darts stand around it.
-use Rattle.free_forms.proofs.Common.{AreLeft, HaveFewerDarts, fewer_darts, AreCommonDarts, put_around, ◌≡◌, ℕ, ◌+◌, ◌*◌, ◌<◌, ◌≤◌, List, length, ap, ◌∙◌, arith, length-map, PeakedMoves, raised, darts}
+use Rattle.free_forms.proofs.Common.{AreLeft, HaveFewerDarts, fewer_darts, AreCommonDarts, put_around, IsWithin, MOST_OPEN_SIDES, MOST_OPEN_DARTS, MOST_OPEN_STEPS, ◌≡◌, ℕ, ◌+◌, ◌*◌, ◌<◌, ◌≤◌, List, length, ap, ◌∙◌, arith, length-map, PeakedMoves, raised, darts}
 use Rattle.common_ends.specs.declared.common_darts.CommonDarts.{CommonDarts}
-use Rattle.free_forms.specs.PeakedLists.{IsWithin}
-use Rattle.free_forms.specs.declared.limits.TheConstants.{MOST_OPEN_SIDES, MOST_OPEN_DARTS, MOST_OPEN_STEPS}
 
 -- each common dart is paid for by those of the whole walks
 pub around_within : {first second near far : List ℕ} {common : CommonDarts} {list : PeakedMoves} (whole : PeakedMoves) → 0 < length first

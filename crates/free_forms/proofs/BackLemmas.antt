@@ -1,6 +1,5 @@
 -- The way back along a list of moves: its peak, and the moves one by one.
-use Rattle.free_forms.proofs.Common.{greatest_darts-more, greatest_darts-none, greatest_darts-push, greatest_both, ◌≡◌, inl, inr, ℕ, zero, suc, ◌+◌, ◌<◌, ◌≤◌, max, List, [], ◌∷◌, ◌++◌, length, drop, refl, ap, sym, ◌∙◌, subst, arith, length-append, cases_eq, drop_more, get_or_from_slice_get, All, Some, slice_get, first_answer, one_after_another, stays_walk, by_replacing, keeps_walk, undone, list_undone, FaceList, PeakedMoves, apply, apply_all, greatest_darts, inverse_of, sides_of_move, way_back, IsWalk, darts, Move, Insert, Remove, Across}
-use Rattle.free_forms.specs.PeakedLists.{LeadsAtPeak, IsWithin, IsMoveOf}
+use Rattle.free_forms.proofs.Common.{greatest_darts-more, greatest_darts-none, greatest_darts-push, greatest_both, LeadsAtPeak, IsWithin, IsMoveOf, ◌≡◌, inl, inr, ℕ, zero, suc, ◌+◌, ◌<◌, ◌≤◌, max, List, [], ◌∷◌, ◌++◌, length, drop, refl, ap, sym, ◌∙◌, subst, arith, length-append, cases_eq, drop_more, get_or_from_slice_get, All, Some, slice_get, first_answer, one_after_another, stays_walk, by_replacing, keeps_walk, undone, list_undone, FaceList, PeakedMoves, apply, apply_all, greatest_darts, inverse_of, sides_of_move, way_back, IsWalk, darts, Move, Insert, Remove, Across}
 
 -- the way back passes the same walks
 greatest_darts-back : (mesh : FaceList) (moves : List Move) (walk next : List ℕ) → IsWalk mesh walk → apply_all mesh walk moves ≡ Some next

@@ -1,4 +1,4 @@
--- What proofs of this crate cite of others, passed on from one place (by tools/imports). Declares nothing.
+-- What proofs of this crate cite of its definitions and of other crates, passed on from one place (by tools/imports). Declares nothing.
 pub use Rattle.common_ends.proofs.PeakLemmas.{greatest_both, greatest_darts-more, greatest_darts-none, greatest_darts-push, leads_nowhere, one_more, places_within}
 pub use Rattle.common_ends.proofs.TrimLemmas.{AreLeft, HaveFewerDarts, fewer_darts, left_apart, left_leads, left_together}
 pub use Rattle.common_ends.specs.Trimmed.{AreCommonDarts, put_around}
@@ -8,6 +8,16 @@ pub use Rattle.connectivity.proofs.EdgeLemmas.{HasSideBetween, edge_differs, sid
 pub use Rattle.connectivity.proofs.FirstFaults.{equal, equal_pairs, first_refused, good_accepted, no_first_pair, no_first_used, one_pinch, same_name, up_to}
 pub use Rattle.connectivity.proofs.RingLemmas.{HasPartner, IsAlone, alone_in_edge, partner_back, partner_below, partner_or_alone, partners_by_number}
 pub use Rattle.connectivity.specs.Joined.{AreLeastApart, EachVertexHasOneRing, IsLeastUsed, NoEdgeHasThreeSides}
+pub use Rattle.free_forms.specs.Normal.{IsNormal, IsNormalWalkOf}
+pub use Rattle.free_forms.specs.OpenFaults.{IsBoundaryEdge, IsFirstCrowded, IsFirstFault, IsLeastCrowdedEdge}
+pub use Rattle.free_forms.specs.OpenSurfaces.{HasBoundary, IsOpenSurface}
+pub use Rattle.free_forms.specs.Parents.{EndsOutside, HasParents, IsParentEdge, Joins, OpenView, expansion, parent_of}
+pub use Rattle.free_forms.specs.PeakedLists.{IsMoveOf, IsWithin, LeadsAtPeak}
+pub use Rattle.free_forms.specs.Reductions.{Expands, HasRoom, IsStep, IsTaken, IsWayAlong, ReductionView, SkipsSpur, StepsBack, StepsOn, darts_in, settled, state_of, whole}
+pub use Rattle.free_forms.specs.Searches.{Grows, IsClosedUpTo, IsReached, IsSearch, IsStartedUpTo, NeighboursReached, SearchView, bit, found_by, parent_in, with_side}
+pub use Rattle.free_forms.specs.declared.fault.OpenFault.{OpenFault}
+pub use Rattle.free_forms.specs.declared.fault.OpenFault.TheVariants.{Apart, EdgeSides, NoBoundary, NoFace, OutOfMemory, Pinched}
+pub use Rattle.free_forms.specs.declared.limits.TheConstants.{MOST_OPEN_DARTS, MOST_OPEN_SIDES, MOST_OPEN_STEPS}
 pub use Rattle.std.proofs.Common.{Bool, List, ap, append_assoc, arith, drop, eqb, false, get_or, inl, inr, length, length-append, max, not, refl, set, subst, suc, sym, take, true, zero, ℕ, [], ◌*◌, ◌++◌, ◌+◌, ◌-◌, ◌<◌, ◌∙◌, ◌∷◌, ◌≡◌, ◌≢◌, ◌≤◌, ◌⊎◌}
 pub use Rattle.std.proofs.lemmas.Bool.{both_ways, cases_Bool, cases_eq, cases_lt, eq-eqb, eqb-true}
 pub use Rattle.std.proofs.lemmas.Bool.Decides.{nat_tests}

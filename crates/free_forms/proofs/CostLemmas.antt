@@ -1,7 +1,5 @@
 -- What a step costs: a move at most, and a dart at most; and less is to come by one at least.
-use Rattle.free_forms.proofs.Common.{◌≡◌, inl, inr, ℕ, suc, ◌+◌, ◌<◌, ◌≤◌, max, List, [], ◌∷◌, ◌++◌, length, ap, ◌∙◌, subst, arith, length-append, PeakedMoves, MOST_PEAK, Move, Remove, Across}
-use Rattle.free_forms.specs.Parents.{OpenView, HasParents, parent_of, expansion}
-use Rattle.free_forms.specs.Reductions.{ReductionView, darts_in, IsTaken, IsStep, HasRoom}
+use Rattle.free_forms.proofs.Common.{OpenView, HasParents, parent_of, expansion, ReductionView, darts_in, IsTaken, IsStep, HasRoom, ◌≡◌, inl, inr, ℕ, suc, ◌+◌, ◌<◌, ◌≤◌, max, List, [], ◌∷◌, ◌++◌, length, ap, ◌∙◌, subst, arith, length-append, PeakedMoves, MOST_PEAK, Move, Remove, Across}
 use Rattle.free_forms.proofs.Expansions.{expansion_size}
 use Rattle.free_forms.proofs.StepLemmas.{HasStepped, weight, weight_parent}
 use Rattle.free_forms.proofs.WeightLemmas.{weight_long}

@@ -1,8 +1,5 @@
 -- How many sides edges have, by the table of the mesh.
-use Rattle.free_forms.proofs.Common.{between_by_table, no_edge_no_side, before_by_table, ◌≡◌, ◌≢◌, inl, inr, ℕ, ◌<◌, ◌≤◌, List, length, sym, ◌∙◌, arith, cases_Bool, sides_of_edge, Edge, IsTableOf, IsEdgeOf, edge_in, FaceList, is_edge, VertexName}
-use Rattle.free_forms.specs.OpenSurfaces.{HasBoundary}
-use Rattle.free_forms.specs.OpenFaults.{IsFirstFault, IsFirstCrowded, IsLeastCrowdedEdge, IsBoundaryEdge}
-use Rattle.free_forms.specs.declared.fault.OpenFault.TheVariants.{EdgeSides}
+use Rattle.free_forms.proofs.Common.{between_by_table, no_edge_no_side, before_by_table, IsFirstFault, IsFirstCrowded, IsLeastCrowdedEdge, IsBoundaryEdge, HasBoundary, EdgeSides, ◌≡◌, ◌≢◌, inl, inr, ℕ, ◌<◌, ◌≤◌, List, length, sym, ◌∙◌, arith, cases_Bool, sides_of_edge, Edge, IsTableOf, IsEdgeOf, edge_in, FaceList, is_edge, VertexName}
 
 pub no_boundary_from_table : {mesh : FaceList} {table : List Edge} → IsTableOf mesh table
     → ((k : ℕ) → k < length table → length (edge_in table k).sides ≢ 1) → HasBoundary mesh → ⊥

@@ -1,7 +1,5 @@
 -- What the code reads of a face whose parent is expanded, and that this is its expansion.
-use Rattle.free_forms.proofs.Common.{◌≡◌, ℕ, ◌+◌, ◌-◌, ◌<◌, Bool, true, eqb, max, List, [], ◌∷◌, ◌++◌, length, refl, ap, sym, ◌∙◌, subst, arith, length-append, reverse-append, length-reverse, length-map, cond, reverse, tail_of, FaceList, face_at, next_corner, PeakedMoves, numbers, Side, Across, VertexName, beyond}
-use Rattle.free_forms.specs.Parents.{OpenView, HasParents, Joins, parent_of}
-use Rattle.free_forms.specs.Reductions.{Expands, IsWayAlong}
+use Rattle.free_forms.proofs.Common.{OpenView, HasParents, Joins, parent_of, Expands, IsWayAlong, ◌≡◌, ℕ, ◌+◌, ◌-◌, ◌<◌, Bool, true, eqb, max, List, [], ◌∷◌, ◌++◌, length, refl, ap, sym, ◌∙◌, subst, arith, length-append, reverse-append, length-reverse, length-map, cond, reverse, tail_of, FaceList, face_at, next_corner, PeakedMoves, numbers, Side, Across, VertexName, beyond}
 use Rattle.free_forms.proofs.Expansions.{length_beyond}
 use Rattle.free_forms.proofs.ParentEdgeLemmas.{way_found, expansion_read}
 

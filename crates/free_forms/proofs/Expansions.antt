@@ -1,6 +1,5 @@
 -- How darts act where a dart along a parent edge acts as its expansion does: what holds of every base, by which the other darts act.
-use Rattle.free_forms.proofs.Common.{partners_swap, ◌≡◌, ◌≢◌, ◌⊎◌, inl, inr, ℕ, zero, suc, ◌+◌, ◌-◌, ◌<◌, ◌≤◌, Bool, true, false, not, List, [], ◌∷◌, length, get_or, refl, ap, sym, ◌∙◌, subst, arith, cases_eq, cases_lt, eq-eqb, both_ways, nat_tests, Option, Some, None, ◌==◌, cond, if◌then◌else◌, step_within, ends_differ, corner_after, meet, joins_swap, IsSide, tail_of, head_of, FaceSide, face_at, next_corner, joins, ArePartners, Side, acts_exactly, run_stays, next_back, after_within, after_more, after_back, after_add, corners_apart, end_from, end_beyond, each_dart, each_any, run-more, walked-round, run, beyond, EachDart, ActsAlong, FacesActAsNothing}
-use Rattle.free_forms.specs.Parents.{OpenView, HasParents, EndsOutside, Joins, IsParentEdge, parent_of, expansion}
+use Rattle.free_forms.proofs.Common.{partners_swap, OpenView, HasParents, EndsOutside, Joins, IsParentEdge, parent_of, expansion, ◌≡◌, ◌≢◌, ◌⊎◌, inl, inr, ℕ, zero, suc, ◌+◌, ◌-◌, ◌<◌, ◌≤◌, Bool, true, false, not, List, [], ◌∷◌, length, get_or, refl, ap, sym, ◌∙◌, subst, arith, cases_eq, cases_lt, eq-eqb, both_ways, nat_tests, Option, Some, None, ◌==◌, cond, if◌then◌else◌, step_within, ends_differ, corner_after, meet, joins_swap, IsSide, tail_of, head_of, FaceSide, face_at, next_corner, joins, ArePartners, Side, acts_exactly, run_stays, next_back, after_within, after_more, after_back, after_add, corners_apart, end_from, end_beyond, each_dart, each_any, run-more, walked-round, run, beyond, EachDart, ActsAlong, FacesActAsNothing}
 
 -- each pair of vertices acts, also in lists that are no walks; states are told apart by equality
 abbrev pub AnyDart : ℕ → ℕ → Type 0

@@ -1,9 +1,5 @@
 -- First faults exclude each other, and an open surface.
-use Rattle.free_forms.proofs.Common.{equal, equal_pairs, one_pinch, same_name, NoEdgeHasThreeSides, IsLeastUsed, AreLeastApart, ◌≡◌, ℕ, refl, ap, sym, ◌∙◌, subst, arith, FaceList, sides_between}
-use Rattle.free_forms.specs.OpenSurfaces.{IsOpenSurface}
-use Rattle.free_forms.specs.OpenFaults.{IsFirstFault, IsLeastCrowdedEdge}
-use Rattle.free_forms.specs.declared.fault.OpenFault.{OpenFault}
-use Rattle.free_forms.specs.declared.fault.OpenFault.TheVariants.{NoFace, EdgeSides, NoBoundary, Pinched, Apart, OutOfMemory}
+use Rattle.free_forms.proofs.Common.{equal, equal_pairs, one_pinch, same_name, NoEdgeHasThreeSides, IsLeastUsed, AreLeastApart, IsFirstFault, IsLeastCrowdedEdge, IsOpenSurface, OpenFault, NoFace, EdgeSides, NoBoundary, Pinched, Apart, OutOfMemory, ◌≡◌, ℕ, refl, ap, sym, ◌∙◌, subst, arith, FaceList, sides_between}
 
 not_few : {mesh : FaceList} {low high sides : ℕ} → IsLeastCrowdedEdge mesh low high sides → NoEdgeHasThreeSides mesh → ⊥
 not_few {low} {high} h few = omega (arith, h.number, h.crowded, few low high)

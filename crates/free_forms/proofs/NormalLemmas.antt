@@ -1,9 +1,7 @@
 -- Homotopic walks have one normal walk.
-use Rattle.free_forms.proofs.Common.{◌≡◌, ℕ, suc, ◌+◌, ◌<◌, List, [], ◌∷◌, ◌++◌, length, get_or, refl, ap, sym, ◌∙◌, subst, arith, ◌↔◌, first_answer, stays_walk, one_after_another, list_keeps_ends, list_undone, FaceList, apply, apply_all, Leads, Homotopic, way_back, IsWalk, Move, acts_exactly, moves_act_along, crosses_any, any_darts, each_any_of, run, walked, EachDart}
+use Rattle.free_forms.proofs.Common.{IsNormalWalkOf, OpenView, HasParents, IsParentEdge, ◌≡◌, ℕ, suc, ◌+◌, ◌<◌, List, [], ◌∷◌, ◌++◌, length, get_or, refl, ap, sym, ◌∙◌, subst, arith, ◌↔◌, first_answer, stays_walk, one_after_another, list_keeps_ends, list_undone, FaceList, apply, apply_all, Leads, Homotopic, way_back, IsWalk, Move, acts_exactly, moves_act_along, crosses_any, any_darts, each_any_of, run, walked, EachDart}
 use Rattle.surf_model.proofs.StackLemmas.{put_on, all_put, put_keeps, same_equal, there_and_back, top_put}
 use Rattle.surf_model.specs.FreeWalks.{HasNoSpur}
-use Rattle.free_forms.specs.Parents.{OpenView, HasParents, IsParentEdge}
-use Rattle.free_forms.specs.Normal.{IsNormalWalkOf}
 use Rattle.free_forms.proofs.Expansions.{AnyDart, Equal, ActsAnywhere, act_fully, acts_by_base, acting_acts, faces_nothing}
 
 -- a stack without spurs, whose top is the vertex

@@ -1,7 +1,6 @@
 -- Below a dart each face is expanded once at most.
-use Rattle.free_forms.proofs.Common.{NoEdgeHasThreeSides, ◌≡◌, ◌≢◌, ◌⊎◌, inl, inr, ℕ, zero, suc, ◌+◌, ◌-◌, ◌<◌, ◌≤◌, true, List, [], ◌∷◌, length, get_or, refl, ap, sym, ◌∙◌, subst, arith, cases_eq, eq-eqb, nat_tests, get_or_default, Contains, Option, Some, None, filter, if◌then◌else◌, ◌==◌, Contains-filter, face_side_in, IsSide, tail_of, head_of, FaceList, FaceSide, face_at, all_sides, joins, ArePartners, Side, run}
+use Rattle.free_forms.proofs.Common.{NoEdgeHasThreeSides, OpenView, HasParents, EndsOutside, parent_of, expansion, ◌≡◌, ◌≢◌, ◌⊎◌, inl, inr, ℕ, zero, suc, ◌+◌, ◌-◌, ◌<◌, ◌≤◌, true, List, [], ◌∷◌, length, get_or, refl, ap, sym, ◌∙◌, subst, arith, cases_eq, eq-eqb, nat_tests, get_or_default, Contains, Option, Some, None, filter, if◌then◌else◌, ◌==◌, Contains-filter, face_side_in, IsSide, tail_of, head_of, FaceList, FaceSide, face_at, all_sides, joins, ArePartners, Side, run}
 use Rattle.surf_model.proofs.NumberLemmas.{face_side}
-use Rattle.free_forms.specs.Parents.{OpenView, HasParents, EndsOutside, parent_of, expansion}
 use Rattle.free_forms.proofs.Expansions.{EachAlong, IsAlong, IsFound, acting, by_face, parent_face_of, found_face, expansion_places, places_behind, places_differ, expansion_size, side_at, across}
 
 -- ---- a side has one partner

@@ -1,11 +1,7 @@
 -- No face list is without the one or the other: it is an open surface, or it has a first fault. Nothing is decided for this.
-use Rattle.free_forms.proofs.Common.{no_edge_no_side, edge_differs, used_below, no_first_pair, no_first_used, up_to, NoEdgeHasThreeSides, EachVertexHasOneRing, IsLeastUsed, ◌≡◌, ◌⊎◌, inl, inr, ℕ, zero, suc, ◌<◌, ◌≤◌, true, length, refl, arith, cases_Bool, cases_lt, cases_eq, both_ways, sides_between_swap, FaceList, IsFaceList, is_edge, is_used, HasOneRing, AreJoinedByWalk, sides_between}
+use Rattle.free_forms.proofs.Common.{no_edge_no_side, edge_differs, used_below, no_first_pair, no_first_used, up_to, NoEdgeHasThreeSides, EachVertexHasOneRing, IsLeastUsed, IsFirstFault, IsOpenSurface, HasBoundary, OpenFault, NoFace, EdgeSides, NoBoundary, Pinched, Apart, ◌≡◌, ◌⊎◌, inl, inr, ℕ, zero, suc, ◌<◌, ◌≤◌, true, length, refl, arith, cases_Bool, cases_lt, cases_eq, both_ways, sides_between_swap, FaceList, IsFaceList, is_edge, is_used, HasOneRing, AreJoinedByWalk, sides_between}
 use Rattle.connectivity.proofs.WalkLemmas.{walk_between_ends}
 use Rattle.surf_model.specs.Components.{EachTwoAreJoined}
-use Rattle.free_forms.specs.OpenSurfaces.{IsOpenSurface, HasBoundary}
-use Rattle.free_forms.specs.OpenFaults.{IsFirstFault}
-use Rattle.free_forms.specs.declared.fault.OpenFault.{OpenFault}
-use Rattle.free_forms.specs.declared.fault.OpenFault.TheVariants.{NoFace, EdgeSides, NoBoundary, Pinched, Apart}
 
 -- nothing is a first fault of the mesh
 abbrev HasNoFault : FaceList → Type 0

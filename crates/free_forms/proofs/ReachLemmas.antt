@@ -1,8 +1,5 @@
 -- A search from the boundary of a connected surface reaches each face.
-use Rattle.free_forms.proofs.Common.{after_in_mesh, corner_used, sides_by_table, no_edge_no_side, HasSideBetween, side_between, ◌≡◌, inl, inr, ℕ, zero, suc, ◌+◌, ◌<◌, ◌≤◌, true, List, [], ◌∷◌, length, get_or, refl, ap, sym, ◌∙◌, subst, arith, cases_Bool, IsEdgeBetween, edge_between, IsSide, side_after, Edge, IsTableOf, edge_in, FaceList, IsFaceList, face_at, is_edge, IsPath, AreJoined, ArePartners, IsCornerAt, IsCornerOfSide, IsStepAround, darts, Side}
-use Rattle.free_forms.specs.OpenSurfaces.{IsOpenSurface}
-use Rattle.free_forms.specs.Parents.{HasParents}
-use Rattle.free_forms.specs.Searches.{SearchView, IsReached, IsSearch, IsClosedUpTo, IsStartedUpTo}
+use Rattle.free_forms.proofs.Common.{after_in_mesh, corner_used, sides_by_table, no_edge_no_side, HasSideBetween, side_between, IsOpenSurface, HasParents, SearchView, IsReached, IsSearch, IsClosedUpTo, IsStartedUpTo, ◌≡◌, inl, inr, ℕ, zero, suc, ◌+◌, ◌<◌, ◌≤◌, true, List, [], ◌∷◌, length, get_or, refl, ap, sym, ◌∙◌, subst, arith, cases_Bool, IsEdgeBetween, edge_between, IsSide, side_after, Edge, IsTableOf, edge_in, FaceList, IsFaceList, face_at, is_edge, IsPath, AreJoined, ArePartners, IsCornerAt, IsCornerOfSide, IsStepAround, darts, Side}
 use Rattle.free_forms.proofs.SearchLemmas.{reached_below, all_end_outside}
 
 -- a set of faces that steps across edges do not lead out of

@@ -1,8 +1,6 @@
 -- What a search of the faces has reached, as it goes on.
-use Rattle.free_forms.proofs.Common.{number_once, HasPartner, IsAlone, partner_or_alone, partners_by_number, alone_in_edge, partner_back, NoEdgeHasThreeSides, ◌≡◌, ◌≢◌, ◌⊎◌, inl, inr, ℕ, zero, suc, ◌+◌, ◌<◌, ◌≤◌, Bool, true, false, List, [], ◌∷◌, ◌++◌, length, get_or, set, refl, ap, sym, ◌∙◌, subst, arith, length-append, cases_Bool, cases_eq, cases_lt, length-set, get_or-set_same, get_or-set_other, get_or_append_left, get_or_past, get_or-append-add, sum_by-set, sum_by-cons, get_or_from_slice_get, sum_by, cond, Some, slice_get, IsSideOfEdge, side_of_edge, table_edge, IsSide, side_number, Edge, IsTableOf, edge_in, FaceList, face_at, ArePartners, Side}
+use Rattle.free_forms.proofs.Common.{number_once, HasPartner, IsAlone, partner_or_alone, partners_by_number, alone_in_edge, partner_back, NoEdgeHasThreeSides, EndsOutside, SearchView, IsReached, IsSearch, Grows, NeighboursReached, IsClosedUpTo, IsStartedUpTo, with_side, parent_in, bit, ◌≡◌, ◌≢◌, ◌⊎◌, inl, inr, ℕ, zero, suc, ◌+◌, ◌<◌, ◌≤◌, Bool, true, false, List, [], ◌∷◌, ◌++◌, length, get_or, set, refl, ap, sym, ◌∙◌, subst, arith, length-append, cases_Bool, cases_eq, cases_lt, length-set, get_or-set_same, get_or-set_other, get_or_append_left, get_or_past, get_or-append-add, sum_by-set, sum_by-cons, get_or_from_slice_get, sum_by, cond, Some, slice_get, IsSideOfEdge, side_of_edge, table_edge, IsSide, side_number, Edge, IsTableOf, edge_in, FaceList, face_at, ArePartners, Side}
 use Rattle.surf_model.specs.EdgeDarts.{IsNextInEdge}
-use Rattle.free_forms.specs.Parents.{EndsOutside}
-use Rattle.free_forms.specs.Searches.{SearchView, IsReached, IsSearch, Grows, NeighboursReached, IsClosedUpTo, IsStartedUpTo, with_side, parent_in, bit}
 
 -- only faces of the mesh are reached
 pub reached_below : {mesh : FaceList} {search : SearchView} (f : ℕ) → IsSearch mesh search → IsReached search f → f < length mesh.faces

@@ -1,9 +1,5 @@
 -- What a step of a reduction does: the moves lead on, the normal part stays normal, and less is to come.
-use Rattle.free_forms.proofs.Common.{one_more, ◌≡◌, ◌≢◌, inl, inr, ℕ, zero, suc, ◌+◌, ◌-◌, ◌<◌, ◌≤◌, Bool, true, false, not, max, List, [], ◌∷◌, ◌++◌, length, get_or, refl, ap, sym, ◌∙◌, subst, arith, append_assoc, length-append, cases_lt, get_or_append_left, get_or-append-add, Option, Some, None, step_within, ends_differ, by_replacing, tail_of, head_of, FaceList, face_at, next_corner, corners_from, PeakedMoves, apply, darts, Side, Move, Remove, Across, after_back, corners_beyond, run-append, run, beyond}
-use Rattle.free_forms.specs.Normal.{IsNormal}
-use Rattle.free_forms.specs.Parents.{OpenView, HasParents, Joins, IsParentEdge, parent_of, expansion}
-use Rattle.free_forms.specs.PeakedLists.{LeadsAtPeak}
-use Rattle.free_forms.specs.Reductions.{ReductionView, settled, whole, IsTaken, StepsBack, StepsOn, SkipsSpur, Expands, IsWayAlong, IsStep}
+use Rattle.free_forms.proofs.Common.{one_more, IsNormal, OpenView, HasParents, Joins, IsParentEdge, parent_of, expansion, LeadsAtPeak, ReductionView, settled, whole, IsTaken, StepsBack, StepsOn, SkipsSpur, Expands, IsWayAlong, IsStep, ◌≡◌, ◌≢◌, inl, inr, ℕ, zero, suc, ◌+◌, ◌-◌, ◌<◌, ◌≤◌, Bool, true, false, not, max, List, [], ◌∷◌, ◌++◌, length, get_or, refl, ap, sym, ◌∙◌, subst, arith, append_assoc, length-append, cases_lt, get_or_append_left, get_or-append-add, Option, Some, None, step_within, ends_differ, by_replacing, tail_of, head_of, FaceList, face_at, next_corner, corners_from, PeakedMoves, apply, darts, Side, Move, Remove, Across, after_back, corners_beyond, run-append, run, beyond}
 use Rattle.free_forms.proofs.Expansions.{act_fully, acting, by_face, parent_face_of, acts_by_base, acts_by_expansion, IsFound, expansion_ends, from_tail, from_head, parent_in_mesh}
 
 -- how much is to come: each dart counts as many as its expansion comes to, and one more if it has one

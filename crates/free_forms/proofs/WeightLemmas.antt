@@ -1,8 +1,7 @@
 -- A dart weighs one, and as much as the faces that are expanded below it have sides but one each. So it weighs no more than the mesh has
 -- sides.
-use Rattle.free_forms.proofs.Common.{◌≡◌, inl, inr, ℕ, zero, suc, ◌+◌, ◌-◌, ◌*◌, ◌<◌, ◌≤◌, List, [], ◌∷◌, length, take, refl, ap, sym, ◌∙◌, arith, cases_eq, eq-eqb, nat_tests, take_more, take_all, sum_by-cons, sum_by_push, All, Option, Some, None, sum_by, FaceList, face_at, total_sides, run}
+use Rattle.free_forms.proofs.Common.{OpenView, HasParents, parent_of, expansion, ◌≡◌, inl, inr, ℕ, zero, suc, ◌+◌, ◌-◌, ◌*◌, ◌<◌, ◌≤◌, List, [], ◌∷◌, length, take, refl, ap, sym, ◌∙◌, arith, cases_eq, eq-eqb, nat_tests, take_more, take_all, sum_by-cons, sum_by_push, All, Option, Some, None, sum_by, FaceList, face_at, total_sides, run}
 use Rattle.std.proofs.lemmas.List.Elements.{All-nil, All-cons}
-use Rattle.free_forms.specs.Parents.{OpenView, HasParents, parent_of, expansion}
 use Rattle.free_forms.proofs.Expansions.{acting, by_face, parent_face_of, found_face, expansion_size}
 use Rattle.free_forms.proofs.OnceLemmas.{list_on, list_in, listed, times, listed_once}
 use Rattle.free_forms.proofs.StepLemmas.{weight, count_on, count_in, count_from}

@@ -1,8 +1,7 @@
 -- How the check of two closed walks ends.
-use Rattle.loop_commands.proofs.Common.{IsSound, held, sound-walks, walks_passed, walks_told, Passes, Holds, IsTold, ℕ, List, [], ◌∷◌, refl, Option, Files, FaceList, IsClosedPair, loops_fault}
+use Rattle.loop_commands.proofs.Common.{IsSound, held, sound-walks, walks_passed, walks_told, Passes, Holds, IsTold, SpellsLoops, loops_line, loops_in, ℕ, List, [], ◌∷◌, refl, Option, Files, FaceList, IsClosedPair, loops_fault}
 use Rattle.walk_files.proofs.ClosedPairLemmas.{none_of_loops}
 use Rattle.commands.specs.declared.refusal.Input.TheVariants as inputs
-use Rattle.loop_commands.specs.Loops.{SpellsLoops, loops_line, loops_in}
 
 -- the check has an end, and one where its file is told
 pub sound-loops_in : (held : Option Files) (name : List ℕ) (mesh : FaceList) → IsSound held (loops_in held name mesh)

@@ -1,8 +1,7 @@
 -- `loops` in the words of the mesh.
-use Rattle.loop_commands.proofs.Common.{AnswersTo, Status, ◌≡◌, ℕ, List, [], ◌∷◌, codes, Option, Files, FaceList, outcome_behind}
+use Rattle.loop_commands.proofs.Common.{AnswersTo, Status, loops, loops_in, IsLoopsAnswered, IsLoopsInput, SpellsLoops, ◌≡◌, ℕ, List, [], ◌∷◌, codes, Option, Files, FaceList, outcome_behind}
 use Rattle.loop_commands.proofs.LoopAnswers.{IsRightAnswer, right_answer, after_pair}
 use Rattle.loop_commands.proofs.LoopChecks.{sound-loops_in, loops_in_told, spelled_loops}
-use Rattle.loop_commands.specs.Loops.{loops, loops_in, IsLoopsAnswered, IsLoopsInput, SpellsLoops}
 
 -- what `loops` is for, where the words are answered by its check
 pub loops_so : (files : Option Files) (words : List (List ℕ)) (status : Status) (text : List ℕ)

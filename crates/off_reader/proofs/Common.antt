@@ -1,4 +1,9 @@
--- What proofs of this crate cite of others, passed on from one place (by tools/imports). Declares nothing.
+-- What proofs of this crate cite of its definitions and of other crates, passed on from one place (by tools/imports). Declares nothing.
+pub use Rattle.off_reader.specs.OffSteps.{IsSameLine, ReadsCorners, SaysHeader, TakesFaces, line_at}
+pub use Rattle.off_reader.specs.OffTexts.{Keyword, bare_counts, corners_among, counted, counts_behind, face_fault, is_single_piece, line_before, meaning_of, point_fault, ring_fault, rings_of, two_naturals}
+unfoldable pub use Rattle.off_reader.specs.OffTexts.{are_pieces, corners_of, counts_at, has_equal_neighbours, header_of, keyword_of, mesh_of, taken}
+pub use Rattle.off_reader.specs.declared.off_fault.OffFault.{OffFault}
+pub use Rattle.off_reader.specs.declared.off_fault.OffFault.TheVariants.{BadCounts, BadFace, BadVertex, Ended, EqualNeighbours, IndexRange, NoCounts, OutOfMemory, TooMany}
 pub use Rattle.std.proofs.Common.{Bool, Bor, List, ap, ap₂, arith, cond, drop, eqb, false, get_or, inl, inr, leb, length, length-take, length-take-le, ltb, map, min, not, refl, subst, suc, sym, take, true, zero, zero-add, ℕ, [], ◌&&◌, ◌++◌, ◌+◌, ◌-◌, ◌<◌, ◌^◌, ◌∙◌, ◌∷◌, ◌≡◌, ◌≢◌, ◌≤◌, ◌⊎◌}
 pub use Rattle.std.proofs.Math.Nat.{min-eq_left, min-eq_right, min-le_left}
 pub use Rattle.std.proofs.lemmas.Bool.{and_cases, and_left, and_parts, and_right, both_ways, cases_lt, eq-eqb, le-leb, le-ltb, leb-false, leb-true, lt-leb, lt-ltb, ltb-false, ltb-true, ne_eqb}

@@ -1,8 +1,5 @@
 -- The header of a mesh text.
-use Rattle.off_reader.proofs.Common.{◌≡◌, ℕ, ◌-◌, ◌^◌, ◌<◌, ◌≤◌, ◌⊎◌, min, Bool, true, false, cond, leb, ◌&&◌, List, [], ◌∷◌, refl, sym, ap, ◌∙◌, inl, inr, arith, min-le_left, min-eq_left, min-eq_right, cases_lt, and_left, and_right, le-leb, lt-leb, cond_some, none-some, same_Some, Option, Some, None, option_map, Ok, Err, MOST_VERTICES, Line, is_natural, value_of, natural_of, Unread, lines_left, next_natural}
-use Rattle.off_reader.specs.OffTexts.{Keyword, two_naturals, counted, counts_at, bare_counts, counts_behind, keyword_of, header_of, line_before}
-use Rattle.off_reader.specs.OffSteps.{line_at}
-use Rattle.off_reader.specs.declared.off_fault.OffFault.TheVariants.{NoCounts, BadCounts, TooMany}
+use Rattle.off_reader.proofs.Common.{line_at, Keyword, two_naturals, counted, counts_at, bare_counts, counts_behind, keyword_of, header_of, line_before, NoCounts, BadCounts, TooMany, ◌≡◌, ℕ, ◌-◌, ◌^◌, ◌<◌, ◌≤◌, ◌⊎◌, min, Bool, true, false, cond, leb, ◌&&◌, List, [], ◌∷◌, refl, sym, ap, ◌∙◌, inl, inr, arith, min-le_left, min-eq_left, min-eq_right, cases_lt, and_left, and_right, le-leb, lt-leb, cond_some, none-some, same_Some, Option, Some, None, option_map, Ok, Err, MOST_VERTICES, Line, is_natural, value_of, natural_of, Unread, lines_left, next_natural}
 use Rattle.off_reader.specs.declared.header.TheConstants.{MOST_FACES}
 
 pub no_cap : (o : Option ℕ) → None ≡ option_map (λ n. min n (2 ^ 64 - 1)) o → o ≡ None

@@ -1,10 +1,9 @@
 -- Keywords.
-use Rattle.off_reader.proofs.Common.{◌≡◌, ℕ, ◌+◌, ◌<◌, Bool, true, false, cond, eqb, ltb, ◌&&◌, List, [], ◌∷◌, length, take, drop, Bor, length-take-le, refl, sym, ap, ◌∙◌, arith, and_left, and_right, ltb-true, take_all, cond_some, before_first, position_or_len, Option, Some, None, MatchOption, IfSome, IfNone, position, bytes_eq, codes}
+use Rattle.off_reader.proofs.Common.{Keyword, is_single_piece, are_pieces, keyword_of, ◌≡◌, ℕ, ◌+◌, ◌<◌, Bool, true, false, cond, eqb, ltb, ◌&&◌, List, [], ◌∷◌, length, take, drop, Bor, length-take-le, refl, sym, ap, ◌∙◌, arith, and_left, and_right, ltb-true, take_all, cond_some, before_first, position_or_len, Option, Some, None, MatchOption, IfSome, IfNone, position, bytes_eq, codes}
 use Rattle.std.proofs.Math.Bool.{or-false}
 use Rattle.std.proofs.Math.Seq.{drop-length}
 use Rattle.std.specs.Cmp.Lexicographic.{pointwise}
 use Rattle.text_scan.proofs.ListLemmas.{nowhere}
-use Rattle.off_reader.specs.OffTexts.{Keyword, is_single_piece, are_pieces, keyword_of}
 
 -- ---- pieces
 

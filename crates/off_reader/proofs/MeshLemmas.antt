@@ -1,10 +1,6 @@
 -- The lines of vertices and faces, one after the other.
-use Rattle.off_reader.proofs.Common.{◌≡◌, ℕ, suc, ◌+◌, ◌-◌, ◌<◌, ◌≤◌, ◌⊎◌, List, [], ◌∷◌, ◌++◌, length, refl, sym, ap, ap₂, ◌∙◌, inl, inr, arith, cons_option, Option, Some, None, Result, Ok, Err, FaceList, total_sides, MOST_SIDES, Line, full_lines, end_line, Unread}
+use Rattle.off_reader.proofs.Common.{line_at, IsSameLine, TakesFaces, taken, point_fault, face_fault, ring_fault, corners_of, rings_of, mesh_of, header_of, meaning_of, OffFault, Ended, OutOfMemory, ◌≡◌, ℕ, suc, ◌+◌, ◌-◌, ◌<◌, ◌≤◌, ◌⊎◌, List, [], ◌∷◌, ◌++◌, length, refl, sym, ap, ap₂, ◌∙◌, inl, inr, arith, cons_option, Option, Some, None, Result, Ok, Err, FaceList, total_sides, MOST_SIDES, Line, full_lines, end_line, Unread}
 use Rattle.std.proofs.lemmas.List.Sums.{sum_by-append}
-use Rattle.off_reader.specs.OffTexts.{taken, point_fault, face_fault, ring_fault, corners_of, rings_of, mesh_of, header_of, meaning_of}
-use Rattle.off_reader.specs.OffSteps.{line_at, IsSameLine, TakesFaces}
-use Rattle.off_reader.specs.declared.off_fault.OffFault.{OffFault}
-use Rattle.off_reader.specs.declared.off_fault.OffFault.TheVariants.{Ended, OutOfMemory}
 
 abbrev Check : Type 0
 Check = List Line → Line → Option OffFault

@@ -1,13 +1,9 @@
 -- Words that pass a test, one after the other, and the corners in the line of a face.
-use Rattle.off_reader.proofs.Common.{◌≡◌, ◌≢◌, ℕ, zero, suc, ◌+◌, ◌-◌, ◌^◌, ◌<◌, ◌≤◌, ◌⊎◌, min, Bool, true, false, cond, not, eqb, ltb, leb, ◌&&◌, List, [], ◌∷◌, ◌++◌, length, take, drop, map, get_or, length-take-le, length-take, zero-add, refl, sym, ap, ap₂, subst, ◌∙◌, inl, inr, arith, min-eq_left, min-eq_right, min-le_left, both_ways, eq-eqb, ne_eqb, cases_lt, and_parts, and_left, and_right, and_cases, le-leb, lt-leb, lt-ltb, le-ltb, leb-true, leb-false, ltb-true, ltb-false, map-append, length-map, take_all, cond_some, none-some, option_and_then_some, list_all, list_any, range_with_len, Option, Some, None, option_map, option_and_then, Ok, Err, All, IsFace, next_corner, numbers, MOST_VERTICES, MOST_SIDES, is_natural, value_of, natural_of, is_number_text, Unread, past_word, next_natural, next_is_number_text}
+use Rattle.off_reader.proofs.Common.{line_at, IsSameLine, ReadsCorners, corners_among, corners_of, has_equal_neighbours, ring_fault, point_fault, OffFault, BadVertex, BadFace, IndexRange, EqualNeighbours, TooMany, OutOfMemory, ◌≡◌, ◌≢◌, ℕ, zero, suc, ◌+◌, ◌-◌, ◌^◌, ◌<◌, ◌≤◌, ◌⊎◌, min, Bool, true, false, cond, not, eqb, ltb, leb, ◌&&◌, List, [], ◌∷◌, ◌++◌, length, take, drop, map, get_or, length-take-le, length-take, zero-add, refl, sym, ap, ap₂, subst, ◌∙◌, inl, inr, arith, min-eq_left, min-eq_right, min-le_left, both_ways, eq-eqb, ne_eqb, cases_lt, and_parts, and_left, and_right, and_cases, le-leb, lt-leb, lt-ltb, le-ltb, leb-true, leb-false, ltb-true, ltb-false, map-append, length-map, take_all, cond_some, none-some, option_and_then_some, list_all, list_any, range_with_len, Option, Some, None, option_map, option_and_then, Ok, Err, All, IsFace, next_corner, numbers, MOST_VERTICES, MOST_SIDES, is_natural, value_of, natural_of, is_number_text, Unread, past_word, next_natural, next_is_number_text}
 use Rattle.std.proofs.lemmas.List.Elements.{All-nil, All-cons}
 use Rattle.std.proofs.lemmas.List.Folds.{list_all-append, list_any_at, list_any_more}
 use Rattle.std.proofs.lemmas.List.FromFn.{length-range_with_len, get_or-range_with_len}
 use Rattle.surf_model.specs.declared.names.VertexName.{VertexName}
-use Rattle.off_reader.specs.OffTexts.{corners_among, corners_of, has_equal_neighbours, ring_fault, point_fault}
-use Rattle.off_reader.specs.OffSteps.{line_at, IsSameLine, ReadsCorners}
-use Rattle.off_reader.specs.declared.off_fault.OffFault.{OffFault}
-use Rattle.off_reader.specs.declared.off_fault.OffFault.TheVariants.{BadVertex, BadFace, IndexRange, EqualNeighbours, TooMany, OutOfMemory}
 use Rattle.off_reader.proofs.HeaderLemmas.{a_cap, no_cap, kept, no_natural}
 
 -- ---- words that pass a test

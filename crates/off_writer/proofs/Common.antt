@@ -1,4 +1,6 @@
--- What proofs of this crate cite of others, passed on from one place (by tools/imports). Declares nothing.
+-- What proofs of this crate cite of its definitions and of other crates, passed on from one place (by tools/imports). Declares nothing.
+pub use Rattle.off_writer.specs.Parts.{head_text}
+pub use Rattle.off_writer.specs.WrittenMeshes.{off_text, point_words, ring_words}
 pub use Rattle.std.proofs.Common.{Bool, List, ap, append_assoc, arith, false, get_or, inl, inr, length, map, refl, subst, suc, sym, take, true, ℕ, [], ◌*◌, ◌++◌, ◌+◌, ◌<◌, ◌^◌, ◌∙◌, ◌∷◌, ◌≡◌, ◌≤◌}
 pub use Rattle.std.proofs.lemmas.Bool.{and_from, cases_Bool, eqb-true, le-leb, le-ltb, lt-ltb}
 pub use Rattle.std.proofs.lemmas.List.{append-nil, get_or-replicate, length-map, length-replicate, take_all}

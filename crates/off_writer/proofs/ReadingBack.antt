@@ -1,12 +1,11 @@
 -- The text of a mesh is read as the mesh, whatever number texts stand for its vertices.
-use Rattle.off_writer.proofs.Common.{◌≡◌, inl, inr, ℕ, suc, ◌+◌, ◌*◌, ◌<◌, ◌≤◌, Bool, true, false, List, [], ◌∷◌, ◌++◌, length, map, take, get_or, arith, sym, ap, ◌∙◌, subst, refl, append_assoc, cases_Bool, and_from, eqb-true, lt-ltb, le-ltb, le-leb, append-nil, length-map, take_all, length-replicate, All-nil, All-cons, All-head, All-tail, All-append, All-map, All-replicate, All-weaker, filter_map-append, Any-from_list_any, list_all, list_any, cons_option, range_with_len, Option, Some, None, option_and_then, Ok, codes, All, decimal, flat_map, sum_by, replicate, nat_le, nat_lt, ◌==◌, FaceList, IsFace, IsFaceList, HasFileSize, next_corner, IsWritable, IsLine, numbered, lines_from-written, number-writable, decimals-writable, Line, unmarked, lines_from, full_lines, end_line, is_natural, value_of, is_number_text, line_of}
+use Rattle.off_writer.proofs.Common.{point_words, ring_words, off_text, ◌≡◌, inl, inr, ℕ, suc, ◌+◌, ◌*◌, ◌<◌, ◌≤◌, Bool, true, false, List, [], ◌∷◌, ◌++◌, length, map, take, get_or, arith, sym, ap, ◌∙◌, subst, refl, append_assoc, cases_Bool, and_from, eqb-true, lt-ltb, le-ltb, le-leb, append-nil, length-map, take_all, length-replicate, All-nil, All-cons, All-head, All-tail, All-append, All-map, All-replicate, All-weaker, filter_map-append, Any-from_list_any, list_all, list_any, cons_option, range_with_len, Option, Some, None, option_and_then, Ok, codes, All, decimal, flat_map, sum_by, replicate, nat_le, nat_lt, ◌==◌, FaceList, IsFace, IsFaceList, HasFileSize, next_corner, IsWritable, IsLine, numbered, lines_from-written, number-writable, decimals-writable, Line, unmarked, lines_from, full_lines, end_line, is_natural, value_of, is_number_text, line_of}
 use Rattle.off_reader.specs.OffTexts.{header_of, keyword_of, are_pieces, counts_at, taken, point_fault, face_fault, corners_of, corners_among, rings_of, has_equal_neighbours, ring_fault, mesh_of, meaning_of}
 use Rattle.off_reader.specs.declared.header.TheConstants.{MOST_FACES}
 use Rattle.off_reader.specs.declared.off_fault.OffFault.{OffFault}
 use Rattle.std.proofs.lemmas.List.FromFn.{length-range_with_len, get_or-range_with_len}
 use Rattle.std.proofs.lemmas.List.Sums.{sum_by_push, sum_by-cons}
 use Rattle.surf_model.specs.declared.limits.TheConstants.{MOST_VERTICES, MOST_SIDES}
-use Rattle.off_writer.specs.WrittenMeshes.{point_words, ring_words, off_text}
 use Rattle.off_writer.proofs.NumberTexts.{Fits, natural-decimal, value-decimal, natural_of-decimal, naturals-decimal, values-decimal}
 
 -- ---- the lines are lines

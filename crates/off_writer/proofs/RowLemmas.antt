@@ -1,9 +1,7 @@
 -- The lines of faces, and the corners in them, put one after another.
-use Rattle.off_writer.proofs.Common.{◌≡◌, ℕ, ◌<◌, List, [], ◌∷◌, ◌++◌, length, map, ap, sym, ◌∙◌, append_assoc, arith, length-map, length-replicate, get_or-replicate, flat_map-map, slice_get-get_or, Some, flat_map, slice_get, replicate, codes, decimal, line_of-numbers, spaced, FaceList, numbers, line_of}
+use Rattle.off_writer.proofs.Common.{head_text, point_words, ring_words, off_text, ◌≡◌, ℕ, ◌<◌, List, [], ◌∷◌, ◌++◌, length, map, ap, sym, ◌∙◌, append_assoc, arith, length-map, length-replicate, get_or-replicate, flat_map-map, slice_get-get_or, Some, flat_map, slice_get, replicate, codes, decimal, line_of-numbers, spaced, FaceList, numbers, line_of}
 use Rattle.std.proofs.lemmas.List.Concat.{flat_map-append}
 use Rattle.surf_model.specs.declared.names.VertexName.{VertexName}
-use Rattle.off_writer.specs.Parts.{head_text}
-use Rattle.off_writer.specs.WrittenMeshes.{point_words, ring_words, off_text}
 
 -- a corner behind a blank
 abbrev pub corner_put : VertexName → List ℕ

@@ -1,4 +1,4 @@
--- What proofs of this crate cite of others, passed on from one place (by tools/imports). Declares nothing.
+-- What proofs of this crate cite of its definitions and of other crates, passed on from one place (by tools/imports). Declares nothing.
 pub use Rattle.commands.proofs.Checking.{first_fault_stops, stops_first, stops_next, stops_second, told_stops}
 pub use Rattle.commands.proofs.Deciding.{IsRightAnswer, behind, differs, pair_long, refused_behind, right_answer, sound-decided, walks_of_pair, yes_or_no}
 pub use Rattle.commands.proofs.LimitLemmas.{fitting, none_over, refused_beyond}
@@ -18,6 +18,11 @@ pub use Rattle.commands.specs.declared.status.Status.{Status}
 pub use Rattle.commands.specs.declared.status.Status.TheVariants.{No, Refused, Yes}
 pub use Rattle.free_forms.specs.PeakedLists.{IsWithin, LeadsAtPeak}
 pub use Rattle.free_forms.specs.declared.limits.TheConstants.{MOST_OPEN_DARTS, MOST_OPEN_SIDES, MOST_OPEN_STEPS}
+pub use Rattle.open_commands.specs.CertifyOpen.{IsCertifiedOpen, IsListPrinted, IsShortReply, certify_open, list_answer, listed}
+pub use Rattle.open_commands.specs.DecideOpen.{IsDecidedOpen, decide_open}
+pub use Rattle.open_commands.specs.OpenInput.{as_open_surface, open_line, open_surface, open_surface_in}
+pub use Rattle.open_commands.specs.OpenPairs.{IsOpenInput, IsOpenPair, IsRefusedLarge, IsWithinLimits, Question, asked, limit_fault, limit_word, open_limits, open_pair_in, question}
+pub use Rattle.open_commands.specs.declared.open_pair.OpenPair.{OpenPair}
 pub use Rattle.std.proofs.Common.{Bool, List, ap, arith, codes, false, get_or, inl, inr, length, length-append, refl, subst, suc, sym, true, zero, ℕ, [], ◌*◌, ◌++◌, ◌+◌, ◌<◌, ◌^◌, ◌∙◌, ◌∷◌, ◌≡◌, ◌≤◌, ◌⊎◌}
 pub use Rattle.std.proofs.lemmas.Option.{get_or_from_slice_get}
 pub use Rattle.std.specs.Prelude.{All, Err, IfNone, IfOk, IfSome, IsTrue, MatchOption, MatchResult, None, Ok, Option, Result, Some, decimal, flat_map, if◌then◌else◌, map, slice_get, sum_by, ◌↔◌}

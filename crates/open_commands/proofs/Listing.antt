@@ -1,5 +1,5 @@
 -- The answers of the two commands: one, and the right one.
-use Rattle.open_commands.proofs.Common.{differs, yes_or_no, no_yes, IsSound, sound-decided_by, Answer, Convinces, decision_line, End, Refuse, Pass, Passes, decision_answer, walk_at, Outcome, IsAnswerOf, Moves, Status, Yes, No, IsWithin, LeadsAtPeak, MOST_OPEN_STEPS, ◌≡◌, ◌⊎◌, inl, inr, ℕ, List, refl, sym, ap, ◌∙◌, subst, ◌↔◌, IsTrue, IfNone, IfSome, MatchOption, Option, Some, None, if◌then◌else◌, Files, FaceList, PeakedMoves}
+use Rattle.open_commands.proofs.Common.{differs, yes_or_no, no_yes, IsSound, sound-decided_by, Answer, Convinces, decision_line, End, Refuse, Pass, Passes, decision_answer, walk_at, Outcome, IsAnswerOf, Moves, Status, Yes, No, IsWithin, LeadsAtPeak, MOST_OPEN_STEPS, IsListPrinted, IsShortReply, list_answer, listed, certify_open, decide_open, asked, open_pair_in, OpenPair, ◌≡◌, ◌⊎◌, inl, inr, ℕ, List, refl, sym, ap, ◌∙◌, subst, ◌↔◌, IsTrue, IfNone, IfSome, MatchOption, Option, Some, None, if◌then◌else◌, Files, FaceList, PeakedMoves}
 use Rattle.commands.specs.Replies.{IsReplyTo, reply_status}
 use Rattle.commands.specs.declared.reply.Reply.{Reply}
 use Rattle.std.proofs.lemmas.Bool.{both_ways}
@@ -8,10 +8,6 @@ use Rattle.surf_model.specs.Moves.{Homotopic}
 use Rattle.surf_model.specs.declared.decisions.Answer as deciding
 use Rattle.surf_model.specs.declared.decisions.Answer.TheVariants as answers
 use Rattle.commands.specs.declared.reply.Reply.TheVariants as replies
-use Rattle.open_commands.specs.CertifyOpen.{IsListPrinted, IsShortReply, list_answer, listed, certify_open}
-use Rattle.open_commands.specs.DecideOpen.{decide_open}
-use Rattle.open_commands.specs.OpenPairs.{asked, open_pair_in}
-use Rattle.open_commands.specs.declared.open_pair.OpenPair.{OpenPair}
 
 pub sound-listed : (held : Option Files) (mesh : FaceList) (first second : List ℕ) → IsSound held (listed mesh first second)
 sound-listed held mesh first second = sound-decided_by held yes_or_no (list_answer mesh first second) (Homotopic mesh first second)

@@ -1,5 +1,5 @@
 -- How the checks of an open surface and of walks of it end.
-use Rattle.open_commands.proofs.Common.{stops_next, stops_second, told_stops, walks_of_pair, sound-mesh, sound-pair, mesh_passes, pair_told, IsSound, sound-then, sound-pass_unless, meant_told, unless_told, sound-unless_fault, Exactly, Check, Refuse, Pass, Passes, Holds, IsTold, pass_unless, ◌>>=◌, mesh_in, pair_in, walk_at, SpellsMesh, orientable, Stops, Tells, MOST_OPEN_SIDES, MOST_OPEN_DARTS, ◌≡◌, inr, ℕ, ◌+◌, ◌≤◌, List, refl, sym, ap, subst, arith, get_or_from_slice_get, Option, Some, None, Result, Ok, Err, IfOk, MatchResult, slice_get, Files, FaceList, IsFaceList, total_sides, darts, AreWalkPair}
+use Rattle.open_commands.proofs.Common.{stops_next, stops_second, told_stops, walks_of_pair, sound-mesh, sound-pair, mesh_passes, pair_told, IsSound, sound-then, sound-pass_unless, meant_told, unless_told, sound-unless_fault, Exactly, Check, Refuse, Pass, Passes, Holds, IsTold, pass_unless, ◌>>=◌, mesh_in, pair_in, walk_at, SpellsMesh, orientable, Stops, Tells, MOST_OPEN_SIDES, MOST_OPEN_DARTS, open_line, open_surface, as_open_surface, open_surface_in, IsOpenPair, Question, question, limit_fault, open_pair_in, OpenPair, ◌≡◌, inr, ℕ, ◌+◌, ◌≤◌, List, refl, sym, ap, subst, arith, get_or_from_slice_get, Option, Some, None, Result, Ok, Err, IfOk, MatchResult, slice_get, Files, FaceList, IsFaceList, total_sides, darts, AreWalkPair}
 use Rattle.commands.proofs.MeshTexts.{mesh_valid, sound-orientable}
 use Rattle.commands.specs.Refusals.{told, off_line}
 use Rattle.commands.specs.declared.stop.Stop.{Stop}
@@ -10,9 +10,6 @@ use Rattle.free_forms.specs.OpenSurfaces.{IsOpenSurface}
 use Rattle.off_reader.specs.OffTexts.{meaning_of}
 use Rattle.surf_model.specs.Edges.{Edge}
 use Rattle.surf_model.specs.Surfaces.{IsOrientable}
-use Rattle.open_commands.specs.declared.open_pair.OpenPair.{OpenPair}
-use Rattle.open_commands.specs.OpenInput.{open_line, open_surface, as_open_surface, open_surface_in}
-use Rattle.open_commands.specs.OpenPairs.{IsOpenPair, Question, question, limit_fault, open_pair_in}
 
 -- ---- the surface
 

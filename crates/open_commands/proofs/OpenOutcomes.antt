@@ -1,8 +1,5 @@
 -- `decide-open` and `certify-open` in the words of the mesh.
-use Rattle.open_commands.proofs.Common.{IsRightAnswer, right_answer, behind, refused_behind, sound-decided, none_over, refused_beyond, refused_so, IsOutcomeOf, spelled_pair, IsSound, held, sound-then, Answer, Exactly, Check, Passes, IsTold, ◌>>=◌, decided, pair_in, SpellsMesh, SpellsPair, Outcome, AnswersTo, IsAnswerOf, Status, Refused, ◌≡◌, inr, ℕ, List, [], ◌∷◌, codes, refl, Option, Some, Files, FaceList}
-use Rattle.open_commands.specs.CertifyOpen.{IsCertifiedOpen, listed, certify_open}
-use Rattle.open_commands.specs.DecideOpen.{IsDecidedOpen, decide_open}
-use Rattle.open_commands.specs.OpenPairs.{IsOpenInput, IsRefusedLarge, IsWithinLimits, Question, limit_fault, limit_word, open_limits, open_pair_in}
+use Rattle.open_commands.proofs.Common.{IsRightAnswer, right_answer, behind, refused_behind, sound-decided, none_over, refused_beyond, refused_so, IsOutcomeOf, spelled_pair, IsSound, held, sound-then, Answer, Exactly, Check, Passes, IsTold, ◌>>=◌, decided, pair_in, SpellsMesh, SpellsPair, Outcome, AnswersTo, IsAnswerOf, Status, Refused, IsCertifiedOpen, listed, certify_open, IsDecidedOpen, decide_open, IsOpenInput, IsRefusedLarge, IsWithinLimits, Question, limit_fault, limit_word, open_limits, open_pair_in, ◌≡◌, inr, ℕ, List, [], ◌∷◌, codes, refl, Option, Some, Files, FaceList}
 use Rattle.open_commands.proofs.Listing.{IsRightList, right_list, sound-listed}
 use Rattle.open_commands.proofs.OpenInputs.{spelled_open, pair_files_told, pair_passes, sound-open_pair_in}
 

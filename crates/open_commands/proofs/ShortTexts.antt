@@ -4,6 +4,7 @@ use Rattle.commands.specs.declared.certificate.TheConstants.{MOST_SPHERE_MOVES}
 use Rattle.commands.specs.declared.inputs.TheConstants.{MOST_BYTES}
 use Rattle.common_ends.proofs.PeakLemmas.{greatest_darts-more}
 use Rattle.connectivity.proofs.EdgeLemmas.{used_below}
+use Rattle.open_commands.specs.declared.certify_open.TheConstants.{MOST_OPEN_BYTES}
 use Rattle.std.proofs.lemmas.Fmt.{length-decimal-le}
 use Rattle.std.proofs.lemmas.List.{get_or_append_left, get_or-append-add}
 use Rattle.std.proofs.lemmas.List.Elements.{All-nil, All-cons, All-head, All-tail}
@@ -20,7 +21,6 @@ use Rattle.surf_model.specs.declared.moves.Move.TheVariants.{Insert, Remove, Acr
 use Rattle.text_scan.specs.Plain.{line_of}
 use Rattle.walk_files.specs.MoveTexts.{direction_word, move_words, head_words, list_text}
 use Rattle.walk_files.specs.declared.limits.TheConstants.{MOST_PEAK}
-use Rattle.open_commands.specs.declared.certify_open.TheConstants.{MOST_OPEN_BYTES}
 
 -- ---- the moves of such a list have small numbers
 

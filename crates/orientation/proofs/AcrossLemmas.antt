@@ -1,9 +1,7 @@
 -- The other side of an edge, read from the table.
-use Rattle.orientation.proofs.Common.{partners_swap, number_once, map, ◌≡◌, ◌≢◌, ◌⊎◌, inl, inr, ℕ, ◌<◌, ◌≤◌, true, List, length, get_or, ap, sym, ◌∙◌, subst, arith, cases_lt, nat_tests, length-map, get_or-map, Contains, Some, None, filter, side_below, face_side_in, next_within, IsSide, side_number, tail_of, head_of, Edge, IsTableOf, IsEdgeOf, edge_in, side_name, FaceList, all_sides, joins, next_corner, total_sides, ArePartners, Side}
+use Rattle.orientation.proofs.Common.{partners_swap, number_once, EachEdgeHasAtMostTwoSides, IsAcross, IsAlong, map, ◌≡◌, ◌≢◌, ◌⊎◌, inl, inr, ℕ, ◌<◌, ◌≤◌, true, List, length, get_or, ap, sym, ◌∙◌, subst, arith, cases_lt, nat_tests, length-map, get_or-map, Contains, Some, None, filter, side_below, face_side_in, next_within, IsSide, side_number, tail_of, head_of, Edge, IsTableOf, IsEdgeOf, edge_in, side_name, FaceList, all_sides, joins, next_corner, total_sides, ArePartners, Side}
 use Rattle.surf_model.proofs.PartnerLemmas.{IsSideOfEdge, side_of_edge, edge_has_side, table_edge, partners_of_edge, ends_agree}
 use Rattle.surf_model.specs.EdgeDarts.{IsNextInEdge, darts_of}
-use Rattle.orientation.specs.Classes.{EachEdgeHasAtMostTwoSides}
-use Rattle.orientation.specs.Trees.{IsAcross, IsAlong}
 use Rattle.orientation.proofs.Partners.{entry_of, two_of, joined_edge, one_partner}
 
 -- the side stands at a place of edge k of the table

@@ -1,7 +1,6 @@
 -- Chains under signs: how many links are turned, and that an odd chain excludes coherent signs.
-use Rattle.orientation.proofs.Common.{◌≡◌, inl, inr, ℕ, ◌+◌, ◌%◌, ◌<◌, Bool, true, false, cond, eqb, List, [], ◌∷◌, length, map, get_or, refl, ap, sym, ◌∙◌, subst, arith, and-true, sum_by-cons, filter, count_by, tail_of, side_name, FaceList, FaceSide, IsFaceList, all_sides, joins, LeadsTo, LeadOnTo, IsOddChain, first_face, run_alike, is_turned, ArePartners, IsCoherent, is_flipped, ChainLink}
+use Rattle.orientation.proofs.Common.{differ, runs_alike, ◌≡◌, inl, inr, ℕ, ◌+◌, ◌%◌, ◌<◌, Bool, true, false, cond, eqb, List, [], ◌∷◌, length, map, get_or, refl, ap, sym, ◌∙◌, subst, arith, and-true, sum_by-cons, filter, count_by, tail_of, side_name, FaceList, FaceSide, IsFaceList, all_sides, joins, LeadsTo, LeadOnTo, IsOddChain, first_face, run_alike, is_turned, ArePartners, IsCoherent, is_flipped, ChainLink}
 use Rattle.surf_model.proofs.ListedLemmas.{Joins, joining, partners_listed}
-use Rattle.orientation.specs.Trees.{differ, runs_alike}
 use Rattle.orientation.proofs.Fitting.{fit_if_opposite, eqb_swap}
 
 -- 1 for a sign that is flipped

@@ -1,7 +1,5 @@
 -- Classes of faces, and that coherent signs that keep the least face of each are unique.
-use Rattle.orientation.proofs.Common.{partners_swap, joined_step, joined_trans, ◌≡◌, ◌≢◌, ◌⊎◌, inl, inr, ℕ, zero, suc, ◌+◌, ◌<◌, Bool, true, false, List, [], ◌∷◌, length, refl, sym, ◌∙◌, subst, arith, cases_lt, ext_get_or, FaceList, IsFaceList, IsPath, AreJoined, IsCoherent, is_flipped}
-use Rattle.orientation.specs.Classes.{IsFaceStep, IsLeastOfClass, IsLeastKept}
-use Rattle.orientation.specs.Trees.{differ, Fit}
+use Rattle.orientation.proofs.Common.{partners_swap, joined_step, joined_trans, IsFaceStep, IsLeastOfClass, IsLeastKept, differ, Fit, ◌≡◌, ◌≢◌, ◌⊎◌, inl, inr, ℕ, zero, suc, ◌+◌, ◌<◌, Bool, true, false, List, [], ◌∷◌, length, refl, sym, ◌∙◌, subst, arith, cases_lt, ext_get_or, FaceList, IsFaceList, IsPath, AreJoined, IsCoherent, is_flipped}
 use Rattle.orientation.proofs.Fitting.{fit_if_opposite}
 
 pub step_back : (mesh : FaceList) (f g : ℕ) → IsFaceStep mesh f g → IsFaceStep mesh g f

@@ -1,10 +1,6 @@
 -- The chain round a tear.
-use Rattle.orientation.proofs.Common.{joined_step, joined_trans, ◌≡◌, ◌≢◌, ℕ, ◌+◌, ◌*◌, ◌%◌, ◌<◌, ◌≤◌, Bool, true, false, not, cond, eqb, List, [], ◌∷◌, ◌++◌, length, reverse, refl, ap, sym, ◌∙◌, subst, arith, length-append, nat_tests, length_push, reverse-append, length-reverse, sum_by-cons, sum_by-append, count_by, FaceList, LeadsTo, LeadOnTo, IsOddChain, first_face, is_turned, is_flipped, ChainLink, Side}
-use Rattle.orientation.specs.Classes.{EachEdgeHasAtMostTwoSides, IsFaceStep, AreOfOneClass}
-use Rattle.orientation.specs.Trees.{Growth, IsAlong, AreTrees, IsFoundFrom, differ, is_seen, place_of}
-use Rattle.orientation.specs.Searches.{IsTear}
+use Rattle.orientation.proofs.Common.{joined_step, joined_trans, EachEdgeHasAtMostTwoSides, IsFaceStep, AreOfOneClass, IsTear, Growth, IsAlong, AreTrees, IsFoundFrom, differ, is_seen, place_of, Place, ◌≡◌, ◌≢◌, ℕ, ◌+◌, ◌*◌, ◌%◌, ◌<◌, ◌≤◌, Bool, true, false, not, cond, eqb, List, [], ◌∷◌, ◌++◌, length, reverse, refl, ap, sym, ◌∙◌, subst, arith, length-append, nat_tests, length_push, reverse-append, length-reverse, sum_by-cons, sum_by-append, count_by, FaceList, LeadsTo, LeadOnTo, IsOddChain, first_face, is_turned, is_flipped, ChainLink, Side}
 use Rattle.orientation.specs.declared.search.Tear.{Tear}
-use Rattle.orientation.specs.declared.trees.Place.{Place}
 use Rattle.orientation.proofs.Fitting.{link_leads, link_leads_back, link_turned}
 use Rattle.orientation.proofs.ChainLemmas.{bit, bit_differ, differ_swap}
 use Rattle.orientation.proofs.ClassLemmas.{step_back, joined_back}

@@ -1,6 +1,10 @@
--- What proofs of this crate cite of others, passed on from one place (by tools/imports). Declares nothing.
+-- What proofs of this crate cite of its definitions and of other crates, passed on from one place (by tools/imports). Declares nothing.
 pub use Rattle.connectivity.proofs.CornerLemmas.{after_in_mesh, corner_used, number_once, partners_swap}
 pub use Rattle.connectivity.proofs.Joining.{joined_refl, joined_step, joined_sym, joined_trans}
+pub use Rattle.orientation.specs.Classes.{AreOfOneClass, EachEdgeHasAtMostTwoSides, IsFaceStep, IsLeastKept, IsLeastOfClass}
+pub use Rattle.orientation.specs.Searches.{Extends, GoesOn, IsKept, IsSearch, IsTear}
+pub use Rattle.orientation.specs.Trees.{AreListedCoherently, AreTrees, Fit, Growth, IsAcross, IsAlong, IsExplored, IsExploredUpTo, IsFirst, IsFoundFrom, IsFrontier, count_unseen, differ, is_seen, no_place, place_of, runs_alike, unseen, with_face}
+pub use Rattle.orientation.specs.declared.trees.Place.{Place}
 pub use Rattle.std.proofs.Common.{Bool, List, ap, arith, below_more, cond, eqb, false, get_or, inl, inr, length, length-append, map, max, min, not, refl, reverse, subst, suc, sym, take, true, zero, ℕ, [], ◌%◌, ◌*◌, ◌++◌, ◌+◌, ◌<◌, ◌∙◌, ◌∷◌, ◌≡◌, ◌≢◌, ◌≤◌, ◌⊎◌}
 pub use Rattle.std.proofs.Math.Bool.{and-true}
 pub use Rattle.std.proofs.lemmas.Bool.{both_ways, cases_Bool, cases_eq, cases_lt, eq-eqb, eqb-true}

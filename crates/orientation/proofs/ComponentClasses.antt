@@ -1,9 +1,8 @@
 -- The classes of faces of a closed manifold are its components.
-use Rattle.orientation.proofs.Common.{after_in_mesh, corner_used, joined_refl, joined_step, joined_trans, joined_sym, ◌≡◌, inl, inr, ℕ, zero, suc, ◌<◌, true, List, [], ◌∷◌, length, get_or, refl, ap, sym, subst, arith, nat_tests, ◌↔◌, step_edge, IsSide, side_after, tail_of, FaceList, IsFaceList, face_at, next_corner, is_edge, IsPath, AreJoined, ArePartners, IsCornerAt, IsCornerOfSide, IsStepAround, HasOneRing, AreJoinedByWalk, IsClosedManifold, Side}
+use Rattle.orientation.proofs.Common.{after_in_mesh, corner_used, joined_refl, joined_step, joined_trans, joined_sym, IsFaceStep, AreOfOneClass, ◌≡◌, inl, inr, ℕ, zero, suc, ◌<◌, true, List, [], ◌∷◌, length, get_or, refl, ap, sym, subst, arith, nat_tests, ◌↔◌, step_edge, IsSide, side_after, tail_of, FaceList, IsFaceList, face_at, next_corner, is_edge, IsPath, AreJoined, ArePartners, IsCornerAt, IsCornerOfSide, IsStepAround, HasOneRing, AreJoinedByWalk, IsClosedManifold, Side}
 use Rattle.connectivity.proofs.EdgeLemmas.{HasSideBetween, side_between, edge_swap}
 use Rattle.connectivity.proofs.WalkLemmas.{joined_from_walk, walk_from_joined}
 use Rattle.connectivity.specs.Partitions.{IsEdgeStep}
-use Rattle.orientation.specs.Classes.{IsFaceStep, AreOfOneClass}
 
 -- ---- from the vertices to the faces
 

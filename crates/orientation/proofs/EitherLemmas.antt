@@ -1,7 +1,5 @@
 -- A mesh has coherent signs or an odd chain: it is not without the one and the other.
-use Rattle.orientation.proofs.Common.{partners_swap, joined_step, joined_trans, ◌≡◌, ◌≢◌, ◌⊎◌, inl, inr, ℕ, zero, suc, ◌+◌, ◌%◌, ◌<◌, ◌≤◌, Bool, true, false, min, max, List, [], ◌∷◌, ◌++◌, length, refl, ap, sym, ◌∙◌, subst, arith, cases_lt, cases_Bool, length_push, get_or_append_left, get_or_push, count_by, ends_differ, tail_of, head_of, FaceList, IsFaceList, LeadOnTo, IsOddChain, first_face, is_turned, IsPath, ArePartners, IsCoherent, is_flipped, ChainLink, Side}
-use Rattle.orientation.specs.Classes.{EachEdgeHasAtMostTwoSides, IsFaceStep, AreOfOneClass, IsLeastOfClass, IsLeastKept}
-use Rattle.orientation.specs.Trees.{IsAlong, differ, runs_alike, Fit}
+use Rattle.orientation.proofs.Common.{partners_swap, joined_step, joined_trans, EachEdgeHasAtMostTwoSides, IsFaceStep, AreOfOneClass, IsLeastOfClass, IsLeastKept, IsAlong, differ, runs_alike, Fit, ◌≡◌, ◌≢◌, ◌⊎◌, inl, inr, ℕ, zero, suc, ◌+◌, ◌%◌, ◌<◌, ◌≤◌, Bool, true, false, min, max, List, [], ◌∷◌, ◌++◌, length, refl, ap, sym, ◌∙◌, subst, arith, cases_lt, cases_Bool, length_push, get_or_append_left, get_or_push, count_by, ends_differ, tail_of, head_of, FaceList, IsFaceList, LeadOnTo, IsOddChain, first_face, is_turned, IsPath, ArePartners, IsCoherent, is_flipped, ChainLink, Side}
 use Rattle.orientation.proofs.Fitting.{link_leads, link_turned, eqb_swap, opposite_if_fit}
 use Rattle.orientation.proofs.ChainLemmas.{bit, differ_swap}
 use Rattle.orientation.proofs.ClassLemmas.{step_back, joined_back}

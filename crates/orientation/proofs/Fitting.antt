@@ -1,7 +1,5 @@
 -- Two sides of one edge run oppositely under signs exactly where the signs of their faces fit.
-use Rattle.orientation.proofs.Common.{◌≡◌, ◌≢◌, ◌⊎◌, inl, inr, ℕ, Bool, true, false, eqb, List, [], ◌∷◌, map, ap, sym, ◌∙◌, arith, and-true, nat_tests, if◌then◌else◌, ends_differ, tail_of, head_of, FaceList, FaceSide, IsFaceList, joins, LeadsTo, run_alike, is_turned, ArePartners, RunOppositely, is_flipped, ChainLink, Side}
-use Rattle.orientation.specs.Classes.{EachEdgeHasAtMostTwoSides}
-use Rattle.orientation.specs.Trees.{IsAlong, differ, runs_alike, Fit}
+use Rattle.orientation.proofs.Common.{EachEdgeHasAtMostTwoSides, IsAlong, differ, runs_alike, Fit, ◌≡◌, ◌≢◌, ◌⊎◌, inl, inr, ℕ, Bool, true, false, eqb, List, [], ◌∷◌, map, ap, sym, ◌∙◌, arith, and-true, nat_tests, if◌then◌else◌, ends_differ, tail_of, head_of, FaceList, FaceSide, IsFaceList, joins, LeadsTo, run_alike, is_turned, ArePartners, RunOppositely, is_flipped, ChainLink, Side}
 use Rattle.orientation.proofs.Partners.{entry_of, are_all}
 
 fit_from : (t h u k : ℕ) (f g : Bool) → ((t ≡ u) × (h ≡ k)) ⊎ ((t ≡ k) × (h ≡ u)) → t ≢ h

@@ -1,7 +1,5 @@
 -- Faces that are listed coherently as they stand, looked through side by side.
-use Rattle.orientation.proofs.Common.{partners_swap, number_once, ◌≡◌, inl, inr, ℕ, zero, suc, ◌+◌, ◌<◌, ◌≤◌, Bool, false, List, length, refl, ap, sym, ◌∙◌, subst, arith, cases_lt, cases_eq, length-replicate, replicate, side_below, IsSide, side_number, FaceList, IsFaceList, total_sides, ArePartners, IsCoherent, is_flipped, Side}
-use Rattle.orientation.specs.Classes.{EachEdgeHasAtMostTwoSides}
-use Rattle.orientation.specs.Trees.{differ, runs_alike, AreListedCoherently}
+use Rattle.orientation.proofs.Common.{partners_swap, number_once, EachEdgeHasAtMostTwoSides, differ, runs_alike, AreListedCoherently, ◌≡◌, inl, inr, ℕ, zero, suc, ◌+◌, ◌<◌, ◌≤◌, Bool, false, List, length, refl, ap, sym, ◌∙◌, subst, arith, cases_lt, cases_eq, length-replicate, replicate, side_below, IsSide, side_number, FaceList, IsFaceList, total_sides, ArePartners, IsCoherent, is_flipped, Side}
 use Rattle.orientation.proofs.AcrossLemmas.{IsOther}
 use Rattle.orientation.proofs.Fitting.{eqb_swap, opposite_if_fit}
 use Rattle.orientation.proofs.Partners.{one_partner}

@@ -1,8 +1,7 @@
 -- The two sides of an edge, where no edge has more.
-use Rattle.orientation.proofs.Common.{◌≡◌, ◌≢◌, ◌⊎◌, inl, inr, ℕ, zero, suc, ◌≤◌, true, List, [], ◌∷◌, length, ap, sym, ◌∙◌, arith, nat_tests, Contains, filter, Contains-filter, face_side_in, tail_of, head_of, FaceList, FaceSide, face_at, all_sides, joins, is_edge, ArePartners, Side}
+use Rattle.orientation.proofs.Common.{EachEdgeHasAtMostTwoSides, ◌≡◌, ◌≢◌, ◌⊎◌, inl, inr, ℕ, zero, suc, ◌≤◌, true, List, [], ◌∷◌, length, ap, sym, ◌∙◌, arith, nat_tests, Contains, filter, Contains-filter, face_side_in, tail_of, head_of, FaceList, FaceSide, face_at, all_sides, joins, is_edge, ArePartners, Side}
 use Rattle.std.proofs.lemmas.List.Folds.{list_any-from_Any}
 use Rattle.surf_model.proofs.NumberLemmas.{face_side}
-use Rattle.orientation.specs.Classes.{EachEdgeHasAtMostTwoSides}
 
 -- a side as an entry of the list of all sides
 abbrev pub entry_of : FaceList → Side → FaceSide

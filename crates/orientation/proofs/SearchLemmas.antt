@@ -1,10 +1,6 @@
 -- The steps of the search.
-use Rattle.orientation.proofs.Common.{◌≡◌, ◌⊎◌, inl, inr, ℕ, ◌+◌, ◌<◌, ◌≤◌, Bool, true, false, not, List, [], ◌∷◌, ◌++◌, length, refl, ap, sym, ◌∙◌, subst, arith, below_more, cases_lt, both_ways, length_push, get_or_past, get_or-set_same, get_or-replicate, length-replicate, FaceList, IsFaceList, HasFileSize, face_at, ArePartners, IsCoherent, is_flipped, Side, FaceName, beq}
+use Rattle.orientation.proofs.Common.{IsLeastKept, IsSearch, GoesOn, Extends, Growth, differ, runs_alike, Fit, is_seen, place_of, with_face, AreTrees, IsExploredUpTo, IsFrontier, unseen, no_place, Place, ◌≡◌, ◌⊎◌, inl, inr, ℕ, ◌+◌, ◌<◌, ◌≤◌, Bool, true, false, not, List, [], ◌∷◌, ◌++◌, length, refl, ap, sym, ◌∙◌, subst, arith, below_more, cases_lt, both_ways, length_push, get_or_past, get_or-set_same, get_or-replicate, length-replicate, FaceList, IsFaceList, HasFileSize, face_at, ArePartners, IsCoherent, is_flipped, Side, FaceName, beq}
 use Rattle.std.proofs.Common.{replicate}
-use Rattle.orientation.specs.Trees.{Growth, differ, runs_alike, Fit, is_seen, place_of, with_face, AreTrees, IsExploredUpTo, IsFrontier, unseen, no_place}
-use Rattle.orientation.specs.Classes.{IsLeastKept}
-use Rattle.orientation.specs.Searches.{IsSearch, GoesOn, Extends}
-use Rattle.orientation.specs.declared.trees.Place.{Place}
 use Rattle.orientation.proofs.TreeLemmas.{found, fits_then, frontier_put, fitting, with_face_extends, count-with_face, extends_more, explored_more, explored_up_to_kept, explored_all, frontier_done, frontier_last, planted, all_coherent, all_kept}
 
 -- what crossing an edge to a new face gives

@@ -1,12 +1,8 @@
 -- What a search knows, and how it grows by one face.
-use Rattle.orientation.proofs.Common.{partners_swap, joined_step, joined_trans, ◌*◌, ◌≡◌, ◌≢◌, ◌⊎◌, inl, inr, ℕ, zero, suc, ◌+◌, ◌<◌, ◌≤◌, Bool, true, false, not, cond, List, [], ◌∷◌, ◌++◌, length, get_or, refl, ap, sym, ◌∙◌, subst, arith, cases_lt, cases_Bool, both_ways, get_or-set_other, get_or-set_same, sum_by-set, count_by-le-length, sum_by-cons, sum_by, All, Contains, FaceList, IsFaceList, HasFileSize, IsFace, face_at, IsPath, ArePartners, IsCoherent, is_flipped, Side, FaceName, beq}
+use Rattle.orientation.proofs.Common.{partners_swap, joined_step, joined_trans, IsFaceStep, AreOfOneClass, IsLeastOfClass, IsLeastKept, IsKept, Extends, Growth, differ, runs_alike, Fit, is_seen, place_of, with_face, count_unseen, IsFirst, IsFoundFrom, AreTrees, IsExplored, IsExploredUpTo, IsFrontier, Place, ◌*◌, ◌≡◌, ◌≢◌, ◌⊎◌, inl, inr, ℕ, zero, suc, ◌+◌, ◌<◌, ◌≤◌, Bool, true, false, not, cond, List, [], ◌∷◌, ◌++◌, length, get_or, refl, ap, sym, ◌∙◌, subst, arith, cases_lt, cases_Bool, both_ways, get_or-set_other, get_or-set_same, sum_by-set, count_by-le-length, sum_by-cons, sum_by, All, Contains, FaceList, IsFaceList, HasFileSize, IsFace, face_at, IsPath, ArePartners, IsCoherent, is_flipped, Side, FaceName, beq}
 use Rattle.std.proofs.Math.ListN.{length-set}
 use Rattle.std.proofs.lemmas.List.Elements.{Contains-append_left, Contains-push, Contains-push_cases, All-weaker, All-push, All-head, All-tail, All-contains, Contains-get_or}
 use Rattle.surf_model.specs.declared.limits.TheConstants.{MOST_SIDES}
-use Rattle.orientation.specs.Classes.{IsFaceStep, AreOfOneClass, IsLeastOfClass, IsLeastKept}
-use Rattle.orientation.specs.Trees.{Growth, differ, runs_alike, Fit, is_seen, place_of, with_face, count_unseen, IsFirst, IsFoundFrom, AreTrees, IsExplored, IsExploredUpTo, IsFrontier}
-use Rattle.orientation.specs.Searches.{IsKept, Extends}
-use Rattle.orientation.specs.declared.trees.Place.{Place}
 use Rattle.orientation.proofs.Fitting.{opposite_if_fit}
 use Rattle.orientation.proofs.ClassLemmas.{step_back, joined_back}
 

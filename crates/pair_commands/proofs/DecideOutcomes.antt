@@ -1,11 +1,9 @@
 -- How the checks of `decide` end, and `decide` in the words of the mesh.
-use Rattle.pair_commands.proofs.Common.{IsSound, sound-then, Answer, Check, Refuse, Pass, Yes, ◌≡◌, ℕ, List, [], ◌∷◌, codes, sym, ◌∙◌, subst, Option, All, Files, FaceList, WalkPair, in_pairs, WalkText}
+use Rattle.pair_commands.proofs.Common.{IsSound, sound-then, Answer, Check, Refuse, Pass, Yes, decide, all_decided, decisions_answer, AreDecided, IsDecided, IsDecideInput, IsHomotopic, SpellsPairs, pairs_in, ◌≡◌, ℕ, List, [], ◌∷◌, codes, sym, ◌∙◌, subst, Option, All, Files, FaceList, WalkPair, in_pairs, WalkText}
 use Rattle.commands.specs.Outcomes.{Outcome, AnswersTo, IsAnswerOf}
 use Rattle.commands.specs.declared.status.Status.{Status}
 use Rattle.std.specs.Prelude.{◌↔◌}
 use Rattle.surface_commands.proofs.SurfaceRows.{outcome_behind, sound-surface_in}
-use Rattle.pair_commands.specs.Decide.{decide, all_decided, decisions_answer, AreDecided, IsDecided, IsDecideInput, IsHomotopic}
-use Rattle.pair_commands.specs.PairInput.{SpellsPairs, pairs_in}
 use Rattle.pair_commands.proofs.PairChecks.{sound-pairs_in, pairs_in_told, spelled_pairs}
 use Rattle.pair_commands.proofs.PairDecisions.{all_yes, sound-all_decided}
 

@@ -1,5 +1,5 @@
 -- How the check of pairs of walks ends.
-use Rattle.pair_commands.proofs.Common.{IsSound, sound-file, sound-then, sound-meant, sound-pass_unless, held, meant_told, unless_told, Check, Refuse, Passes, Holds, IsTold, file, meant, ◌>>=◌, ◌≡◌, inl, inr, ℕ, List, refl, Option, None, Result, Files, FaceList, WalkPair, ArePairs, in_pairs, pairs_fault, WalkText}
+use Rattle.pair_commands.proofs.Common.{IsSound, sound-file, sound-then, sound-meant, sound-pass_unless, held, meant_told, unless_told, Check, Refuse, Passes, Holds, IsTold, file, meant, ◌>>=◌, SpellsPairs, come_in_pairs, pairs_line, pairs_in, ◌≡◌, inl, inr, ℕ, List, refl, Option, None, Result, Files, FaceList, WalkPair, ArePairs, in_pairs, pairs_fault, WalkText}
 use Rattle.commands.proofs.Checking.{stops_next}
 use Rattle.commands.proofs.WalkInputs.{was_read}
 use Rattle.commands.specs.Inputs.{text_in}
@@ -11,7 +11,6 @@ use Rattle.walk_files.proofs.PairListLemmas.{none_of_pairs}
 use Rattle.walk_files.specs.WalkTexts.{walk_text_of}
 use Rattle.walk_files.specs.declared.fault.WalkFault.{WalkFault}
 use Rattle.commands.specs.declared.refusal.Input.TheVariants as inputs
-use Rattle.pair_commands.specs.PairInput.{SpellsPairs, come_in_pairs, pairs_line, pairs_in}
 
 -- what is looked at of a text, and behind the bytes of a walk file
 abbrev after_text : FaceList → WalkText → Check WalkText

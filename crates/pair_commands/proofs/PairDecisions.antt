@@ -1,5 +1,5 @@
 -- Decisions on pairs: one more, all of them, and what they are worth.
-use Rattle.pair_commands.proofs.Common.{IsSound, Answer, End, Refuse, Pass, Yes, No, ◌≡◌, ◌↔◌, ℕ, zero, suc, ◌+◌, ◌*◌, ◌/◌, ◌<◌, true, List, [], ◌∷◌, length, get_or, refl, sym, ap, ◌∙◌, subst, arith, All, Option, Some, slice_get, Files, FaceList, IsWalk, HaveCommonEnds, AreWalkPair, WalkPair, ArePairs, are_paired, in_pairs, WalkText, IsFoundOn}
+use Rattle.pair_commands.proofs.Common.{IsSound, Answer, End, Refuse, Pass, Yes, No, IsHomotopic, IsDecision, AreDecisions, ArePairsDecided, all_decided, decisions_answer, ◌≡◌, ◌↔◌, ℕ, zero, suc, ◌+◌, ◌*◌, ◌/◌, ◌<◌, true, List, [], ◌∷◌, length, get_or, refl, sym, ap, ◌∙◌, subst, arith, All, Option, Some, slice_get, Files, FaceList, IsWalk, HaveCommonEnds, AreWalkPair, WalkPair, ArePairs, are_paired, in_pairs, WalkText, IsFoundOn}
 use Rattle.commands.proofs.Deciding.{differs, one_decision}
 use Rattle.commands.specs.Certificates.{decisions_status}
 use Rattle.std.proofs.lemmas.Bool.Decides.{nat_tests}
@@ -7,7 +7,6 @@ use Rattle.std.proofs.lemmas.List.Elements.{All-nil, All-cons, All-head, All-tai
 use Rattle.surf_model.specs.declared.decisions.Answer.TheVariants.{Homotopic, Different}
 use Rattle.surf_model.specs.Moves as moves
 use Rattle.surf_model.specs.declared.decisions.Answer as deciding
-use Rattle.pair_commands.specs.Decide.{IsHomotopic, IsDecision, AreDecisions, ArePairsDecided, all_decided, decisions_answer}
 
 -- ---- the pairs of a list of walks
 

@@ -1,4 +1,4 @@
--- What proofs of this crate cite of others, passed on from one place (by tools/imports). Declares nothing.
+-- What proofs of this crate cite of its definitions and of other crates, passed on from one place (by tools/imports). Declares nothing.
 pub use Rattle.certify_commands.proofs.CertifyOutcomes.{certified_so, sound-certify}
 pub use Rattle.certify_commands.specs.Certify.{IsCertificatePrinted, IsCertified, IsCertifyInput, IsWithinLimits, certified, certify_limits, limit_fault, limit_word}
 pub use Rattle.commands.proofs.Answering.{answers, wrote_all, wrote_part}
@@ -32,6 +32,8 @@ pub use Rattle.open_commands.specs.OpenPairs.{IsOpenInput, Question, open_limits
 pub use Rattle.pair_commands.proofs.DecideOutcomes.{decided_so, sound-decide}
 pub use Rattle.pair_commands.specs.Decide.{IsDecideInput, IsDecided, all_decided}
 pub use Rattle.pair_commands.specs.PairInput.{SpellsPairs, pairs_in, pairs_line}
+pub use Rattle.program.specs.Commands.{Certify, CertifyOpen, Decide, DecideOpen, Homology, IsRow, Loops, Reduce, Row, Surface, Trial, Verify, VerifyHomology, answer_to, row_of}
+pub use Rattle.program.specs.Outcomes.{AllTold, Answers, IsOutcome, answer_of}
 pub use Rattle.reduce_commands.proofs.ReduceOutcomes.{reduced}
 pub use Rattle.std.proofs.Common.{List, ap, arith, codes, false, get_or, inl, inr, length, refl, subst, sym, true, ℕ, [], ◌*◌, ◌++◌, ◌+◌, ◌<◌, ◌∙◌, ◌∷◌, ◌≡◌, ◌≤◌, ◌⊎◌}
 pub use Rattle.std.specs.Prelude.{All, Err, IfNone, IfSome, IsSome, IsSomeAnd, MatchOption, MatchResult, None, Ok, Option, Result, Some, String, nat_lt, option_and_then, slice_index_or, string_bytes, ◌||◌, ◌↔◌, ◌≢◌}

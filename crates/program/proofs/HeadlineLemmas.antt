@@ -1,7 +1,7 @@
 -- The headline, from what `decide` and `certify` answer.
 use Rattle.program.proofs.Common.{IsCertified, Convinces, decision_of, decision_status, certificate_text, Certificate, Moves, Denial, Status, Yes, No, IsDecided, ◌≡◌, ◌⊎◌, inl, inr, ℕ, List, sym, ◌∙◌, ◌↔◌, Option, Files, FaceList}
-use Rattle.surf_model.specs.Moves as moves
 use Rattle.program.specs.Headline.{PrintsList, PrintsDenial, Headline}
+use Rattle.surf_model.specs.Moves as moves
 
 no_yes : No ≡ Yes → ⊥
 no_yes e = cc

@@ -1,12 +1,10 @@
 -- The outcome of a list of words, and what is told of a run.
-use Rattle.program.proofs.Common.{answers, stops_next, told_stops, Refuse, Pass, found_or, wrong_words, Replies, reply_status, reply_text, Runs, IsAnswered, Stops, Tells, Reply, inl, inr, ℕ, List, refl, Option, Result, Ok, Err, MatchResult, Files}
+use Rattle.program.proofs.Common.{answers, stops_next, told_stops, Refuse, Pass, found_or, wrong_words, Replies, reply_status, reply_text, Runs, IsAnswered, Stops, Tells, Reply, Row, IsRow, answer_to, answer_of, Answers, inl, inr, ℕ, List, refl, Option, Result, Ok, Err, MatchResult, Files}
 use Rattle.commands.specs.declared.stop.Stop.{Stop}
 use Rattle.commands.specs.declared.text.Text.{Text}
 use Rattle.commands.specs.declared.reply.Reply.TheVariants as replies
 use Rattle.commands.specs.declared.stop.Stop.TheVariants as stops
 use Rattle.program.proofs.Rows.{sound-words}
-use Rattle.program.specs.Commands.{Row, IsRow, answer_to}
-use Rattle.program.specs.Outcomes.{answer_of, Answers}
 
 -- ---- the reply
 

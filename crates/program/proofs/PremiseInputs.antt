@@ -1,8 +1,9 @@
 -- An answer that is no refusal comes of an input of its command.
-use Rattle.program.proofs.Common.{IsCertifyInput, IsWithinLimits, certified, certify_limits, limit_fault, limit_word, both_passed, unless_passed, Answer, Exactly, yes_with, Check, Passes, IsTold, Holds, pass, pass_unless, ◌>>=◌, IsInputOnSurface, IsInputWith, certificate_in, mesh_in, pair_in, walk_at, SpellsCertificate, SpellsPair, Status, Refused, Yes, IsHomologyInput, homology_shown, cert_of_text, IsLoopsInput, SpellsLoops, freely_decided, loops_in, listed, open_surface_in, Question, open_limits, open_pair_in, question, IsDecideInput, all_decided, SpellsPairs, pairs_in, reduced, ◌≡◌, ℕ, List, [], ◌∷◌, codes, ap, ◌∙◌, ◌≢◌, Ok, Option, Files, FaceList, IsOrientableSurface, HasFewComponents, IsSurfaceInput, genera_of, numbers_of, numbers_text, of_few_components, surface_in, MOST_COMPONENTS, judgement, WalkPair, in_pairs, WalkText}
+use Rattle.program.proofs.Common.{IsCertifyInput, IsWithinLimits, certified, certify_limits, limit_fault, limit_word, both_passed, unless_passed, Answer, Exactly, yes_with, Check, Passes, IsTold, Holds, pass, pass_unless, ◌>>=◌, IsInputOnSurface, IsInputWith, certificate_in, mesh_in, pair_in, walk_at, SpellsCertificate, SpellsPair, Status, Refused, Yes, IsHomologyInput, homology_shown, cert_of_text, IsLoopsInput, SpellsLoops, freely_decided, loops_in, listed, open_surface_in, Question, open_limits, open_pair_in, question, IsDecideInput, all_decided, SpellsPairs, pairs_in, Row, IsRow, Surface, Decide, Certify, Loops, DecideOpen, CertifyOpen, Homology, Verify, VerifyHomology, Reduce, answer_to, Answers, reduced, ◌≡◌, ℕ, List, [], ◌∷◌, codes, ap, ◌∙◌, ◌≢◌, Ok, Option, Files, FaceList, IsOrientableSurface, HasFewComponents, IsSurfaceInput, genera_of, numbers_of, numbers_text, of_few_components, surface_in, MOST_COMPONENTS, judgement, WalkPair, in_pairs, WalkText}
 use Rattle.commands.proofs.LimitLemmas.{fitting}
 use Rattle.commands.specs.Decisions.{decided}
 use Rattle.commands.specs.WordTexts.{words_text}
+use Rattle.program.specs.Premises.{HasOpenInput, HasPremises, OfSomeWalks}
 use Rattle.reduce_commands.specs.Reduce.{canonical_words, degree_fault, degree_line, entries_on, lines_in, range_fault, range_line, reduce}
 use Rattle.walk_files.specs.NumberLists.{NumberLine}
 use Rattle.verify_homology_commands.specs.VerifyHomology as homology
@@ -10,9 +11,6 @@ use Rattle.open_commands.specs.OpenPairs as open_pairs
 use Rattle.program.proofs.PremiseFiles.{certificate_held, homology_held, loops_held, mesh_held, open_held, pair_held, pairs_held, surface_held}
 use Rattle.program.proofs.PremiseLemmas.{answer_passed, holds_itself}
 use Rattle.program.proofs.Rows.{row_answered}
-use Rattle.program.specs.Commands.{Row, IsRow, Surface, Decide, Certify, Loops, DecideOpen, CertifyOpen, Homology, Verify, VerifyHomology, Reduce, answer_to}
-use Rattle.program.specs.Outcomes.{Answers}
-use Rattle.program.specs.Premises.{HasOpenInput, HasPremises, OfSomeWalks}
 
 -- ---- a command on a surface
 

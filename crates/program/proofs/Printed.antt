@@ -1,19 +1,17 @@
 -- What `certify` prints spells its certificate again, and `verify` accepts it.
-use Rattle.program.proofs.Common.{IsCertifyInput, IsWithinLimits, IsCertificatePrinted, held, Convinces, IsPeakLow, IsShortOnSphere, certificate_text, SpellsMesh, SpellsPair, SpellsCertificate, Certificate, Moves, Denial, MOST_BYTES, Status, Yes, IsHomologyPrinted, MOST_LIFTED_SIDES, IsListPrinted, IsOpenInput, ◌≡◌, ℕ, ◌≤◌, List, [], length, get_or, sym, subst, arith, Option, Files, FaceList, IsFaceList, HasFileSize, total_sides, IsWalk, IsVerifyInput}
+use Rattle.program.proofs.Common.{IsCertifyInput, IsWithinLimits, IsCertificatePrinted, held, Convinces, IsPeakLow, IsShortOnSphere, certificate_text, SpellsMesh, SpellsPair, SpellsCertificate, Certificate, Moves, Denial, MOST_BYTES, Status, Yes, IsHomologyPrinted, MOST_LIFTED_SIDES, IsListPrinted, IsOpenInput, Verify, VerifyHomology, Answers, ◌≡◌, ℕ, ◌≤◌, List, [], length, get_or, sym, subst, arith, Option, Files, FaceList, IsFaceList, HasFileSize, total_sides, IsWalk, IsVerifyInput}
 use Rattle.commands.proofs.MeshTexts.{is_face_list, has_file_size}
 use Rattle.commands.proofs.Rows.{input_so}
 use Rattle.commands.specs.Lines.{line}
 use Rattle.homology_commands.proofs.PrintedLemmas.{printed_accepted as homology_accepted}
 use Rattle.open_commands.proofs.ShortTexts.{text_short, sphere_text_short}
+use Rattle.program.specs.PrintedCertificates.{IsVerifyOfText, IsAccepted}
 use Rattle.std.specs.Prelude.{codes}
 use Rattle.surf_model.specs.Genera.{LiesOnSphere}
 use Rattle.verify_commands.proofs.Accepting.{accepted, spelled}
 use Rattle.homology_commands.specs.PrintedHomology as homology_texts
 use Rattle.open_commands.specs.OpenPairs as open_limits
 use Rattle.program.proofs.Rows.{row_answered, row_ends}
-use Rattle.program.specs.Commands.{Verify, VerifyHomology}
-use Rattle.program.specs.Outcomes.{Answers}
-use Rattle.program.specs.PrintedCertificates.{IsVerifyOfText, IsAccepted}
 
 -- a file of a text that spells the certificate
 verify_input : (files : Option Files) (words : List (List ℕ)) (mesh : FaceList) (first second text : List ℕ) (shown : Certificate)

@@ -1,5 +1,5 @@
 -- The rows of the table of commands: words are one row at most, and their checks have an end, and one where their files are told.
-use Rattle.program.proofs.Common.{sound-certify, IsSound, sound-then, sound-found, IsTold, found_or, Outcome, AnswersTo, wrong_words, Status, sound-decide_open, sound-certify_open, sound-decide, ◌≡◌, inr, ℕ, List, [], ◌∷◌, ap, arith, sym, codes, subst, ◌∙◌, ◌+◌, ◌*◌, Option, slice_index_or, Files, sound-verify_homology}
+use Rattle.program.proofs.Common.{sound-certify, IsSound, sound-then, sound-found, IsTold, found_or, Outcome, AnswersTo, wrong_words, Status, sound-decide_open, sound-certify_open, sound-decide, Row, Surface, Decide, Certify, Loops, DecideOpen, CertifyOpen, Homology, Verify, VerifyHomology, Reduce, Trial, IsRow, answer_to, AllTold, Answers, IsOutcome, answer_of, ◌≡◌, inr, ℕ, List, [], ◌∷◌, ap, arith, sym, codes, subst, ◌∙◌, ◌+◌, ◌*◌, Option, slice_index_or, Files, sound-verify_homology}
 use Rattle.commands.proofs.Deciding.{behind}
 use Rattle.homology_commands.proofs.HomologyAnswers.{sound-homology}
 use Rattle.loop_commands.proofs.LoopAnswers.{sound-loops}
@@ -7,8 +7,6 @@ use Rattle.reduce_commands.proofs.Reducing.{sound-reduce}
 use Rattle.surface_commands.proofs.SurfaceRows.{sound-surface}
 use Rattle.trial_commands.proofs.Trying.{sound-trial}
 use Rattle.verify_commands.proofs.VerifyRows.{sound-verify}
-use Rattle.program.specs.Commands.{Row, Surface, Decide, Certify, Loops, DecideOpen, CertifyOpen, Homology, Verify, VerifyHomology, Reduce, Trial, IsRow, answer_to}
-use Rattle.program.specs.Outcomes.{AllTold, Answers, IsOutcome, answer_of}
 
 -- ---- one row
 

@@ -1,8 +1,7 @@
 -- `reduce` in the words of the list.
-use Rattle.reduce_commands.proofs.Common.{yes_with, Pass, AnswersTo, IsAnswerOf, words_text, ℕ, List, sym, ◌∙◌, Option, Files}
+use Rattle.reduce_commands.proofs.Common.{yes_with, Pass, AnswersTo, IsAnswerOf, words_text, IsReduceInput, AreCanonicalOf, IsReduced, reduce, IsReduceRow, ℕ, List, sym, ◌∙◌, Option, Files}
 use Rattle.commands.specs.declared.status.Status.{Status}
 use Rattle.reduce_commands.proofs.Reducing.{canonical_there, reduce_passes, reduce_told, yes_input, input_words, input_told}
-use Rattle.reduce_commands.specs.Reduce.{IsReduceInput, AreCanonicalOf, IsReduced, reduce, IsReduceRow}
 
 -- what `reduce` is for, where the words are answered by its check
 pub reduced : (files : Option Files) (words : List (List ℕ)) (status : Status) (text : List ℕ)

@@ -1,9 +1,10 @@
 -- How the checks of `reduce` end.
-use Rattle.reduce_commands.proofs.Common.{stops_first, told_stops, stops_next, meant_passed, unless_passed, tells_no_fault, Answer, NoText, yes_with, End, Refuse, Pass, Passes, IsTold, file, meant, pass_unless, Check, pass, ◌>>=◌, Outcome, status_of, numbers_line, words_text, ◌≡◌, ◌⊎◌, inl, inr, ℕ, ◌<◌, ◌≤◌, Bool, true, false, List, [], ◌∷◌, ◌++◌, refl, sym, ap, ◌∙◌, subst, arith, nat_lt, if◌then◌else◌, Option, Some, None, Result, Err, is_some, All, Files, NumberLine, words_of}
+use Rattle.reduce_commands.proofs.Common.{stops_first, told_stops, stops_next, meant_passed, unless_passed, tells_no_fault, Answer, NoText, yes_with, End, Refuse, Pass, Passes, IsTold, file, meant, pass_unless, Check, pass, ◌>>=◌, Outcome, status_of, numbers_line, words_text, AreCanonised, IsNotCanonised, IsSoFar, SpellsTurnWords, IsReduceInput, AreCanonicalOf, entries_on, degree_fault, lines_in, range_fault, canonical_words, reduce, range_line, degree_line, ◌≡◌, ◌⊎◌, inl, inr, ℕ, ◌<◌, ◌≤◌, Bool, true, false, List, [], ◌∷◌, ◌++◌, refl, sym, ap, ◌∙◌, subst, arith, nat_lt, if◌then◌else◌, Option, Some, None, Result, Err, is_some, All, Files, NumberLine, words_of}
 use Rattle.commands.proofs.Sound.{IsSound, sound-then, sound-pass, sound-meant, sound-pass_unless, sound-file, meant_told, unless_told, held, file_holds}
 use Rattle.commands.specs.Stops.{Stops, Tells}
 use Rattle.commands.specs.declared.status.Status.TheVariants.{Yes}
 use Rattle.commands.specs.declared.stop.Stop.{Stop}
+use Rattle.reduce_commands.specs.declared.reduce.TheConstants.{LEAST_DEGREE}
 use Rattle.std.proofs.lemmas.Bool.{and_parts, ltb-true, ltb-false}
 use Rattle.std.proofs.lemmas.List.Elements.{All-nil, All-cons, All-head, All-tail}
 use Rattle.std.specs.List.{list_all}
@@ -14,9 +15,6 @@ use Rattle.walk_files.specs.declared.fault.WalkFault.{WalkFault}
 use Rattle.walk_files.specs.declared.fault.WalkFault.TheVariants as walks
 use Rattle.commands.specs.declared.refusal.Input.TheVariants as inputs
 use Rattle.commands.specs.declared.stop.Stop.TheVariants as stops
-use Rattle.reduce_commands.specs.Canonised.{AreCanonised, IsNotCanonised, IsSoFar}
-use Rattle.reduce_commands.specs.Reduce.{SpellsTurnWords, IsReduceInput, AreCanonicalOf, entries_on, degree_fault, lines_in, range_fault, canonical_words, reduce, range_line, degree_line}
-use Rattle.reduce_commands.specs.declared.reduce.TheConstants.{LEAST_DEGREE}
 
 -- ---- the parts
 

@@ -1,7 +1,6 @@
 -- A bracket at the end of a path is closed, quad by quad.
-use Rattle.spoke_paths.proofs.Common.{◌≡◌, ℕ, ◌+◌, ◌-◌, ◌<◌, ◌≤◌, arith, inl, inr, refl, sym, ◌∙◌, ap, ap₂, subst, suc, Bool, true, false, not, List, All, length, get_or, cases_eq, cases_lt, get_or-remove_below, get_or-remove_above, length-remove, remove, if◌then◌else◌, add-cases, minus-cases, add-lt, minus-lt, add-zero, add, minus, place_round, IsWheel}
+use Rattle.spoke_paths.proofs.Common.{from_vertex, turn_of, Opens, IsTurnedOver, IsBracketClosed, ◌≡◌, ℕ, ◌+◌, ◌-◌, ◌<◌, ◌≤◌, arith, inl, inr, refl, sym, ◌∙◌, ap, ap₂, subst, suc, Bool, true, false, not, List, All, length, get_or, cases_eq, cases_lt, get_or-remove_below, get_or-remove_above, length-remove, remove, if◌then◌else◌, add-cases, minus-cases, add-lt, minus-lt, add-zero, add, minus, place_round, IsWheel}
 use Rattle.std.proofs.Math.Bool.{not-not}
-use Rattle.spoke_paths.specs.PathTurns.{from_vertex, turn_of, Opens, IsTurnedOver, IsBracketClosed}
 use Rattle.spoke_paths.proofs.Turning.{from-next}
 
 -- what is known while the quads are gone round: the turn at `at` still closes, or is 0 where the bracket opened

@@ -1,6 +1,11 @@
--- What proofs of this crate cite of others, passed on from one place (by tools/imports). Declares nothing.
+-- What proofs of this crate cite of its definitions and of other crates, passed on from one place (by tools/imports). Declares nothing.
 pub use Rattle.flat_forms.specs.FlatStates.{IsEven, IsFlatWheel, flat_next, parity, size_of}
 pub use Rattle.flat_forms.specs.Vectors.{Vector, less, origin, plus, unit_step}
+pub use Rattle.spoke_paths.specs.PathSteps.{PathLeads, after_path_step, after_path_steps, from_spoke, is_quad, lower_way, quad_turned, spur_goes, two_become, upper_way}
+pub use Rattle.spoke_paths.specs.PathTurns.{EndsNothing, HasQuads, IsBracketClosed, IsShort, IsTurnedOver, LeadsOn, Opens, from_vertex, turn_of}
+pub use Rattle.spoke_paths.specs.ReducedWords.{HasNoBracket, IsReduced, closes}
+pub use Rattle.spoke_paths.specs.declared.step.PathStep.{PathStep}
+pub use Rattle.spoke_paths.specs.declared.step.PathStep.TheVariants.{Spur, Turn}
 pub use Rattle.std.proofs.Common.{All, Bool, List, None, Option, Some, ap, ap₂, arith, drop, eqb, false, get_or, inl, inr, length, length-append, not, pos, refl, reverse, set, subst, suc, sym, take, true, zero, ℕ, ℤ, [], ◌%◌, ◌&&◌, ◌++◌, ◌+ℤ◌, ◌+◌, ◌-ℤ◌, ◌-◌, ◌<◌, ◌∙◌, ◌∷◌, ◌≡◌, ◌≢◌, ◌≤◌, ◌⊎◌}
 pub use Rattle.std.proofs.lemmas.Bool.{and_from, and_parts, cases_Bool, cases_eq, cases_lt, eq-eqb, eqb-true, lt-ltb, ltb-true, ne_eqb}
 pub use Rattle.std.proofs.lemmas.List.{append-nil, drop_all, get_or-set_other, get_or-set_same, get_or_append_left, length-set, length_push, reverse-reverse, take_all}

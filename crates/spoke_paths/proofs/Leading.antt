@@ -1,7 +1,5 @@
 -- Steps put behind steps.
-use Rattle.spoke_paths.proofs.Common.{◌≡◌, ℕ, ◌<◌, arith, refl, ◌∙◌, ap, zero, suc, Bool, not, List, [], ◌∷◌, ◌++◌, length, get_or, take, drop, Some, eq-eqb, append-nil, take_all, drop_all, option_and_then_some, remove, option_map, option_and_then}
-use Rattle.spoke_paths.specs.PathSteps.{spur_goes, from_spoke, after_path_step, after_path_steps, PathLeads}
-use Rattle.spoke_paths.specs.declared.step.PathStep.{PathStep}
+use Rattle.spoke_paths.proofs.Common.{spur_goes, from_spoke, after_path_step, after_path_steps, PathLeads, PathStep, ◌≡◌, ℕ, ◌<◌, arith, refl, ◌∙◌, ap, zero, suc, Bool, not, List, [], ◌∷◌, ◌++◌, length, get_or, take, drop, Some, eq-eqb, append-nil, take_all, drop_all, option_and_then_some, remove, option_map, option_and_then}
 
 pub leads-more : (places : List ℕ) (steps : List PathStep) (step : PathStep) (begin path next : List ℕ)
     → PathLeads places begin steps path →

@@ -1,11 +1,8 @@
 -- Steps to a reduced path leave nothing of a path that has no word.
-use Rattle.spoke_paths.proofs.Common.{flat_next, size_of, IsFlatWheel, IsEven as IsEvenPoint, origin, ◌≡◌, ℕ, ◌<◌, ◌∙◌, ap, List, [], All, length, led, empty_state, hyper_next, IsHyperWheel, BelongsTo, turn_word_of}
+use Rattle.spoke_paths.proofs.Common.{flat_next, size_of, IsFlatWheel, IsEven as IsEvenPoint, origin, PathLeads, IsReduced, PathStep, ◌≡◌, ℕ, ◌<◌, ◌∙◌, ap, List, [], All, length, led, empty_state, hyper_next, IsHyperWheel, BelongsTo, turn_word_of}
 use Rattle.flat_forms.specs.Lemmas.FlatLaws.{flat_starts, flat_stays, flat_there_and_back, flat_across}
 use Rattle.turn_words.specs.HyperStates.{IsEven}
 use Rattle.turn_words.specs.Lemmas.HyperLaws.{hyper_starts, hyper_stays, hyper_there_and_back, hyper_across}
-use Rattle.spoke_paths.specs.PathSteps.{PathLeads}
-use Rattle.spoke_paths.specs.ReducedWords.{IsReduced}
-use Rattle.spoke_paths.specs.declared.step.PathStep.{PathStep}
 use Rattle.spoke_paths.proofs.StepsKeep.{spokes-stay-below, state-stays}
 use Rattle.spoke_paths.proofs.ReducedTurns.{hyper-empty}
 use Rattle.spoke_paths.proofs.ReducedPlane.{plane-empty}

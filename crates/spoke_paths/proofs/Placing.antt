@@ -1,7 +1,5 @@
 -- Steps on a path of spokes, told by the spokes before them and behind them.
-use Rattle.spoke_paths.proofs.Common.{◌≡◌, ℕ, zero, suc, ◌+◌, ◌<◌, Bool, true, false, not, List, [], ◌∷◌, ◌++◌, length, set, refl, ap, sym, ◌∙◌, arith, length-append, Option, Some, remove, IsQuad, add}
-use Rattle.spoke_paths.specs.PathSteps.{quad_turned, spur_goes, from_spoke}
-use Rattle.spoke_paths.specs.PathTurns.{from_vertex}
+use Rattle.spoke_paths.proofs.Common.{quad_turned, spur_goes, from_spoke, from_vertex, ◌≡◌, ℕ, zero, suc, ◌+◌, ◌<◌, Bool, true, false, not, List, [], ◌∷◌, ◌++◌, length, set, refl, ap, sym, ◌∙◌, arith, length-append, Option, Some, remove, IsQuad, add}
 use Rattle.spoke_paths.proofs.StepsKeep.{mapped-is, spur-is}
 pub use Rattle.spoke_paths.proofs.StepsKeep.{old_way, new_way, IsTurned, is-turned}
 use Rattle.spoke_paths.proofs.Turning.{turned}

@@ -1,8 +1,7 @@
 -- A reduced path over the degree 4 goes on: along one of the four diagonals each of its steps leads one further.
-use Rattle.spoke_paths.proofs.Common.{parity, IsFlatWheel, flat_next, Vector, origin, plus, less, unit_step, ◌≡◌, ◌≢◌, ℕ, ◌<◌, ◌⊎◌, arith, inl, inr, refl, sym, ◌∙◌, ap, subst, suc, eqb, Bool, true, false, not, List, [], ◌∷◌, All, length, get_or, ℤ, pos, ◌+ℤ◌, ◌-ℤ◌, cases_eq, eq-eqb, ne_eqb, if◌then◌else◌, led, in-range-from, InRange, add-cases, minus-cases, add-lt, minus-lt, add, minus, place_round, turns_after, turn_word_of}
+use Rattle.spoke_paths.proofs.Common.{parity, IsFlatWheel, flat_next, Vector, origin, plus, less, unit_step, closes, HasNoBracket, IsReduced, ◌≡◌, ◌≢◌, ℕ, ◌<◌, ◌⊎◌, arith, inl, inr, refl, sym, ◌∙◌, ap, subst, suc, eqb, Bool, true, false, not, List, [], ◌∷◌, All, length, get_or, ℤ, pos, ◌+ℤ◌, ◌-ℤ◌, cases_eq, eq-eqb, ne_eqb, if◌then◌else◌, led, in-range-from, InRange, add-cases, minus-cases, add-lt, minus-lt, add, minus, place_round, turns_after, turn_word_of}
 use Rattle.flat_forms.specs.Lemmas.StepsInThePlane.{is-unit, parity-plus, parity-less, next-even, next-odd}
 use Rattle.std.proofs.lemmas.Int.{ints}
-use Rattle.spoke_paths.specs.ReducedWords.{closes, HasNoBracket, IsReduced}
 
 -- how far a point lies along the diagonal between a direction and the next one
 abbrev along : ℕ → Vector → ℤ

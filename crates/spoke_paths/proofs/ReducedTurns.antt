@@ -1,9 +1,8 @@
 -- A reduced word whose entries are put one after another leaves a word with an entry.
-use Rattle.spoke_paths.proofs.Common.{◌≡◌, ◌≢◌, ℕ, ◌+◌, ◌<◌, ◌≤◌, inl, inr, arith, refl, sym, ◌∙◌, ap, true, false, List, [], ◌∷◌, All, length, reverse, cases_eq, cases_Bool, eq-eqb, ne_eqb, reverse-reverse, read, state, turns, canonical, led, empty_state, hyper_next, IsHyperWheel, in-range-from, InRange, add-cases, minus-one, minus-two, add-zero, add, minus, turn_word_of}
+use Rattle.spoke_paths.proofs.Common.{closes, HasNoBracket, IsReduced, ◌≡◌, ◌≢◌, ℕ, ◌+◌, ◌<◌, ◌≤◌, inl, inr, arith, refl, sym, ◌∙◌, ap, true, false, List, [], ◌∷◌, All, length, reverse, cases_eq, cases_Bool, eq-eqb, ne_eqb, reverse-reverse, read, state, turns, canonical, led, empty_state, hyper_next, IsHyperWheel, in-range-from, InRange, add-cases, minus-one, minus-two, add-zero, add, minus, turn_word_of}
 use Rattle.turn_words.proofs.Unique.{left, canonical-is-left}
 use Rattle.turn_words.specs.Lemmas.WordEnds.{IsCons, Follows, open-cases, put-flip, put-else}
 use Rattle.turn_words.specs.PutTurns.{Put, is_open, flipped, put}
-use Rattle.spoke_paths.specs.ReducedWords.{closes, HasNoBracket, IsReduced}
 
 -- what is known of the word that is left so far, of the change, and of the turns that come
 data Keeps (d : ℕ) (u : List ℕ) (n : ℕ) (turns : List ℕ) : Type 0 where

@@ -1,9 +1,6 @@
 -- Steps on a path keep what spurs and quads keep: so the spokes below the degree, and the state that spokes lead to, in each form that
 -- meets the laws.
-use Rattle.spoke_paths.proofs.Common.{◌≡◌, ℕ, ◌<◌, arith, subst, ◌++◌, inl, inr, refl, sym, ◌∙◌, ap, ap₂, zero, suc, Bool, true, false, not, eqb, ◌&&◌, List, [], ◌∷◌, All, length, Option, Some, None, cases_Bool, cases_eq, eq-eqb, ne_eqb, eqb-true, ltb-true, and_parts, option_and_then_some, option_map, if◌then◌else◌, IsQuad, StartsWell, StaysWell, ThereAndBack, AcrossQuads, led, in-range-from, all-from, InRange, add-cases, add}
-use Rattle.spoke_paths.specs.PathSteps.{is_quad, upper_way, lower_way, spur_goes, two_become, quad_turned, from_spoke, after_path_step, after_path_steps, PathLeads}
-use Rattle.spoke_paths.specs.declared.step.PathStep.{PathStep}
-use Rattle.spoke_paths.specs.declared.step.PathStep.TheVariants.{Spur, Turn}
+use Rattle.spoke_paths.proofs.Common.{is_quad, upper_way, lower_way, spur_goes, two_become, quad_turned, from_spoke, after_path_step, after_path_steps, PathLeads, PathStep, Spur, Turn, ◌≡◌, ℕ, ◌<◌, arith, subst, ◌++◌, inl, inr, refl, sym, ◌∙◌, ap, ap₂, zero, suc, Bool, true, false, not, eqb, ◌&&◌, List, [], ◌∷◌, All, length, Option, Some, None, cases_Bool, cases_eq, eq-eqb, ne_eqb, eqb-true, ltb-true, and_parts, option_and_then_some, option_map, if◌then◌else◌, IsQuad, StartsWell, StaysWell, ThereAndBack, AcrossQuads, led, in-range-from, all-from, InRange, add-cases, add}
 
 -- what a test of a quad tells
 pub quad-is : (places : List ℕ) (a c : ℕ) → is_quad places a c ≡ true → IsQuad places a c

@@ -1,7 +1,5 @@
 -- Two neighbours of a path that are taken the other way round their quad: which step that is, and what becomes of the turns.
-use Rattle.spoke_paths.proofs.Common.{◌≡◌, ◌≢◌, ℕ, ◌+◌, ◌-◌, ◌%◌, ◌<◌, arith, inl, inr, refl, sym, ◌∙◌, ap, ap₂, zero, suc, Bool, true, false, not, List, [], ◌∷◌, ◌++◌, All, length, get_or, set, Option, Some, cases_eq, eq-eqb, ne_eqb, length-set, get_or-set_same, get_or-set_other, option_map, if◌then◌else◌, minus, place_round, IsWheel}
-use Rattle.spoke_paths.specs.PathSteps.{is_quad, upper_way, lower_way, two_become, quad_turned, from_spoke}
-use Rattle.spoke_paths.specs.PathTurns.{from_vertex, HasQuads, IsTurnedOver}
+use Rattle.spoke_paths.proofs.Common.{is_quad, upper_way, lower_way, two_become, quad_turned, from_spoke, from_vertex, HasQuads, IsTurnedOver, ◌≡◌, ◌≢◌, ℕ, ◌+◌, ◌-◌, ◌%◌, ◌<◌, arith, inl, inr, refl, sym, ◌∙◌, ap, ap₂, zero, suc, Bool, true, false, not, List, [], ◌∷◌, ◌++◌, All, length, get_or, set, Option, Some, cases_eq, eq-eqb, ne_eqb, length-set, get_or-set_same, get_or-set_other, option_map, if◌then◌else◌, minus, place_round, IsWheel}
 use Rattle.spoke_paths.proofs.StepsKeep.{quad-is}
 use Rattle.spoke_paths.proofs.Ways.{changes}
 

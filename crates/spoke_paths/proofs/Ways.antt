@@ -1,7 +1,5 @@
 -- The two ways round a quad, with numbers: what is known of the one, and what the other is.
-use Rattle.spoke_paths.proofs.Common.{◌≡◌, ℕ, ◌<◌, ◌≤◌, arith, refl, sym, ◌∙◌, ap, Bool, true, false, not, List, [], ◌∷◌, length, get_or, eq-eqb, lt-ltb, and_from, if◌then◌else◌, IsQuad, add-cases, minus-cases, add-lt, minus-lt, add, minus, place_round, IsWheel}
-use Rattle.spoke_paths.specs.PathSteps.{is_quad, upper_way, lower_way}
-use Rattle.spoke_paths.specs.PathTurns.{HasQuads}
+use Rattle.spoke_paths.proofs.Common.{is_quad, upper_way, lower_way, HasQuads, ◌≡◌, ℕ, ◌<◌, ◌≤◌, arith, refl, sym, ◌∙◌, ap, Bool, true, false, not, List, [], ◌∷◌, length, get_or, eq-eqb, lt-ltb, and_from, if◌then◌else◌, IsQuad, add-cases, minus-cases, add-lt, minus-lt, add, minus, place_round, IsWheel}
 
 quad-true : (places : List ℕ) (a c : ℕ) → IsQuad places a c → is_quad places a c ≡ true
 quad-true places a c q =

@@ -1,12 +1,11 @@
 -- The spokes of a turn word, and that elementary steps on it keep of them what spurs and quads keep: a spur takes two equal neighbours out,
 -- and a push changes two neighbours across a quad. So lists of spokes are the same where their turn words reach one another.
-use Rattle.spoke_paths.proofs.Common.{◌≡◌, ℕ, zero, suc, ◌<◌, ◌≤◌, Bool, true, false, not, eqb, List, [], ◌∷◌, ◌++◌, length, get_or, refl, ap, ap₂, sym, ◌∙◌, subst, arith, Option, Some, All, eqb-true, ltb-true, cond_some, nat_lt, state, keeps-step, turns, IsQuad, IsHyperWheel, in-range-from, InRange, add-lt, minus-lt, add-zero, add_comm, add_assoc, zero-add, add-minus, add, minus, place_round, turns_after, turn_word_of}
+use Rattle.spoke_paths.proofs.Common.{upper_way, lower_way, ◌≡◌, ℕ, zero, suc, ◌<◌, ◌≤◌, Bool, true, false, not, eqb, List, [], ◌∷◌, ◌++◌, length, get_or, refl, ap, ap₂, sym, ◌∙◌, subst, arith, Option, Some, All, eqb-true, ltb-true, cond_some, nat_lt, state, keeps-step, turns, IsQuad, IsHyperWheel, in-range-from, InRange, add-lt, minus-lt, add-zero, add_comm, add_assoc, zero-add, add-minus, add, minus, place_round, turns_after, turn_word_of}
 use Rattle.surf_model.proofs.ContextLemmas.{first_answer}
 use Rattle.turn_words.proofs.Reaching.{start-sound}
 use Rattle.turn_words.specs.StepTable.{next_changed, spur_in, spur_out, pushed, from_place, after_step, after_steps, Reaches}
 use Rattle.turn_words.specs.declared.step.Step.{Step}
 use Rattle.turn_words.specs.declared.step.Step.TheVariants.{SpurIn, SpurOut, Push}
-use Rattle.spoke_paths.specs.PathSteps.{upper_way, lower_way}
 use Rattle.spoke_paths.proofs.StepsKeep.{KeepsSteps, ways-same, mapped-is}
 
 -- a wheel of spokes with the quads of a polygon: places are undone by `spoke_at`, and each number has a partner with which it makes a quad

@@ -1,7 +1,5 @@
 -- One write after another.
-use Rattle.surf_io.proofs.Common.{◌≡◌, ℕ, ◌+◌, ◌-◌, ◌≤◌, List, ◌++◌, length, take, drop, Option, None, Some, refl, sym, ap, ◌∙◌, subst, arith, length-append, take-add, take-append-add, take_rest, take-append-le, length-drop, Result, Ok, Err, OnErr, append_assoc}
-use Rattle.surf_io.specs.Bytes.{append_told, Appends, AppendsPrefix}
-use Rattle.surf_io.specs.Calls.{WroteAll, WrotePart}
+use Rattle.surf_io.proofs.Common.{◌≡◌, ℕ, ◌+◌, ◌-◌, ◌≤◌, List, ◌++◌, length, take, drop, Option, None, Some, refl, sym, ap, ◌∙◌, subst, arith, length-append, take-add, take-append-add, take_rest, take-append-le, length-drop, Result, Ok, Err, OnErr, append_told, Appends, AppendsPrefix, WroteAll, WrotePart, append_assoc}
 
 pub append_told-append : (old : Option (List ℕ)) (xs ys : List ℕ) → append_told (append_told old xs) ys ≡ append_told old (xs ++ ys)
 append_told-append None xs ys = refl

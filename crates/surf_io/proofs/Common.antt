@@ -1,4 +1,4 @@
--- What proofs of this crate cite of others, passed on from one place (by tools/imports). Declares nothing.
+-- What proofs of this crate cite of its definitions and of other crates, passed on from one place (by tools/imports). Declares nothing.
 pub use Rattle.std.proofs.Common.{IfSome, List, None, Option, Some, add-one, ap, arith, cond, drop, false, length, map, min, nat_eq, negsuc, of_z, pos, refl, set, string_bytes, subst, sym, take, to_z, true, vec_len, w64, ℕ, ℤ, [], ◌%◌, ◌++◌, ◌+◌, ◌-◌, ◌/◌, ◌<◌, ◌^◌, ◌∙◌, ◌∷◌, ◌≡◌, ◌≤◌}
 pub use Rattle.std.proofs.Math.ListN.{length-append}
 pub use Rattle.std.proofs.Math.Seq.{take-add, take-append-add, take-suc}
@@ -12,5 +12,10 @@ pub use Rattle.std.specs.Fmt.{decimal, signed_decimal}
 pub use Rattle.std.specs.Ordering.{eq_by_cmp, nat_cmp}
 pub use Rattle.std.specs.Prelude.{Err, Ok, OnErr, OnOk, Result, flat_map, slice_get}
 pub use Rattle.std.specs.VecDeque.Iter.{deque_iter_rest}
+pub use Rattle.surf_io.specs.Bytes.{Appends, AppendsPrefix, append_told}
+pub use Rattle.surf_io.specs.Calls.{OnlyWrites, WroteAll, WrotePart}
+pub use Rattle.surf_io.specs.Files.{GivesFrom, file_of}
+pub use Rattle.surf_io.specs.Gathered.{Gathers, Puts, spaced}
+pub use Rattle.surf_io.specs.Stored.{entry_of}
 pub use lib.IntN.{nat_abs}
 pub use mathlib.Core.List.{append_assoc}

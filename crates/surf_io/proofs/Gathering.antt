@@ -1,15 +1,12 @@
 -- Bytes that are gathered in a piece, one after another.
-use Rattle.surf_io.proofs.Common.{◌≡◌, ℕ, ◌+◌, ◌≤◌, List, [], ◌∷◌, ◌++◌, length, take, drop, add-one, refl, sym, ap, subst, ◌∙◌, arith, take-suc, append-nil, take_all, take-append-drop, slice_get_within, get_or_from_slice_get, flat_map, slice_get, Result, Ok, Err, OnOk, OnErr}
+use Rattle.surf_io.proofs.Common.{◌≡◌, ℕ, ◌+◌, ◌≤◌, List, [], ◌∷◌, ◌++◌, length, take, drop, add-one, refl, sym, ap, subst, ◌∙◌, arith, take-suc, append-nil, take_all, take-append-drop, slice_get_within, get_or_from_slice_get, flat_map, slice_get, Result, Ok, Err, OnOk, OnErr, append_told, Appends, AppendsPrefix, OnlyWrites, WroteAll, WrotePart, Gathers, Puts, spaced}
 use Rattle.std.proofs.Common.{append_assoc}
 use Rattle.std.proofs.lemmas.List.Concat.{flat_map-append}
 use Rattle.std.specs.List.{join_with_byte}
 use Rattle.std.specs.Prelude.{Option, Some, None, decimal, map}
-use Rattle.text_scan.specs.Plain.{line_of}
-use Rattle.surf_io.specs.Bytes.{append_told, Appends, AppendsPrefix}
-use Rattle.surf_io.specs.Calls.{OnlyWrites, WroteAll, WrotePart}
-use Rattle.surf_io.specs.Gathered.{Gathers, Puts, spaced}
-use Rattle.surf_io.proofs.Appending.{appends_twice, part_after, part_last, prefix_wider, on_err}
 use Rattle.surf_io.specs.Faults.{Rose}
+use Rattle.text_scan.specs.Plain.{line_of}
+use Rattle.surf_io.proofs.Appending.{appends_twice, part_after, part_last, prefix_wider, on_err}
 
 pub on_ok : {X Y P Q : Type 0} (result : Result X Y) → (P → Q) → OnOk result P → OnOk result Q
 on_ok (Ok x) f p = f p

@@ -1,6 +1,5 @@
 -- Reading a file in pieces.
-use Rattle.surf_io.proofs.Common.{◌≡◌, ℕ, ◌+◌, ◌≤◌, List, ◌++◌, length, take, drop, Option, None, Some, IfSome, arith, sym, ap, ◌∙◌, take-add, take-append-add, length-drop, length-take, length-take-le, take-take, take-append-le, append_assoc}
-use Rattle.surf_io.specs.Files.{GivesFrom}
+use Rattle.surf_io.proofs.Common.{◌≡◌, ℕ, ◌+◌, ◌≤◌, List, ◌++◌, length, take, drop, Option, None, Some, IfSome, arith, sym, ap, ◌∙◌, take-add, take-append-add, length-drop, length-take, length-take-le, take-take, take-append-le, GivesFrom, append_assoc}
 
 -- the first `filled` bytes are the file's
 abbrev pub IsReadUpTo : ℕ → List ℕ → List ℕ → Type 0

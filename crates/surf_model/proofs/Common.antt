@@ -1,4 +1,4 @@
--- What proofs of this crate cite of others, passed on from one place (by tools/imports). Declares nothing.
+-- What proofs of this crate cite of its definitions and of other crates, passed on from one place (by tools/imports). Declares nothing.
 pub use Rattle.std.proofs.Common.{Bool, Err, List, Ok, add-one, ap, append_assoc, ap₂, arith, cond, drop, eqb, false, get_or, inl, inr, length, length-append, ltb, map, max, min, not, refl, replicate, rules, set, slice_index_or, subst, suc, sym, take, true, vec_capacity, zero, ℕ, [], ◌&&◌, ◌*◌, ◌++◌, ◌+◌, ◌-◌, ◌/◌, ◌<◌, ◌||◌, ◌↔◌, ◌∙◌, ◌∷◌, ◌≡◌, ◌≢◌, ◌≤◌, ◌⊎◌}
 pub use Rattle.std.proofs.Math.Seq.{take-append-add}
 pub use Rattle.std.proofs.lemmas.Bool.{and_from, and_parts, both_ways, cases_Bool, cases_eq, cases_lt, cases_order, cond-false, cond-true, eq-eqb, eqb-true, false_from_ne_true, le-leb, le-ltb, leb-true, lt-ltb, ltb-true, or_cases, or_left, or_right}
@@ -16,3 +16,32 @@ pub use Rattle.std.specs.List.{enumerate_from, list_any, range_with_len}
 pub use Rattle.std.specs.List.Sorted.{IsNonDecreasingBy, IsPermutation, IsSortedByKey, IsStableByKey, ties}
 pub use Rattle.std.specs.Ordering.{is_lt, nat_cmp}
 pub use Rattle.std.specs.Prelude.{All, AllPairs, Any, Contains, IfOk, IsTrue, None, Option, Result, Some, filter, flat_map, if◌then◌else◌, nat_eq, nat_le, nat_lt, option_and_then, sum, sum_by, ◌==◌}
+pub use Rattle.surf_model.specs.Blocks.{AreBlocks, block_of, ended_side, side_block, sides_in_blocks}
+pub use Rattle.surf_model.specs.Building.{AppendsGroup, AreGrouped, IsCounted, IsCutGroup, IsLasts, IsPartSorted, IsPlaced, IsRun, IsStarts, IsTableBelow, count_below, entry_of, group_among, group_of, has_ends, has_high, high_at, side_of_number}
+unfoldable pub use Rattle.surf_model.specs.Building.{high_end, low_end}
+pub use Rattle.surf_model.specs.Darts.{IsSide, first_side, head_of, side_number, tail_of}
+pub use Rattle.surf_model.specs.EdgeDarts.{IsNextInEdge, darts_of}
+pub use Rattle.surf_model.specs.EdgeLists.{DartEdge, IsEdgeList, dart_count, dart_edge_in, dart_of, stored_edges, zipped_edges}
+pub use Rattle.surf_model.specs.Edges.{Edge, HasEnds, IsEdgeOf, IsEndOf, IsPairBefore, IsTableOf, edge_in, side_name}
+pub use Rattle.surf_model.specs.FaceLists.{FaceList, FaceSide, IsFace, IsFaceList, PendingFace, corners_from, face_at, joins, next_corner, sides_of_face, total_sides}
+unfoldable pub use Rattle.surf_model.specs.FaceLists.{all_sides, is_edge, is_used}
+pub use Rattle.surf_model.specs.FreeWalks.{AreFreelyEqual, HasNoSpur, IsAlongTree, IsSpurMove, RankFalls}
+pub use Rattle.surf_model.specs.Links.{IsLinked, dart_at, edge_at, is_end}
+pub use Rattle.surf_model.specs.Moves.{apply_all, replaced, same_walk}
+unfoldable pub use Rattle.surf_model.specs.Moves.{apply}
+pub use Rattle.surf_model.specs.Parts.{EndsRise, IsInPart, IsPartList, equal_ends, joined_ends, last_end, parts}
+pub use Rattle.surf_model.specs.Replacements.{IsReplacement, Replaces, place_of}
+pub use Rattle.surf_model.specs.Rewriting.{all_raised, inverse_of, raised, sides_of_move, way_back}
+pub use Rattle.surf_model.specs.StoredEdges.{IsNumbering, IsStoredTable, named_edge, named_edges, part_of, side_numbered}
+pub use Rattle.surf_model.specs.Surfaces.{ArePartners, sides_between}
+pub use Rattle.surf_model.specs.Vertices.{numbers}
+pub use Rattle.surf_model.specs.Walks.{HaveCommonEnds, IsWalk, darts}
+pub use Rattle.surf_model.specs.declared.blocks.EndedSide.{EndedSide}
+pub use Rattle.surf_model.specs.declared.edge_list.EdgeEnds.{EdgeEnds}
+pub use Rattle.surf_model.specs.declared.edge_list.SideEntry.{SideEntry}
+pub use Rattle.surf_model.specs.declared.edges.Side.{Side}
+pub use Rattle.surf_model.specs.declared.limits.TheConstants.{MOST_SIDES}
+pub use Rattle.surf_model.specs.declared.moves.Move.{Move}
+pub use Rattle.surf_model.specs.declared.moves.Move.TheVariants.{Across, Insert, Remove}
+pub use Rattle.surf_model.specs.declared.names.DartName.{DartName}
+pub use Rattle.surf_model.specs.declared.names.VertexName.{VertexName}

@@ -1,11 +1,5 @@
 -- Moves in a longer walk: what stands in front and behind stays.
-use Rattle.surf_model.proofs.Common.{◌≡◌, ℕ, ◌+◌, ◌<◌, List, [], ◌∷◌, ◌++◌, length, refl, ap, sym, ◌∙◌, arith, append_assoc, length-append, Option, Some, None, option_and_then}
-use Rattle.surf_model.specs.FaceLists.{FaceList}
-use Rattle.surf_model.specs.Moves.{apply, apply_all}
-use Rattle.surf_model.specs.Replacements.{Replaces, place_of}
-use Rattle.surf_model.specs.Rewriting.{raised, all_raised}
-use Rattle.surf_model.specs.declared.moves.Move.{Move}
-use Rattle.surf_model.specs.declared.moves.Move.TheVariants.{Insert, Remove, Across}
+use Rattle.surf_model.proofs.Common.{◌≡◌, ℕ, ◌+◌, ◌<◌, List, [], ◌∷◌, ◌++◌, length, refl, ap, sym, ◌∙◌, arith, append_assoc, length-append, Option, Some, None, option_and_then, FaceList, apply, apply_all, Replaces, place_of, raised, all_raised, Move, Insert, Remove, Across}
 use Rattle.surf_model.proofs.ReplacementLemmas.{by_replacing, length-corners_from}
 
 replaces_raised : (mesh : FaceList) (k : ℕ) (move : Move) (part other : List ℕ) → Replaces mesh move part other

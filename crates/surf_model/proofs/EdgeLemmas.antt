@@ -1,8 +1,5 @@
 -- Edges of a mesh without its table: both ways, between used vertices, and round each face.
-use Rattle.surf_model.proofs.Common.{◌≡◌, ◌≢◌, ◌⊎◌, inl, inr, ℕ, ◌<◌, Bool, true, false, eqb, List, [], length, get_or, refl, sym, ◌∙◌, subst, arith, eqb-true, nat_tests, Any-from_list_any, list_any-from_Any, list_any, Contains}
-use Rattle.surf_model.specs.FaceLists.{FaceList, FaceSide, IsFace, IsFaceList, face_at, all_sides, next_corner, joins, is_edge, is_used}
-use Rattle.surf_model.specs.Darts.{IsSide, tail_of, head_of}
-use Rattle.surf_model.specs.declared.edges.Side.{Side}
+use Rattle.surf_model.proofs.Common.{◌≡◌, ◌≢◌, ◌⊎◌, inl, inr, ℕ, ◌<◌, Bool, true, false, eqb, List, [], length, get_or, refl, sym, ◌∙◌, subst, arith, eqb-true, nat_tests, Any-from_list_any, list_any-from_Any, list_any, Contains, IsSide, tail_of, head_of, FaceList, FaceSide, IsFace, IsFaceList, face_at, all_sides, next_corner, joins, is_edge, is_used, Side}
 use Rattle.surf_model.proofs.NumberLemmas.{face_side}
 use Rattle.surf_model.proofs.TableLemmas.{joins_swap, list_any_agree, joins_names, names, names_mesh, face_side_in, next_within}
 

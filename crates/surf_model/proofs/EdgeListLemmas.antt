@@ -1,12 +1,6 @@
 -- What reading and growing a stored list of edges needs, said of the plain lists.
-use Rattle.surf_model.proofs.Common.{◌≡◌, ℕ, zero, suc, ◌+◌, ◌-◌, ◌<◌, ◌≤◌, List, [], ◌∷◌, ◌++◌, length, map, get_or, take, drop, refl, ap, sym, ◌∙◌, subst, arith, length-append, get_or-map, get_or-take, get_or-drop, length-take-le, length-drop, length-map, length_push, sum_by-cons, sum_by}
-use Rattle.surf_model.specs.Parts.{parts, EndsRise}
-use Rattle.surf_model.specs.EdgeLists.{DartEdge, dart_edge_in, dart_count, dart_of, zipped_edges, stored_edges, IsEdgeList}
-use Rattle.surf_model.specs.declared.edge_list.EdgeEnds.{EdgeEnds}
-use Rattle.surf_model.specs.declared.edge_list.SideEntry.{SideEntry}
-use Rattle.surf_model.specs.declared.names.DartName.{DartName}
+use Rattle.surf_model.proofs.Common.{◌≡◌, ℕ, zero, suc, ◌+◌, ◌-◌, ◌<◌, ◌≤◌, List, [], ◌∷◌, ◌++◌, length, map, get_or, take, drop, refl, ap, sym, ◌∙◌, subst, arith, length-append, get_or-map, get_or-take, get_or-drop, length-take-le, length-drop, length-map, length_push, sum_by-cons, sum_by, DartEdge, dart_edge_in, dart_count, dart_of, zipped_edges, stored_edges, IsEdgeList, parts, EndsRise, EdgeEnds, SideEntry, MOST_SIDES, DartName}
 use Rattle.surf_model.proofs.PartsLemmas.{length-parts, get_or-parts, part_within, parts-push, EndsRise-push, sum_by-parts}
-use Rattle.surf_model.specs.declared.limits.TheConstants.{MOST_SIDES}
 use Rattle.surf_model.proofs.FilterLemmas.{map-map}
 
 -- the edge with these ends whose sides are these

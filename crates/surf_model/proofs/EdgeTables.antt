@@ -1,9 +1,7 @@
 -- Each face list has a table of its edges: pair after pair of vertices, the edges among them.
-use Rattle.surf_model.proofs.Common.{◌≡◌, ◌⊎◌, inl, inr, ℕ, zero, suc, ◌<◌, Bool, true, List, [], ◌∷◌, ◌++◌, length, get_or, refl, sym, ◌∙◌, subst, arith, cases_Bool, cases_eq, cases_lt, both_ways, nat_tests, get_or_append_left, length-map, All-nil, All-cons, All-append, All-weaker, list_any_at, Any-push, all_pairs_push, list_any, filter, All, AllPairs, Any}
+use Rattle.surf_model.proofs.Common.{◌≡◌, ◌⊎◌, inl, inr, ℕ, zero, suc, ◌<◌, Bool, true, List, [], ◌∷◌, ◌++◌, length, get_or, refl, sym, ◌∙◌, subst, arith, cases_Bool, cases_eq, cases_lt, both_ways, nat_tests, get_or_append_left, length-map, All-nil, All-cons, All-append, All-weaker, list_any_at, Any-push, all_pairs_push, list_any, filter, All, AllPairs, Any, Edge, IsEdgeOf, IsPairBefore, IsTableOf, side_name, FaceList, FaceSide, IsFaceList, all_sides, joins, is_edge}
 use Rattle.std.proofs.lemmas.List.{length-append}
 use Rattle.std.specs.Prelude.{map}
-use Rattle.surf_model.specs.FaceLists.{FaceList, FaceSide, IsFaceList, all_sides, joins, is_edge}
-use Rattle.surf_model.specs.Edges.{Edge, IsEdgeOf, IsPairBefore, IsTableOf, side_name}
 use Rattle.surf_model.proofs.EdgeLemmas.{edge_swap, tail_used, head_used, ends_differ, used_below}
 use Rattle.surf_model.proofs.ListedLemmas.{IsListed, all_listed}
 

@@ -1,11 +1,5 @@
 -- Spur moves leave a walk the same up to spurs, so walks without spurs to which they lead are equal.
-use Rattle.surf_model.proofs.Common.{◌≡◌, ℕ, suc, ◌<◌, List, [], ◌∷◌, ◌++◌, length, refl, ap, sym, ◌∙◌, subst, arith, append_assoc, All-nil, All-cons, All-append, All-map, All, Some}
-use Rattle.surf_model.specs.FaceLists.{FaceList}
-use Rattle.surf_model.specs.Moves.{apply, apply_all}
-use Rattle.surf_model.specs.Rewriting.{raised, all_raised, inverse_of, sides_of_move, way_back}
-use Rattle.surf_model.specs.FreeWalks.{HasNoSpur, IsSpurMove, AreFreelyEqual}
-use Rattle.surf_model.specs.declared.moves.Move.{Move}
-use Rattle.surf_model.specs.declared.moves.Move.TheVariants.{Insert, Remove, Across}
+use Rattle.surf_model.proofs.Common.{◌≡◌, ℕ, suc, ◌<◌, List, [], ◌∷◌, ◌++◌, length, refl, ap, sym, ◌∙◌, subst, arith, append_assoc, All-nil, All-cons, All-append, All-map, All, Some, FaceList, HasNoSpur, IsSpurMove, AreFreelyEqual, apply, apply_all, raised, all_raised, inverse_of, sides_of_move, way_back, Move, Insert, Remove, Across}
 use Rattle.surf_model.proofs.ReplacementLemmas.{by_replacing}
 use Rattle.surf_model.proofs.ContextLemmas.{first_answer, stays_walk}
 use Rattle.surf_model.proofs.StackLemmas.{AreSame, all_put, same_after, spur_same, same_equal}

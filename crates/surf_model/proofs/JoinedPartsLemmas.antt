@@ -1,8 +1,7 @@
 -- Where parts end of which the first have one size and are not listed.
-use Rattle.surf_model.proofs.Common.{◌≡◌, ◌⊎◌, inl, inr, ℕ, zero, suc, ◌+◌, ◌-◌, ◌*◌, ◌<◌, ◌≤◌, List, [], ◌∷◌, ◌++◌, length, map, get_or, refl, ap, sym, ◌∙◌, subst, add-one, arith, length-append, cases_lt, append-nil, map-append, length-map, length_push, get_or-map, get_or_append_left, get_or_push, nil_from_length}
+use Rattle.surf_model.proofs.Common.{◌≡◌, ◌⊎◌, inl, inr, ℕ, zero, suc, ◌+◌, ◌-◌, ◌*◌, ◌<◌, ◌≤◌, List, [], ◌∷◌, ◌++◌, length, map, get_or, refl, ap, sym, ◌∙◌, subst, add-one, arith, length-append, cases_lt, append-nil, map-append, length-map, length_push, get_or-map, get_or_append_left, get_or_push, nil_from_length, last_end, IsInPart, equal_ends, joined_ends}
 use Rattle.std.proofs.Math.Seq.{get_or-append_right}
 use Rattle.std.proofs.lemmas.List.{append_assoc}
-use Rattle.surf_model.specs.Parts.{last_end, IsInPart, equal_ends, joined_ends}
 
 pub times_rises : (s m n : ℕ) → m ≤ n → s * m ≤ s * n
 times_rises s m n le =

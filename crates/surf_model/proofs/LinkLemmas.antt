@@ -1,7 +1,5 @@
 -- Walks as lists in which neighbours form edges: what stands in the middle may be replaced where it begins and ends alike.
-use Rattle.surf_model.proofs.Common.{◌≡◌, ℕ, zero, suc, ◌+◌, ◌<◌, Bool, List, [], ◌∷◌, ◌++◌, length, get_or, subst, arith, IsTrue, All}
-use Rattle.surf_model.specs.FaceLists.{FaceList, face_at, corners_from, next_corner, is_edge, is_used}
-use Rattle.surf_model.specs.Walks.{IsWalk}
+use Rattle.surf_model.proofs.Common.{◌≡◌, ℕ, zero, suc, ◌+◌, ◌<◌, Bool, List, [], ◌∷◌, ◌++◌, length, get_or, subst, arith, IsTrue, All, FaceList, face_at, corners_from, next_corner, is_edge, is_used, IsWalk}
 use Rattle.surf_model.proofs.EdgeLemmas.{step_edge, step_within, corner_used}
 
 -- neighbours form edges

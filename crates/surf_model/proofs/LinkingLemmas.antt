@@ -1,10 +1,5 @@
 -- A side is linked to its edge and to the next side of that edge.
-use Rattle.surf_model.proofs.Common.{◌≡◌, ◌≢◌, inl, inr, ℕ, ◌<◌, true, List, length, get_or, set, refl, ap, sym, ◌∙◌, subst, cases_eq, get_or-set_same, get_or-set_other}
-use Rattle.surf_model.specs.FaceLists.{next_corner}
-use Rattle.surf_model.specs.EdgeLists.{DartEdge, dart_edge_in}
-use Rattle.surf_model.specs.Links.{edge_at, dart_at, IsLinked}
-use Rattle.surf_model.specs.declared.edge_list.SideEntry.{SideEntry}
-use Rattle.surf_model.specs.declared.names.DartName.{DartName}
+use Rattle.surf_model.proofs.Common.{◌≡◌, ◌≢◌, inl, inr, ℕ, ◌<◌, true, List, length, get_or, set, refl, ap, sym, ◌∙◌, subst, cases_eq, get_or-set_same, get_or-set_other, DartEdge, dart_edge_in, next_corner, edge_at, dart_at, IsLinked, SideEntry, DartName}
 
 abbrev none : SideEntry
 none = record { key = 0; dart = record { 0 = 0 } }

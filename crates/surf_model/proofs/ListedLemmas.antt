@@ -1,10 +1,5 @@
 -- The entries of the list of all sides are the sides of the mesh, and two entries with one edge are partners.
-use Rattle.surf_model.proofs.Common.{◌≡◌, ◌≢◌, ◌⊎◌, inl, inr, ℕ, suc, ◌+◌, ◌-◌, ◌<◌, ◌≤◌, true, List, [], ◌∷◌, ◌++◌, length, get_or, refl, ap, sym, ◌∙◌, subst, arith, nat_tests, All-nil, All-append, All-weaker, All-filter, filter_passes, AllPairs-filter, AllPairs-cons, enumerate_from, All, AllPairs, filter, flat_map}
-use Rattle.surf_model.specs.FaceLists.{FaceList, FaceSide, face_at, all_sides, sides_of_face, joins}
-use Rattle.surf_model.specs.Edges.{side_name}
-use Rattle.surf_model.specs.Darts.{IsSide, tail_of, head_of}
-use Rattle.surf_model.specs.Surfaces.{ArePartners}
-use Rattle.surf_model.specs.declared.edges.Side.{Side}
+use Rattle.surf_model.proofs.Common.{◌≡◌, ◌≢◌, ◌⊎◌, inl, inr, ℕ, suc, ◌+◌, ◌-◌, ◌<◌, ◌≤◌, true, List, [], ◌∷◌, ◌++◌, length, get_or, refl, ap, sym, ◌∙◌, subst, arith, nat_tests, All-nil, All-append, All-weaker, All-filter, filter_passes, AllPairs-filter, AllPairs-cons, enumerate_from, All, AllPairs, filter, flat_map, IsSide, tail_of, head_of, side_name, FaceList, FaceSide, face_at, all_sides, sides_of_face, joins, ArePartners, Side}
 use Rattle.surf_model.proofs.NumberLemmas.{face_side, length-sides_of_face, get_or-sides_of_face}
 
 -- a side of the faces from number n on

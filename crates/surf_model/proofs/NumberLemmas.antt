@@ -1,6 +1,5 @@
 -- The sides of a mesh, numbered face after face.
-use Rattle.surf_model.proofs.Common.{◌≡◌, ℕ, ◌+◌, ◌<◌, ◌≤◌, true, List, [], ◌∷◌, ◌++◌, length, get_or, take, drop, refl, ap, sym, ◌∙◌, arith, length-append, append-nil, length-map, take_more, take_all, take-append-drop, flat_map-append, length-range_with_len, get_or-map-range_with_len, length-enumerate_from, get_or-enumerate_from, sum_by-cons, enumerate_from, range_with_len, flat_map, sum_by}
-use Rattle.surf_model.specs.FaceLists.{FaceList, FaceSide, face_at, all_sides, sides_of_face, next_corner, total_sides}
+use Rattle.surf_model.proofs.Common.{◌≡◌, ℕ, ◌+◌, ◌<◌, ◌≤◌, true, List, [], ◌∷◌, ◌++◌, length, get_or, take, drop, refl, ap, sym, ◌∙◌, arith, length-append, append-nil, length-map, take_more, take_all, take-append-drop, flat_map-append, length-range_with_len, get_or-map-range_with_len, length-enumerate_from, get_or-enumerate_from, sum_by-cons, enumerate_from, range_with_len, flat_map, sum_by, FaceList, FaceSide, face_at, all_sides, sides_of_face, next_corner, total_sides}
 
 -- side t of a face
 abbrev pub face_side : ℕ → List ℕ → ℕ → FaceSide

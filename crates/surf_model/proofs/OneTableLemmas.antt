@@ -1,9 +1,5 @@
 -- A mesh has one table, and the sides in it are the sides of the mesh.
-use Rattle.surf_model.proofs.Common.{◌≡◌, ◌⊎◌, inl, inr, ℕ, zero, suc, ◌+◌, ◌-◌, ◌<◌, ◌≤◌, ◌↔◌, Bool, true, List, [], ◌∷◌, length, map, get_or, refl, ap, sym, ◌∙◌, subst, arith, nat_tests, length-map, All-nil, All-append, All-weaker, All-map, All-filter, All-contains, All-contains_itself, Contains-get_or, filter_passes, enumerate_from, All, AllPairs, Any, Contains, filter, flat_map}
-use Rattle.surf_model.specs.FaceLists.{FaceList, FaceSide, all_sides, sides_of_face, joins}
-use Rattle.surf_model.specs.Edges.{Edge, IsTableOf, IsEdgeOf, IsPairBefore, side_name}
-use Rattle.surf_model.specs.Darts.{IsSide}
-use Rattle.surf_model.specs.declared.edges.Side.{Side}
+use Rattle.surf_model.proofs.Common.{◌≡◌, ◌⊎◌, inl, inr, ℕ, zero, suc, ◌+◌, ◌-◌, ◌<◌, ◌≤◌, ◌↔◌, Bool, true, List, [], ◌∷◌, length, map, get_or, refl, ap, sym, ◌∙◌, subst, arith, nat_tests, length-map, All-nil, All-append, All-weaker, All-map, All-filter, All-contains, All-contains_itself, Contains-get_or, filter_passes, enumerate_from, All, AllPairs, Any, Contains, filter, flat_map, IsSide, Edge, IsTableOf, IsEdgeOf, IsPairBefore, side_name, FaceList, FaceSide, all_sides, sides_of_face, joins, Side}
 use Rattle.surf_model.proofs.NumberLemmas.{length-sides_of_face, get_or-sides_of_face}
 use Rattle.surf_model.proofs.TableLemmas.{has_side}
 

@@ -1,10 +1,5 @@
 -- Which sides are the two sides of one edge, said of the table of the mesh.
-use Rattle.surf_model.proofs.Common.{◌≡◌, ◌⊎◌, inl, inr, ℕ, suc, ◌+◌, ◌-◌, ◌<◌, Bool, true, List, [], ◌∷◌, ◌++◌, length, get_or, take, refl, ap, sym, ◌∙◌, subst, arith, length-append, cases_lt, nat_tests, length-map, get_or-map, get_or_default, get_or_append_left, get_or-append_right, All-filter, filter_passes, All-contains, AllPairs-filter, sum_by-cons, enumerate_from, AllPairs, Any, Contains, filter, flat_map, sum_by}
-use Rattle.surf_model.specs.FaceLists.{FaceList, FaceSide, face_at, all_sides, joins}
-use Rattle.surf_model.specs.Edges.{Edge, IsTableOf, IsEdgeOf, side_name, edge_in}
-use Rattle.surf_model.specs.Darts.{IsSide, side_number, tail_of, head_of}
-use Rattle.surf_model.specs.Surfaces.{ArePartners}
-use Rattle.surf_model.specs.declared.edges.Side.{Side}
+use Rattle.surf_model.proofs.Common.{◌≡◌, ◌⊎◌, inl, inr, ℕ, suc, ◌+◌, ◌-◌, ◌<◌, Bool, true, List, [], ◌∷◌, ◌++◌, length, get_or, take, refl, ap, sym, ◌∙◌, subst, arith, length-append, cases_lt, nat_tests, length-map, get_or-map, get_or_default, get_or_append_left, get_or-append_right, All-filter, filter_passes, All-contains, AllPairs-filter, sum_by-cons, enumerate_from, AllPairs, Any, Contains, filter, flat_map, sum_by, IsSide, side_number, tail_of, head_of, Edge, IsTableOf, IsEdgeOf, side_name, edge_in, FaceList, FaceSide, face_at, all_sides, joins, ArePartners, Side}
 use Rattle.surf_model.proofs.NumberLemmas.{face_side, sides_at, length-sides_of_face, get_or-sides_of_face}
 use Rattle.surf_model.proofs.TableLemmas.{face_side_in, Contains-filter}
 

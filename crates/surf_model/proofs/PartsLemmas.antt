@@ -1,7 +1,5 @@
 -- A list of lists kept as one list and the places where its parts end.
-use Rattle.surf_model.proofs.Common.{◌≡◌, inl, inr, ℕ, zero, suc, ◌+◌, ◌-◌, ◌*◌, ◌/◌, ◌<◌, ◌≤◌, List, [], ◌∷◌, ◌++◌, length, get_or, take, drop, refl, ap, sym, subst, ◌∙◌, add-one, arith, cases_lt, take-append-le, drop-append-le, length-take-le, length-drop, take_all, drop_at, get_or_append_left, get_or_push, length_push, sum_by-cons, sum_by}
-use Rattle.surf_model.specs.Parts.{parts, EndsRise, last_end, IsInPart, IsPartList}
-use Rattle.surf_model.specs.declared.limits.TheConstants.{MOST_SIDES}
+use Rattle.surf_model.proofs.Common.{◌≡◌, inl, inr, ℕ, zero, suc, ◌+◌, ◌-◌, ◌*◌, ◌/◌, ◌<◌, ◌≤◌, List, [], ◌∷◌, ◌++◌, length, get_or, take, drop, refl, ap, sym, subst, ◌∙◌, add-one, arith, cases_lt, take-append-le, drop-append-le, length-take-le, length-drop, take_all, drop_at, get_or_append_left, get_or_push, length_push, sum_by-cons, sum_by, parts, EndsRise, last_end, IsInPart, IsPartList, MOST_SIDES}
 
 pub length-parts : {A : Type 0} (from : ℕ) (ends : List ℕ) (xs : List A) → length (parts from ends xs) ≡ length ends
 length-parts from [] xs = refl

@@ -1,14 +1,7 @@
 -- The table of moves is a table of replacements.
-use Rattle.surf_model.proofs.Common.{◌≡◌, ℕ, zero, suc, ◌+◌, ◌-◌, ◌<◌, ◌≤◌, Bool, true, false, not, List, [], ◌∷◌, ◌++◌, length, take, drop, get_or, refl, ap, sym, ◌∙◌, arith, append_assoc, length-append, and_parts, ltb-true, leb-true, eqb-true, lt-ltb, le-leb, eq-eqb, take-append-drop, take_at, drop_at, drop-drop, drop_more, take_more, length-take-le, get_or-append-add, ◌==◌, nat_eq, nat_lt, nat_le, Some, None}
+use Rattle.surf_model.proofs.Common.{◌≡◌, ℕ, zero, suc, ◌+◌, ◌-◌, ◌<◌, ◌≤◌, Bool, true, false, not, List, [], ◌∷◌, ◌++◌, length, take, drop, get_or, refl, ap, sym, ◌∙◌, arith, append_assoc, length-append, and_parts, ltb-true, leb-true, eqb-true, lt-ltb, le-leb, eq-eqb, take-append-drop, take_at, drop_at, drop-drop, drop_more, take_more, length-take-le, get_or-append-add, ◌==◌, nat_eq, nat_lt, nat_le, Some, None, FaceList, face_at, corners_from, next_corner, is_edge, apply, replaced, same_walk, IsReplacement, darts, Move, Insert, Remove, Across, VertexName}
 use Rattle.std.specs.Prelude.{◌↔◌, ◌&&◌, cond}
 use lib.Pointwise.{bytes_decides}
-use Rattle.surf_model.specs.FaceLists.{FaceList, face_at, corners_from, next_corner, is_edge}
-use Rattle.surf_model.specs.Walks.{darts}
-use Rattle.surf_model.specs.Moves.{apply, replaced, same_walk}
-use Rattle.surf_model.specs.Replacements.{IsReplacement}
-use Rattle.surf_model.specs.declared.moves.Move.{Move}
-use Rattle.surf_model.specs.declared.moves.Move.TheVariants.{Insert, Remove, Across}
-use Rattle.surf_model.specs.declared.names.VertexName.{VertexName}
 
 -- a list is its first entries, the n after them, and the rest
 in_three : (walk : List ℕ) (at n : ℕ) → walk ≡ take at walk ++ take n (drop at walk) ++ drop (at + n) walk

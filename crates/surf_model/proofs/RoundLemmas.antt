@@ -1,6 +1,5 @@
 -- Reading the corners of a face: where k steps lead, and that as many more the other way lead to the same corner.
-use Rattle.surf_model.proofs.Common.{◌≡◌, inl, inr, ℕ, zero, suc, ◌+◌, ◌-◌, ◌<◌, ◌≤◌, Bool, true, false, not, List, [], ◌∷◌, ◌++◌, length, get_or, refl, ap, sym, ◌∙◌, arith, cases_lt, nat_tests}
-use Rattle.surf_model.specs.FaceLists.{next_corner, corners_from}
+use Rattle.surf_model.proofs.Common.{◌≡◌, inl, inr, ℕ, zero, suc, ◌+◌, ◌-◌, ◌<◌, ◌≤◌, Bool, true, false, not, List, [], ◌∷◌, ◌++◌, length, get_or, refl, ap, sym, ◌∙◌, arith, cases_lt, nat_tests, next_corner, corners_from}
 
 -- the corner that k steps from corner t lead to, of m corners
 abbrev pub corner_after : Bool → ℕ → ℕ → ℕ → ℕ

@@ -1,7 +1,6 @@
 -- Free reduction by a stack: each vertex of a walk is put on top, save where it undoes the one put last, which is taken off.
 -- Two lists that leave every stack alike are the same up to spurs.
-use Rattle.surf_model.proofs.Common.{◌≡◌, ◌≢◌, inl, inr, ℕ, zero, suc, ◌+◌, ◌-◌, ◌<◌, ◌≤◌, List, [], ◌∷◌, ◌++◌, length, get_or, refl, ap, sym, ◌∙◌, subst, arith, cases_eq, eq-eqb, nat_tests, append-nil, if◌then◌else◌, ◌==◌}
-use Rattle.surf_model.specs.FreeWalks.{HasNoSpur}
+use Rattle.surf_model.proofs.Common.{◌≡◌, ◌≢◌, inl, inr, ℕ, zero, suc, ◌+◌, ◌-◌, ◌<◌, ◌≤◌, List, [], ◌∷◌, ◌++◌, length, get_or, refl, ap, sym, ◌∙◌, subst, arith, cases_eq, eq-eqb, nat_tests, append-nil, if◌then◌else◌, ◌==◌, HasNoSpur}
 
 -- a vertex put on a stack, whose top stands first
 abbrev pub put_on : List ℕ → ℕ → List ℕ

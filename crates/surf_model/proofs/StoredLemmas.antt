@@ -1,14 +1,7 @@
 -- What the functions on stored face lists need, said of the plain lists.
-use Rattle.surf_model.proofs.Common.{◌≡◌, ℕ, ◌+◌, ◌-◌, ◌<◌, ◌≤◌, List, [], ◌∷◌, ◌++◌, length, get_or, take, drop, ap, ap₂, sym, subst, ◌∙◌, arith, length-append, take-append-drop, take_all, drop_all, get_or-take, get_or-drop, length-take-le, length-drop, length-map, map-append, length_push, take-map, drop-map, All-push, All-same, All}
-use Rattle.surf_model.specs.Parts.{parts, EndsRise, last_end}
-use Rattle.surf_model.specs.StoredEdges.{IsNumbering}
-use Rattle.surf_model.specs.Vertices.{numbers}
-use Rattle.surf_model.specs.FaceLists.{FaceList, PendingFace, face_at, total_sides, IsFace}
-use Rattle.surf_model.specs.Darts.{first_side}
+use Rattle.surf_model.proofs.Common.{◌≡◌, ℕ, ◌+◌, ◌-◌, ◌<◌, ◌≤◌, List, [], ◌∷◌, ◌++◌, length, get_or, take, drop, ap, ap₂, sym, subst, ◌∙◌, arith, length-append, take-append-drop, take_all, drop_all, get_or-take, get_or-drop, length-take-le, length-drop, length-map, map-append, length_push, take-map, drop-map, All-push, All-same, All, first_side, FaceList, PendingFace, face_at, total_sides, IsFace, parts, EndsRise, last_end, IsNumbering, numbers, MOST_SIDES, VertexName}
 use Rattle.surf_model.specs.StoredFaces.{stored_mesh, IsStored, stored_pending, IsStoredPending}
-use Rattle.surf_model.specs.declared.names.VertexName.{VertexName}
 use Rattle.surf_model.proofs.PartsLemmas.{length-parts, get_or-parts, part_within, parts-push, EndsRise-push, EndsRise-last, sum_by-parts, sum_by-take-parts, last_end-push}
-use Rattle.surf_model.specs.declared.limits.TheConstants.{MOST_SIDES}
 
 -- where face f of a mesh lies among all corners
 pub record LiesAt (mesh : FaceList) (ends : List ℕ) (corners : List VertexName) (f : ℕ) : Type 0 where

@@ -1,9 +1,5 @@
 -- Edges of a mesh by its table: where an edge stands there, how many sides it has, and that places follow the order of the ends.
-use Rattle.surf_model.proofs.Common.{◌≡◌, ◌⊎◌, inl, inr, ℕ, ◌<◌, true, List, length, refl, ap, sym, ◌∙◌, subst, arith, cases_lt, cases_eq, length-map, get_or_default, filter_agree, Any-from_list_any, filter}
-use Rattle.surf_model.specs.FaceLists.{FaceList, FaceSide, all_sides, joins, is_edge}
-use Rattle.surf_model.specs.Edges.{Edge, IsTableOf, IsEdgeOf, HasEnds, IsPairBefore, side_name, edge_in}
-use Rattle.surf_model.specs.Surfaces.{sides_between}
-use Rattle.surf_model.specs.declared.edges.Side.{Side}
+use Rattle.surf_model.proofs.Common.{◌≡◌, ◌⊎◌, inl, inr, ℕ, ◌<◌, true, List, length, refl, ap, sym, ◌∙◌, subst, arith, cases_lt, cases_eq, length-map, get_or_default, filter_agree, Any-from_list_any, filter, Edge, IsTableOf, IsEdgeOf, HasEnds, IsPairBefore, side_name, edge_in, FaceList, FaceSide, all_sides, joins, is_edge, sides_between, Side}
 use Rattle.surf_model.proofs.TableLemmas.{joins_swap, both_join, edge_from_table}
 
 -- the edge of two vertices, by its place in the table

@@ -1,9 +1,6 @@
 -- What the table of a mesh says of its edges and of its vertices.
-use Rattle.surf_model.proofs.Common.{◌≡◌, ◌⊎◌, inl, inr, ℕ, zero, suc, ◌+◌, ◌<◌, Bool, true, false, ◌||◌, eqb, List, [], ◌∷◌, length, map, get_or, refl, ap, sym, ◌∙◌, subst, arith, false_from_ne_true, cases_Bool, cond-true, cond-false, or_cases, or_left, or_right, nat_tests, same_from_decides, length-map, get_or-map, get_or_default, Contains-append_left, Contains-append_right, Any-from_list_any, list_any-from_Any, list_any_at, list_any-append, get_or-map-range_with_len, length-range_with_len, list_any, enumerate_from, range_with_len, All, Any, Contains, filter, flat_map}
-use Rattle.surf_model.specs.declared.edges.Side.{Side}
+use Rattle.surf_model.proofs.Common.{◌≡◌, ◌⊎◌, inl, inr, ℕ, zero, suc, ◌+◌, ◌<◌, Bool, true, false, ◌||◌, eqb, List, [], ◌∷◌, length, map, get_or, refl, ap, sym, ◌∙◌, subst, arith, false_from_ne_true, cases_Bool, cond-true, cond-false, or_cases, or_left, or_right, nat_tests, same_from_decides, length-map, get_or-map, get_or_default, Contains-append_left, Contains-append_right, Any-from_list_any, list_any-from_Any, list_any_at, list_any-append, get_or-map-range_with_len, length-range_with_len, list_any, enumerate_from, range_with_len, All, Any, Contains, filter, flat_map, Edge, IsTableOf, IsEdgeOf, HasEnds, IsEndOf, side_name, FaceList, FaceSide, face_at, all_sides, sides_of_face, next_corner, joins, is_edge, is_used, Side}
 use Rattle.surf_model.proofs.NumberLemmas.{face_side, length-sides_of_face, get_or-sides_of_face}
-use Rattle.surf_model.specs.FaceLists.{FaceList, FaceSide, face_at, all_sides, sides_of_face, next_corner, joins, is_edge, is_used}
-use Rattle.surf_model.specs.Edges.{Edge, IsTableOf, IsEdgeOf, HasEnds, IsEndOf, side_name}
 
 -- a side has the vertex at one of its ends
 abbrev pub names : ℕ → FaceSide → Bool

@@ -1,7 +1,5 @@
 -- Walks along a tree: each is the same, up to spurs, as the way up from its start and down to its end.
-use Rattle.surf_model.proofs.Common.{◌≡◌, ◌⊎◌, inl, inr, ℕ, zero, suc, ◌+◌, ◌<◌, ◌≤◌, List, [], ◌∷◌, ◌++◌, length, get_or, refl, ap, sym, ◌∙◌, subst, arith, append_assoc, Option, Some, None}
-use Rattle.surf_model.specs.FreeWalks.{HasNoSpur, IsAlongTree, RankFalls}
-use Rattle.surf_model.specs.Walks.{HaveCommonEnds, darts}
+use Rattle.surf_model.proofs.Common.{◌≡◌, ◌⊎◌, inl, inr, ℕ, zero, suc, ◌+◌, ◌<◌, ◌≤◌, List, [], ◌∷◌, ◌++◌, length, get_or, refl, ap, sym, ◌∙◌, subst, arith, append_assoc, Option, Some, None, HasNoSpur, IsAlongTree, RankFalls, HaveCommonEnds, darts}
 use Rattle.surf_model.proofs.StackLemmas.{AreSame, same_after, same_before, spur_same, same_equal}
 
 -- from v the list leads up, parent after parent, to a root

@@ -1,13 +1,6 @@
 -- What a move leaves: a walk with the same ends, from which the move back leads home.
-use Rattle.surf_model.proofs.Common.{◌≡◌, ℕ, ◌+◌, ◌-◌, ◌<◌, Bool, not, List, [], ◌∷◌, ◌++◌, length, get_or, refl, ap, sym, ◌∙◌, subst, arith, append_assoc, length-append, get_or-append-add, get_or_append_left, All-append, IsTrue, All, Some}
+use Rattle.surf_model.proofs.Common.{◌≡◌, ℕ, ◌+◌, ◌-◌, ◌<◌, Bool, not, List, [], ◌∷◌, ◌++◌, length, get_or, refl, ap, sym, ◌∙◌, subst, arith, append_assoc, length-append, get_or-append-add, get_or_append_left, All-append, IsTrue, All, Some, FaceList, face_at, corners_from, is_used, apply, apply_all, Replaces, place_of, inverse_of, sides_of_move, way_back, IsWalk, HaveCommonEnds, Move, Insert, Remove, Across}
 use Rattle.std.proofs.Math.Bool.{not-not}
-use Rattle.surf_model.specs.FaceLists.{FaceList, face_at, corners_from, is_used}
-use Rattle.surf_model.specs.Walks.{IsWalk, HaveCommonEnds}
-use Rattle.surf_model.specs.Moves.{apply, apply_all}
-use Rattle.surf_model.specs.Replacements.{Replaces, place_of}
-use Rattle.surf_model.specs.Rewriting.{inverse_of, sides_of_move, way_back}
-use Rattle.surf_model.specs.declared.moves.Move.{Move}
-use Rattle.surf_model.specs.declared.moves.Move.TheVariants.{Insert, Remove, Across}
 use Rattle.surf_model.proofs.ReplacementLemmas.{by_replacing}
 use Rattle.surf_model.proofs.ContextLemmas.{stays_walk, first_answer, one_after_another}
 use Rattle.surf_model.proofs.EdgeLemmas.{edge_swap, tail_used, head_used}

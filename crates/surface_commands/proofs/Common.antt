@@ -1,4 +1,4 @@
--- What proofs of this crate cite of others, passed on from one place (by tools/imports). Declares nothing.
+-- What proofs of this crate cite of its definitions and of other crates, passed on from one place (by tools/imports). Declares nothing.
 pub use Rattle.closed_surfaces.proofs.Genera.{one_genera, one_numbers, some_genera, some_numbers}
 pub use Rattle.closed_surfaces.specs.ComponentGenera.{AreGeneraOf}
 pub use Rattle.commands.proofs.Checking.{stops_first, stops_next, stops_second, told_stops}
@@ -23,3 +23,7 @@ pub use Rattle.surf_model.specs.Genera.{AreNumbersOf}
 pub use Rattle.surf_model.specs.OrientableSurfaces.{HasComponents, IsOrientableSurface}
 pub use Rattle.surf_model.specs.Surfaces.{IsClosedManifold, IsOrientable}
 pub use Rattle.surf_model.specs.declared.numbers.SurfaceNumbers.{SurfaceNumbers}
+pub use Rattle.surface_commands.specs.Surface.{HasFewComponents, IsMeasured, IsSurfaceInput, genera_of, genus_line, numbers_of, numbers_text, surface}
+pub use Rattle.surface_commands.specs.SurfaceInput.{as_surface, closed, of_few_components, surface_in}
+pub use Rattle.surface_commands.specs.SurfaceRefusals.{components_line, surface_line}
+pub use Rattle.surface_commands.specs.declared.surface.TheConstants.{MOST_COMPONENTS}

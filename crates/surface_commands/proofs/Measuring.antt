@@ -1,10 +1,6 @@
 -- What `surface` tells: that the numbers and the genera are there, that they are one, and how its checks end.
-use Rattle.surface_commands.proofs.Common.{some_numbers, one_numbers, some_genera, one_genera, AreGeneraOf, stops_first, stops_next, mesh_valid, IsSound, Answer, OfOddChain, yes_with, Check, End, Refuse, Pass, Passes, pass, ◌>>=◌, mesh_in, Stops, Stop, IsFirstFault, ◌≡◌, inl, inr, ℕ, ◌<◌, List, refl, sym, ap, ◌∙◌, subst, Option, Files, FaceList, IsFaceList, AreNumbersOf, IsOrientableSurface, HasComponents, IsClosedManifold, IsOrientable, SurfaceNumbers}
+use Rattle.surface_commands.proofs.Common.{some_numbers, one_numbers, some_genera, one_genera, AreGeneraOf, stops_first, stops_next, mesh_valid, IsSound, Answer, OfOddChain, yes_with, Check, End, Refuse, Pass, Passes, pass, ◌>>=◌, mesh_in, Stops, Stop, IsFirstFault, ◌≡◌, inl, inr, ℕ, ◌<◌, List, refl, sym, ap, ◌∙◌, subst, Option, Files, FaceList, IsFaceList, AreNumbersOf, IsOrientableSurface, HasComponents, IsClosedManifold, IsOrientable, SurfaceNumbers, HasFewComponents, numbers_of, genera_of, surface, numbers_text, as_surface, surface_in, of_few_components, surface_line, components_line, MOST_COMPONENTS}
 use Rattle.manifold_check.specs.declared.fault.SurfaceFault.{SurfaceFault}
-use Rattle.surface_commands.specs.SurfaceRefusals.{surface_line, components_line}
-use Rattle.surface_commands.specs.Surface.{HasFewComponents, numbers_of, genera_of, surface, numbers_text}
-use Rattle.surface_commands.specs.SurfaceInput.{as_surface, surface_in, of_few_components}
-use Rattle.surface_commands.specs.declared.surface.TheConstants.{MOST_COMPONENTS}
 
 one_ending : (mesh : FaceList) (a b : End SurfaceNumbers) → (numbers_of mesh).Ends a → (numbers_of mesh).Ends b → a ≡ b
 one_ending mesh (Refuse r) b p q = absurd p

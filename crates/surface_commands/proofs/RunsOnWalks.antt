@@ -1,9 +1,8 @@
 -- Commands that read a surface, then walks of it, and answer what is asked of these.
-use Rattle.surface_commands.proofs.Common.{stops_next, stops_second, memory_no_fault, only_then, runs_faulty, runs_replied, runs_stopped, Answer, Check, Passes, ◌>>=◌, Reads, Stops, Stop, ReadFault, OutOfMemory, ◌≡◌, ℕ, List, inr, subst, Option, Result, Ok, Err, IsErrAnd, Files, FaceList}
+use Rattle.surface_commands.proofs.Common.{stops_next, stops_second, memory_no_fault, only_then, runs_faulty, runs_replied, runs_stopped, Answer, Check, Passes, ◌>>=◌, Reads, Stops, Stop, ReadFault, OutOfMemory, ◌≡◌, ℕ, List, inr, subst, Option, Result, Ok, Err, IsErrAnd, Files, FaceList, surface_in}
 use Rattle.commands.specs.Replies.{Replies, Runs}
 use Rattle.commands.specs.declared.reply.Reply.{Reply}
 use Rattle.surf_io.specs.Calls.{OnlyReads}
-use Rattle.surface_commands.specs.SurfaceInput.{surface_in}
 
 -- the surface, then the walks, and then what is asked of them
 abbrev pub command : {A : Type 0} (name : List ℕ) (walks_in : Option Files → FaceList → Check A) (next : FaceList → A → Check Answer)

@@ -1,10 +1,7 @@
 -- `surface` in the words of the mesh.
-use Rattle.surface_commands.proofs.Common.{some_numbers, some_genera, AreGeneraOf, mesh_valid, sound-mesh, mesh_told, mesh_passes, OfOddChain, yes_with, Refuse, Pass, IsTold, ◌>>=◌, Outcome, AnswersTo, IsAnswerOf, Status, ◌≡◌, ℕ, List, [], ◌∷◌, codes, sym, ◌∙◌, Option, Files, FaceList, AreNumbersOf, IsOrientableSurface, SurfaceNumbers}
+use Rattle.surface_commands.proofs.Common.{some_numbers, some_genera, AreGeneraOf, mesh_valid, sound-mesh, mesh_told, mesh_passes, OfOddChain, yes_with, Refuse, Pass, IsTold, ◌>>=◌, Outcome, AnswersTo, IsAnswerOf, Status, ◌≡◌, ℕ, List, [], ◌∷◌, codes, sym, ◌∙◌, Option, Files, FaceList, AreNumbersOf, IsOrientableSurface, SurfaceNumbers, surface, HasFewComponents, IsSurfaceInput, IsMeasured, numbers_text, as_surface, surface_line, components_line}
 use Rattle.commands.specs.declared.status.Status.TheVariants.{Yes}
 use Rattle.surface_commands.proofs.Measuring.{answered_surface, behind_mesh, with_surface, fault_ends, turned_ends, many_ends, numbers_end}
-use Rattle.surface_commands.specs.SurfaceRefusals.{surface_line, components_line}
-use Rattle.surface_commands.specs.Surface.{surface, HasFewComponents, IsSurfaceInput, IsMeasured, numbers_text}
-use Rattle.surface_commands.specs.SurfaceInput.{as_surface}
 
 module _ (files : Option Files) (words : List (List ℕ)) (mesh : FaceList) (input : IsSurfaceInput files words mesh) where
   -- each file that is looked at is told

@@ -1,13 +1,10 @@
 -- Commands on surfaces: the check of each has an end, and one where its files are told; and what comes behind a surface and its walks.
-use Rattle.surface_commands.proofs.Common.{mesh_valid, sound-mesh, sound-pair, mesh_passes, spelled_pair, pair_told, IsOutcomeOf, IsSound, sound-then, sound-pass, meant_told, held, Answer, Check, Passes, Holds, IsTold, ◌>>=◌, IsInputOnSurface, pair_in, SpellsMesh, SpellsPair, AnswersTo, Status, ◌≡◌, inr, ℕ, List, ◌∷◌, sym, subst, [], Option, Files, FaceList, IsOrientableSurface}
+use Rattle.surface_commands.proofs.Common.{mesh_valid, sound-mesh, sound-pair, mesh_passes, spelled_pair, pair_told, IsOutcomeOf, IsSound, sound-then, sound-pass, meant_told, held, Answer, Check, Passes, Holds, IsTold, ◌>>=◌, IsInputOnSurface, pair_in, SpellsMesh, SpellsPair, AnswersTo, Status, ◌≡◌, inr, ℕ, List, ◌∷◌, sym, subst, [], Option, Files, FaceList, IsOrientableSurface, surface, surface_in, MOST_COMPONENTS}
 use Rattle.commands.proofs.Deciding.{behind}
 use Rattle.commands.specs.Refusals.{off_line}
 use Rattle.off_reader.specs.OffTexts.{meaning_of}
 use Rattle.surface_commands.proofs.Measuring.{with_few, sound-numbers, sound-genera, surface_passed, as_passes}
 use Rattle.surface_commands.proofs.Surfaces.{sound-as_surface, sound-few, few_passed}
-use Rattle.surface_commands.specs.Surface.{surface}
-use Rattle.surface_commands.specs.SurfaceInput.{surface_in}
-use Rattle.surface_commands.specs.declared.surface.TheConstants.{MOST_COMPONENTS}
 
 pub sound-surface_in : (held : Option Files) (name : List ℕ) → IsSound held (surface_in held name)
 sound-surface_in held name =

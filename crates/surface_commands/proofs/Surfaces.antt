@@ -1,5 +1,5 @@
 -- How the checks of a surface end.
-use Rattle.surface_commands.proofs.Common.{stops_next, told_stops, sound-orientable, IsSound, sound-then, sound-unless_fault, OfOddChain, End, Refuse, Pass, Passes, mesh_in, Stops, Tells, Stop, Refused, IsFirstFault, ◌≡◌, inl, inr, ℕ, ◌<◌, ◌≤◌, List, refl, sym, ap, subst, arith, Option, Result, Ok, Err, IfOk, MatchResult, length, Files, FaceList, IsFaceList, HasComponents, IsClosedManifold}
+use Rattle.surface_commands.proofs.Common.{stops_next, told_stops, sound-orientable, IsSound, sound-then, sound-unless_fault, OfOddChain, End, Refuse, Pass, Passes, mesh_in, Stops, Tells, Stop, Refused, IsFirstFault, ◌≡◌, inl, inr, ℕ, ◌<◌, ◌≤◌, List, refl, sym, ap, subst, arith, Option, Result, Ok, Err, IfOk, MatchResult, length, Files, FaceList, IsFaceList, HasComponents, IsClosedManifold, as_surface, closed, surface_in, of_few_components, surface_line, components_line}
 use Rattle.closed_surfaces.proofs.SomeParts.{some_parts, same_count}
 use Rattle.closed_surfaces.specs.SignedSurfaces.{IsNoSurface}
 use Rattle.closed_surfaces.specs.declared.signed_mesh.NoSurface.{NoSurface}
@@ -11,8 +11,6 @@ use Rattle.manifold_check.proofs.OutcomeLemmas.{closed_or_fault}
 use Rattle.std.proofs.lemmas.Bool.{cases_lt}
 use Rattle.surf_model.specs.ComponentParts.{PartsView, AreParts}
 use Rattle.surf_model.specs.declared.chains.ChainLink.{ChainLink}
-use Rattle.surface_commands.specs.SurfaceRefusals.{surface_line, components_line}
-use Rattle.surface_commands.specs.SurfaceInput.{as_surface, closed, surface_in, of_few_components}
 
 pub sound-closed : (held : Option Files) (mesh : FaceList) → IsFaceList mesh → IsSound held (closed mesh)
 sound-closed held mesh valid =

@@ -1,7 +1,5 @@
 -- The rings of a set of edges: the dart after a dart is a permutation, and one edge more or less exchanges two of its values.
-use Rattle.tree_cotree.proofs.Common.{IsPermutationBelow, steps_within, after_steps, IsReached, Rotations, IsRotationSystem, ◌≡◌, ◌≢◌, inl, inr, ℕ, zero, suc, ◌<◌, Bool, true, false, not, cond, refl, ap, sym, ◌∙◌, subst, cases_Bool, cases_eq, both_ways, cond-true, cond-false}
-use Rattle.tree_cotree.specs.RingCounts.{exchanged}
-use Rattle.tree_cotree.specs.SpanningTrees.{after_dart}
+use Rattle.tree_cotree.proofs.Common.{IsPermutationBelow, steps_within, after_steps, IsReached, Rotations, IsRotationSystem, ◌≡◌, ◌≢◌, inl, inr, ℕ, zero, suc, ◌<◌, Bool, true, false, not, cond, refl, ap, sym, ◌∙◌, subst, cases_Bool, cases_eq, both_ways, cond-true, cond-false, exchanged, after_dart}
 use Rattle.tree_cotree.proofs.ExchangeLemmas.{at_first, at_second, elsewhere}
 
 pub go_on : (maps : Rotations) (inside : ℕ → Bool) (d : ℕ) → inside (maps.edge d) ≡ true → after_dart maps inside d ≡ maps.next d

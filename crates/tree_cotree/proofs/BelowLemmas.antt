@@ -1,8 +1,5 @@
 -- The face below each edge, by the darts that are kept for the faces.
-use Rattle.tree_cotree.proofs.Common.{Rotations, ◌≡◌, ◌≢◌, inl, inr, ℕ, zero, suc, ◌+◌, ◌<◌, false, List, length, refl, ap, sym, ◌∙◌, subst, arith, set, cases_eq, cases_lt, length-replicate, get_or-replicate, get_or_past, length-set, get_or-set_same, get_or-set_other, Option, Some, None, is_some, replicate}
-use Rattle.tree_cotree.specs.Searches.{kept_at}
-use Rattle.tree_cotree.specs.Markings.{AreApart}
-use Rattle.tree_cotree.specs.EdgeFaces.{AreBelowEdges}
+use Rattle.tree_cotree.proofs.Common.{Rotations, ◌≡◌, ◌≢◌, inl, inr, ℕ, zero, suc, ◌+◌, ◌<◌, false, List, length, refl, ap, sym, ◌∙◌, subst, arith, set, cases_eq, cases_lt, length-replicate, get_or-replicate, get_or_past, length-set, get_or-set_same, get_or-set_other, Option, Some, None, is_some, replicate, AreBelowEdges, AreApart, kept_at}
 use Rattle.tree_cotree.proofs.SetLemmas.{with_one, with_itself, with_other}
 use Rattle.tree_cotree.proofs.SearchLemmas.{not_both}
 use Rattle.tree_cotree.proofs.TreeLemmas.{marked_none, marked_skip, marked_more}

@@ -1,7 +1,6 @@
 -- Classes of an equivalence of the numbers below n, counted at their least members: where two classes become one, there is
 -- one class less.
-use Rattle.tree_cotree.proofs.Common.{◌≡◌, ◌≢◌, ◌⊎◌, inl, inr, ℕ, zero, suc, ◌<◌, ◌≤◌, Bool, true, false, not, refl, ap, sym, ◌∙◌, subst, arith, cases_Bool, cases_lt, cases_eq, or_cases, or_left, or_right, both_ways, not_from_false, not_from_true, count_below}
-use Rattle.tree_cotree.specs.RingCounts.{any_below, is_least, class_count}
+use Rattle.tree_cotree.proofs.Common.{◌≡◌, ◌≢◌, ◌⊎◌, inl, inr, ℕ, zero, suc, ◌<◌, ◌≤◌, Bool, true, false, not, refl, ap, sym, ◌∙◌, subst, arith, cases_Bool, cases_lt, cases_eq, or_cases, or_left, or_right, both_ways, not_from_false, not_from_true, count_below, any_below, is_least, class_count}
 
 -- some number below n passes exactly where the test finds one
 pub found_below : (p : ℕ → Bool) (n : ℕ) → any_below p n ≡ true → (i : ℕ) × (i < n) × (p i ≡ true)

@@ -1,14 +1,5 @@
 -- A colouring with a tree, a cotree and a root face is one of a split: ways are there within the tree and within the cotree.
-use Rattle.tree_cotree.proofs.Common.{rotation_system, names_all, OrientedMesh, IsOrientedSurface, Rotations, rotations_of, IsRotationSystem, NamesAll, ◌≡◌, true, List, length, get_or, refl, subst, is_used}
-use Rattle.tree_cotree.specs.declared.split.Kind.{Kind}
-use Rattle.tree_cotree.specs.declared.split.Kind.TheVariants.{Tree, Cotree}
-use Rattle.tree_cotree.specs.SpanningTrees.{IsSpanningTree}
-use Rattle.tree_cotree.specs.Searches.{has_kind}
-use Rattle.tree_cotree.specs.Ways.{IsRooted}
-use Rattle.tree_cotree.specs.Splits.{SplitView, IsSplit, HasTrees, in_tree, in_cotree}
-use Rattle.tree_cotree.specs.StoredSplits.{made_split}
-use Rattle.tree_cotree.specs.Colourings.{ColouringView, colouring_of, IsColouring}
-use Rattle.tree_cotree.specs.ColouredTrees.{without_ways, HasColouredTrees}
+use Rattle.tree_cotree.proofs.Common.{rotation_system, names_all, OrientedMesh, IsOrientedSurface, Rotations, rotations_of, IsRotationSystem, NamesAll, ◌≡◌, true, List, length, get_or, refl, subst, is_used, without_ways, HasColouredTrees, ColouringView, colouring_of, IsColouring, has_kind, IsSpanningTree, SplitView, IsSplit, HasTrees, in_tree, in_cotree, made_split, IsRooted, Kind, Tree, Cotree}
 use Rattle.tree_cotree.proofs.LawLemmas.{vertex_nodes, face_nodes, some_dart}
 use Rattle.tree_cotree.proofs.TreeLemmas.{kept_apart}
 use Rattle.tree_cotree.proofs.BelowLemmas.{faces_there}

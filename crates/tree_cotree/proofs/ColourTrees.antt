@@ -1,9 +1,6 @@
 -- A set of edges that spans the nodes is, from each root, that of a tree in which a dart is kept for each node: the nodes are put in one
 -- after another, each across an edge of the set.
-use Rattle.tree_cotree.proofs.Common.{Rotations, IsRotationSystem, ◌≡◌, ◌⊎◌, inl, inr, ℕ, zero, suc, ◌+◌, ◌-◌, ◌<◌, ◌≤◌, Bool, true, false, List, [], ◌∷◌, length, refl, ap, sym, ◌∙◌, subst, arith, set, cases_eq, both_ways, length-set, length-replicate, Option, Some, None, replicate, count_below, AreJoined}
-use Rattle.tree_cotree.specs.SpanningTrees.{IsStepIn, IsSpanningTree}
-use Rattle.tree_cotree.specs.Searches.{kept_at}
-use Rattle.tree_cotree.specs.Ways.{LeadsUp, IsRooted}
+use Rattle.tree_cotree.proofs.Common.{Rotations, IsRotationSystem, ◌≡◌, ◌⊎◌, inl, inr, ℕ, zero, suc, ◌+◌, ◌-◌, ◌<◌, ◌≤◌, Bool, true, false, List, [], ◌∷◌, length, refl, ap, sym, ◌∙◌, subst, arith, set, cases_eq, both_ways, length-set, length-replicate, Option, Some, None, replicate, count_below, AreJoined, kept_at, IsStepIn, IsSpanningTree, LeadsUp, IsRooted}
 use Rattle.tree_cotree.proofs.AfterLemmas.{twin_edge}
 use Rattle.tree_cotree.proofs.SetLemmas.{with_one, with_itself, with_keeps, with_cases, count_with, count_few, same_from_count, some_outside}
 use Rattle.tree_cotree.proofs.GrowthLemmas.{HasNodes, leaves}

@@ -1,16 +1,6 @@
 -- Kinds of edges that are made by joining classes, edge by edge: what they are when the edges below n have been tried, and the trees that
 -- they make in the end.
-use Rattle.tree_cotree.proofs.Common.{joined_at_same, joined_at_ends, joined_refl, joined_step, joined_trans, joined_at, rotation_system, names_all, OrientedMesh, IsOrientedSurface, Rotations, rotations_of, IsRotationSystem, IsDartStep, IsDartFrom, ◌≡◌, ◌≢◌, inl, inr, ℕ, ◌+◌, ◌/◌, ◌<◌, ◌≤◌, Bool, true, false, List, [], ◌∷◌, length, get_or, refl, ap, sym, ◌∙◌, subst, arith, set, cases_Bool, cases_eq, cases_lt, both_ways, length-replicate, get_or-set_same, get_or-set_other, length-set, get_or_past, range_with_len, replicate, is_used, count_below, IsPath, AreJoined}
-use Rattle.tree_cotree.specs.declared.split.Kind.{Kind}
-use Rattle.tree_cotree.specs.declared.split.Kind.TheVariants.{Tree, Cotree, Left}
-use Rattle.tree_cotree.specs.declared.search.Nodes.{Nodes}
-use Rattle.tree_cotree.specs.declared.search.Nodes.TheVariants.{Vertices, Faces}
-use Rattle.tree_cotree.specs.SpanningTrees.{StepsIn, IsSpanningTree, HasOneRing}
-use Rattle.tree_cotree.specs.Searches.{node_of, same_kind, has_kind}
-use Rattle.tree_cotree.specs.Splits.{SplitView, HasTrees, in_tree, in_cotree, is_left}
-use Rattle.tree_cotree.specs.Colourings.{ColouringView}
-use Rattle.tree_cotree.specs.ColouredTrees.{HasColouredTrees, without_ways}
-use Rattle.tree_cotree.specs.Joinings.{bound_of, is_node_of, kind_over, AreEnds, HangTogether, AreSpanned, IsTried}
+use Rattle.tree_cotree.proofs.Common.{joined_at_same, joined_at_ends, joined_refl, joined_step, joined_trans, joined_at, rotation_system, names_all, OrientedMesh, IsOrientedSurface, Rotations, rotations_of, IsRotationSystem, IsDartStep, IsDartFrom, ◌≡◌, ◌≢◌, inl, inr, ℕ, ◌+◌, ◌/◌, ◌<◌, ◌≤◌, Bool, true, false, List, [], ◌∷◌, length, get_or, refl, ap, sym, ◌∙◌, subst, arith, set, cases_Bool, cases_eq, cases_lt, both_ways, length-replicate, get_or-set_same, get_or-set_other, length-set, get_or_past, range_with_len, replicate, is_used, count_below, IsPath, AreJoined, HasColouredTrees, without_ways, ColouringView, bound_of, is_node_of, kind_over, AreEnds, HangTogether, AreSpanned, IsTried, node_of, same_kind, has_kind, StepsIn, IsSpanningTree, HasOneRing, SplitView, HasTrees, in_tree, in_cotree, is_left, Nodes, Vertices, Faces, Kind, Tree, Cotree, Left}
 use Rattle.tree_cotree.proofs.SetLemmas.{with_one, with_itself, with_other}
 use Rattle.tree_cotree.proofs.GrowthLemmas.{HasNodes}
 use Rattle.tree_cotree.proofs.SplitLemmas.{tree_ring, closed_holds_all}

@@ -1,4 +1,4 @@
--- What proofs of this crate cite of others, passed on from one place (by tools/imports). Declares nothing.
+-- What proofs of this crate cite of its definitions and of other crates, passed on from one place (by tools/imports). Declares nothing.
 pub use Rattle.connectivity.proofs.Joining.{either_way, entries_own, high_at, high_gone, joined_at_ends, joined_at_high, joined_at_keeps, joined_at_other, joined_at_same, joined_keep, joined_refl, joined_step, joined_sym, joined_trans, joins_only-alone, joins_only-joined_at, least_joined_at, least_range, length-joined_at, low_at, others_own}
 pub use Rattle.connectivity.specs.Classes.{AreLeastMembers, joined_at}
 pub use Rattle.halfedge_map.proofs.DartLemmas.{face-next, face_at_number, next_permutes, numbered}
@@ -22,3 +22,21 @@ pub use Rattle.surf_model.specs.FaceLists.{FaceList, IsFaceList, is_used}
 pub use Rattle.surf_model.specs.Numbers.{count_below}
 pub use Rattle.surf_model.specs.Surfaces.{AreJoined, IsPath, IsSurface}
 pub use Rattle.surf_model.specs.declared.names.DartName.{DartName}
+pub use Rattle.tree_cotree.specs.ColouredTrees.{HasColouredTrees, without_ways}
+pub use Rattle.tree_cotree.specs.Colourings.{ColouringView, IsColouring, colouring_of}
+pub use Rattle.tree_cotree.specs.EdgeFaces.{AreBelowEdges}
+pub use Rattle.tree_cotree.specs.Graphs.{crosses, maps_of, node_in, turn_in}
+pub use Rattle.tree_cotree.specs.Joinings.{AreEnds, AreSpanned, HangTogether, IsTried, bound_of, is_node_of, kind_over}
+pub use Rattle.tree_cotree.specs.Markings.{AreApart, AreMarked, IsMarked}
+pub use Rattle.tree_cotree.specs.RingCounts.{any_below, class_count, exchanged, is_least, meets, ring_count}
+pub use Rattle.tree_cotree.specs.RingViews.{AreRingsOf, ChangesByOne, RingView, dart_numbers, is_inside, rings_of}
+pub use Rattle.tree_cotree.specs.Searches.{AreAdded, AreBelow, IsCrossed, IsFound, IsNamed, IsOrder, IsSearched, LeadsBack, has_kind, kept_at, node_of, same_kind, turn_of}
+pub use Rattle.tree_cotree.specs.SpanningTrees.{HasOneRing, IsSpanningTree, IsStepIn, StepsIn, after_dart}
+pub use Rattle.tree_cotree.specs.Splits.{HasChildFaces, HasParents, HasTrees, IsSplit, SplitView, StepsToParent, StepsUp, below_edge, in_cotree, in_tree, is_cotree_kind, is_left, is_left_kind, is_tree_kind, kind_of, parent_dart}
+pub use Rattle.tree_cotree.specs.StoredSplits.{made_split}
+pub use Rattle.tree_cotree.specs.Waiting.{IsTaken, waiting_darts}
+pub use Rattle.tree_cotree.specs.Ways.{HasRoot, IsRooted, IsWay, LeadsUp}
+pub use Rattle.tree_cotree.specs.declared.search.Nodes.{Nodes}
+pub use Rattle.tree_cotree.specs.declared.search.Nodes.TheVariants.{Faces, Vertices}
+pub use Rattle.tree_cotree.specs.declared.split.Kind.{Kind}
+pub use Rattle.tree_cotree.specs.declared.split.Kind.TheVariants.{Cotree, Left, Tree}

@@ -1,12 +1,11 @@
 -- The nodes at an edge, as the table tells them: its two vertices, and the faces of its two sides.
-use Rattle.tree_cotree.proofs.Common.{numbered, face_at_number, names_all, face_of, origin_of, twin_of, OrientedMesh, IsOrientedSurface, rotations_of, ◌≡◌, ◌≢◌, inl, inr, ℕ, ◌<◌, List, length, get_or, ap, sym, ◌∙◌, arith, Some, slice_get, edge_in}
+use Rattle.tree_cotree.proofs.Common.{numbered, face_at_number, names_all, face_of, origin_of, twin_of, OrientedMesh, IsOrientedSurface, rotations_of, ◌≡◌, ◌≢◌, inl, inr, ℕ, ◌<◌, List, length, get_or, ap, sym, ◌∙◌, arith, Some, slice_get, edge_in, AreEnds}
 use Rattle.halfedge_map.proofs.EdgeLemmas.{IsSideInTable, side_got, between_is, edge-twin, twin_is, two_sides}
 use Rattle.halfedge_map.proofs.TwinLemmas.{twin_within, twin-twin, origin-twin}
 use Rattle.std.proofs.lemmas.Option.{get_or_from_slice_get}
 use Rattle.surf_model.proofs.PartnerLemmas.{table_edge, edge_sides_rise}
 use Rattle.surf_model.specs.Darts.{side_number}
 use Rattle.surf_model.specs.declared.edges.Side.{Side}
-use Rattle.tree_cotree.specs.Joinings.{AreEnds}
 
 pub vertices_at : {s : OrientedMesh} → IsOrientedSurface s → (k low high : ℕ) → k < length s.table → low ≡ (edge_in s.table k).low
     → high ≡ (edge_in s.table k).high → AreEnds (rotations_of s) (origin_of s) k low high

@@ -1,6 +1,5 @@
 -- A permutation of the numbers below n with two of its values exchanged: two rings become one, or one becomes two.
-use Rattle.tree_cotree.proofs.Common.{IsPermutationBelow, steps_within, step_first, steps_add, reached_refl, reached_step, reached_trans, reached_back, Returns, returns_to, after_steps, IsReached, ◌≡◌, ◌≢◌, ◌⊎◌, inl, inr, ℕ, zero, suc, ◌+◌, ◌-◌, ◌<◌, ◌≤◌, Bool, true, false, eqb, cond, refl, ap, sym, ◌∙◌, subst, arith, cases_Bool, cases_lt, cases_eq, both_ways, eqb-true, eq-eqb}
-use Rattle.tree_cotree.specs.RingCounts.{meets, ring_count, exchanged}
+use Rattle.tree_cotree.proofs.Common.{IsPermutationBelow, steps_within, step_first, steps_add, reached_refl, reached_step, reached_trans, reached_back, Returns, returns_to, after_steps, IsReached, ◌≡◌, ◌≢◌, ◌⊎◌, inl, inr, ℕ, zero, suc, ◌+◌, ◌-◌, ◌<◌, ◌≤◌, Bool, true, false, eqb, cond, refl, ap, sym, ◌∙◌, subst, arith, cases_Bool, cases_lt, cases_eq, both_ways, eqb-true, eq-eqb, meets, ring_count, exchanged}
 use Rattle.tree_cotree.proofs.ClassLemmas.{found_below, passes_below, IsEquivalenceBelow, MergesClasses, one_class_less}
 
 -- reaching takes fewer than n steps

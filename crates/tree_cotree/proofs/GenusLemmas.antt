@@ -1,15 +1,7 @@
 -- Each surface has a split, and so a genus: its edges are tried one after another, as a colouring is made, until they span its vertices,
 -- and then its faces.
-use Rattle.tree_cotree.proofs.Common.{joined_at, names_all, used_vertices, OrientedMesh, IsOrientedSurface, Rotations, rotations_of, ◌≡◌, inl, inr, ℕ, zero, suc, ◌+◌, ◌*◌, ◌/◌, ◌<◌, ◌≤◌, Bool, true, false, List, length, get_or, refl, ◌∙◌, subst, arith, set, cases_Bool, cases_eq, both_ways, length-replicate, range_with_len, replicate, Edge, IsTableOf, FaceList, IsFaceList, is_used, count_below, IsSurface}
+use Rattle.tree_cotree.proofs.Common.{joined_at, names_all, used_vertices, OrientedMesh, IsOrientedSurface, Rotations, rotations_of, ◌≡◌, inl, inr, ℕ, zero, suc, ◌+◌, ◌*◌, ◌/◌, ◌<◌, ◌≤◌, Bool, true, false, List, length, get_or, refl, ◌∙◌, subst, arith, set, cases_Bool, cases_eq, both_ways, length-replicate, range_with_len, replicate, Edge, IsTableOf, FaceList, IsFaceList, is_used, count_below, IsSurface, bound_of, kind_over, AreEnds, HangTogether, AreSpanned, IsTried, any_below, node_of, has_kind, SplitView, IsSplit, Nodes, Vertices, Faces, Kind, Tree, Left}
 use Rattle.surf_model.proofs.EdgeTables.{some_table}
-use Rattle.tree_cotree.specs.RingCounts.{any_below}
-use Rattle.tree_cotree.specs.declared.split.Kind.{Kind}
-use Rattle.tree_cotree.specs.declared.split.Kind.TheVariants.{Tree, Left}
-use Rattle.tree_cotree.specs.declared.search.Nodes.{Nodes}
-use Rattle.tree_cotree.specs.declared.search.Nodes.TheVariants.{Vertices, Faces}
-use Rattle.tree_cotree.specs.Searches.{node_of, has_kind}
-use Rattle.tree_cotree.specs.Splits.{SplitView, IsSplit}
-use Rattle.tree_cotree.specs.Joinings.{bound_of, kind_over, AreEnds, HangTogether, AreSpanned, IsTried}
 use Rattle.tree_cotree.proofs.ClassLemmas.{found_below, passes_below}
 use Rattle.tree_cotree.proofs.LawLemmas.{some_dart, exact}
 use Rattle.tree_cotree.proofs.ColourLemmas.{coloured_trees_are_of_a_split}

@@ -1,8 +1,6 @@
 -- A spanning tree put in edge after edge, each bringing a new node: at its end there is one ring. Of the tree the rings begin as
 -- the vertices, and each edge is put in; of the cotree they begin as the faces, and each edge is taken out.
-use Rattle.tree_cotree.proofs.Common.{IsPermutationBelow, IsReached, Rotations, IsRotationSystem, ◌≡◌, ◌≢◌, ◌⊎◌, inl, inr, ℕ, zero, suc, ◌+◌, ◌-◌, ◌<◌, ◌≤◌, Bool, true, false, not, List, [], ◌∷◌, refl, ap, sym, ◌∙◌, subst, arith, cases_Bool, both_ways, count_below, IsPath}
-use Rattle.tree_cotree.specs.RingCounts.{exchanged}
-use Rattle.tree_cotree.specs.SpanningTrees.{after_dart, IsStepIn, IsSpanningTree}
+use Rattle.tree_cotree.proofs.Common.{IsPermutationBelow, IsReached, Rotations, IsRotationSystem, ◌≡◌, ◌≢◌, ◌⊎◌, inl, inr, ℕ, zero, suc, ◌+◌, ◌-◌, ◌<◌, ◌≤◌, Bool, true, false, not, List, [], ◌∷◌, refl, ap, sym, ◌∙◌, subst, arith, cases_Bool, both_ways, count_below, IsPath, exchanged, after_dart, IsStepIn, IsSpanningTree}
 use Rattle.tree_cotree.proofs.ExchangeLemmas.{IsOnMerged, joins_rings, exchanged_permutes}
 use Rattle.tree_cotree.proofs.SetLemmas.{with_one, with_itself, with_other, with_keeps, with_cases, count_with, count_few, same_from_count, some_outside}
 use Rattle.tree_cotree.proofs.AfterLemmas.{after_permutes, after_agrees, after_exchanges, DifferAt, reached_same}

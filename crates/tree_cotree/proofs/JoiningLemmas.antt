@@ -1,10 +1,8 @@
 -- Edges are tried in turn: one whose two nodes lie in two classes is put into a set, and the classes become one. Once all are tried, the
 -- set is a spanning tree.
-use Rattle.tree_cotree.proofs.Common.{joined_keep, joins_only-alone, joins_only-joined_at, length-joined_at, joined_at_ends, joined_at_keeps, high_at, low_at, joined_at_high, joined_at_other, either_way, entries_own, least_range, least_joined_at, high_gone, others_own, joined_at, AreLeastMembers, Rotations, IsRotationSystem, ◌≡◌, ◌≢◌, ◌⊎◌, inl, inr, ℕ, suc, ◌+◌, ◌<◌, ◌≤◌, Bool, true, false, ◌&&◌, eqb, List, [], ◌∷◌, length, get_or, refl, ap, sym, ◌∙◌, subst, arith, cases_Bool, cases_eq, both_ways, and_parts, and_from, eqb-true, eq-eqb, and_right, one_truth, range_with_len, count_below, IsPath, AreJoined}
+use Rattle.tree_cotree.proofs.Common.{joined_keep, joins_only-alone, joins_only-joined_at, length-joined_at, joined_at_ends, joined_at_keeps, high_at, low_at, joined_at_high, joined_at_other, either_way, entries_own, least_range, least_joined_at, high_gone, others_own, joined_at, AreLeastMembers, Rotations, IsRotationSystem, ◌≡◌, ◌≢◌, ◌⊎◌, inl, inr, ℕ, suc, ◌+◌, ◌<◌, ◌≤◌, Bool, true, false, ◌&&◌, eqb, List, [], ◌∷◌, length, get_or, refl, ap, sym, ◌∙◌, subst, arith, cases_Bool, cases_eq, both_ways, and_parts, and_from, eqb-true, eq-eqb, and_right, one_truth, range_with_len, count_below, IsPath, AreJoined, AreEnds, HangTogether, IsStepIn, StepsIn, IsSpanningTree}
 use Rattle.connectivity.specs.Partitions.{JoinsOnlyBySteps}
 use Rattle.std.proofs.lemmas.List.FromFn.{length-range_with_len, get_or-range_with_len}
-use Rattle.tree_cotree.specs.SpanningTrees.{IsStepIn, StepsIn, IsSpanningTree}
-use Rattle.tree_cotree.specs.Joinings.{AreEnds, HangTogether}
 use Rattle.tree_cotree.proofs.AfterLemmas.{twin_edge}
 use Rattle.tree_cotree.proofs.ClassLemmas.{count_same, count_less, count_none}
 use Rattle.tree_cotree.proofs.SetLemmas.{with_one, with_itself, with_keeps, with_cases, count_with}

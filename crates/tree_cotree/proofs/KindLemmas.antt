@@ -1,9 +1,5 @@
 -- Kinds of edges, as tests and by what they are at first.
-use Rattle.tree_cotree.proofs.Common.{OrientedMesh, ◌≡◌, ℕ, ◌<◌, true, false, List, length, get_or, refl, ap, ◌∙◌, get_or-replicate, replicate}
-use Rattle.tree_cotree.specs.declared.split.Kind.{Kind}
-use Rattle.tree_cotree.specs.declared.split.Kind.TheVariants.{Tree, Cotree, Left}
-use Rattle.tree_cotree.specs.Searches.{same_kind, has_kind}
-use Rattle.tree_cotree.specs.Splits.{is_tree_kind, is_cotree_kind, is_left_kind}
+use Rattle.tree_cotree.proofs.Common.{OrientedMesh, ◌≡◌, ℕ, ◌<◌, true, false, List, length, get_or, refl, ap, ◌∙◌, get_or-replicate, replicate, same_kind, has_kind, is_tree_kind, is_cotree_kind, is_left_kind, Kind, Tree, Cotree, Left}
 
 -- a kind that is the same as another is that
 kind_is : (kind other : Kind) → same_kind kind other ≡ true → kind ≡ other

@@ -1,9 +1,5 @@
 -- The laws of splits, from those of rotation systems.
-use Rattle.tree_cotree.proofs.Common.{rotation_system, names_all, used_vertices, OrientedMesh, IsOrientedSurface, rotations_of, NamesAll, ◌≡◌, ℕ, zero, suc, ◌+◌, ◌*◌, ◌<◌, true, not, length, refl, arith, is_used, count_below}
-use Rattle.tree_cotree.specs.SpanningTrees.{HasOneRing}
-use Rattle.tree_cotree.specs.Splits.{SplitView, HasTrees, kind_of, is_tree_kind, is_cotree_kind, is_left_kind, in_tree, in_cotree, is_left}
-use Rattle.tree_cotree.specs.declared.split.Kind.{Kind}
-use Rattle.tree_cotree.specs.declared.split.Kind.TheVariants.{Tree, Cotree, Left}
+use Rattle.tree_cotree.proofs.Common.{rotation_system, names_all, used_vertices, OrientedMesh, IsOrientedSurface, rotations_of, NamesAll, ◌≡◌, ℕ, zero, suc, ◌+◌, ◌*◌, ◌<◌, true, not, length, refl, arith, is_used, count_below, HasOneRing, SplitView, HasTrees, kind_of, is_tree_kind, is_cotree_kind, is_left_kind, in_tree, in_cotree, is_left, Kind, Tree, Cotree, Left}
 use Rattle.tree_cotree.proofs.GrowthLemmas.{HasNodes}
 use Rattle.tree_cotree.proofs.SplitLemmas.{OneOfThree, tree_one, cotree_one, left_one, tree_ring, cotree_ring, count_three}
 use Rattle.tree_cotree.proofs.LeftoverLemmas.{even_left}

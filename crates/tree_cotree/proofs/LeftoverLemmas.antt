@@ -1,8 +1,6 @@
 -- The number of leftover edges is even: put in one by one, each makes one ring more or one less, and there is one ring before
 -- and one after.
-use Rattle.tree_cotree.proofs.Common.{IsPermutationBelow, Rotations, IsRotationSystem, ◌≡◌, ◌≢◌, inl, inr, ℕ, zero, suc, ◌+◌, ◌*◌, ◌<◌, ◌≤◌, Bool, true, false, not, ◌&&◌, ◌||◌, ltb, refl, ap, sym, ◌∙◌, subst, arith, cases_Bool, cases_eq, cases_lt, both_ways, ltb-true, lt-ltb, count_below}
-use Rattle.tree_cotree.specs.RingCounts.{meets, ring_count, exchanged}
-use Rattle.tree_cotree.specs.SpanningTrees.{after_dart, HasOneRing}
+use Rattle.tree_cotree.proofs.Common.{IsPermutationBelow, Rotations, IsRotationSystem, ◌≡◌, ◌≢◌, inl, inr, ℕ, zero, suc, ◌+◌, ◌*◌, ◌<◌, ◌≤◌, Bool, true, false, not, ◌&&◌, ◌||◌, ltb, refl, ap, sym, ◌∙◌, subst, arith, cases_Bool, cases_eq, cases_lt, both_ways, ltb-true, lt-ltb, count_below, meets, ring_count, exchanged, after_dart, HasOneRing}
 use Rattle.tree_cotree.proofs.ExchangeLemmas.{one_ring_less, one_ring_more, reached_from, meets_from, exchanged_permutes}
 use Rattle.tree_cotree.proofs.AfterLemmas.{after_permutes, after_agrees, after_exchanges, DifferAt}
 use Rattle.tree_cotree.proofs.SplitLemmas.{OneOfThree, tree_one, cotree_one, left_one, rings_same, one_ring_counted}

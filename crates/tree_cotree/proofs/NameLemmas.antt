@@ -1,6 +1,5 @@
 -- Classes that bear names: where two numbers are related exactly if they have one name, there are as many classes as names.
-use Rattle.tree_cotree.proofs.Common.{◌≡◌, ◌≢◌, inl, inr, ℕ, zero, suc, ◌<◌, ◌≤◌, Bool, true, false, not, eqb, refl, ap, sym, ◌∙◌, subst, arith, cases_Bool, or_cases, or_left, or_right, both_ways, eqb-true, eq-eqb, one_truth, count_below}
-use Rattle.tree_cotree.specs.RingCounts.{any_below, is_least, class_count}
+use Rattle.tree_cotree.proofs.Common.{◌≡◌, ◌≢◌, inl, inr, ℕ, zero, suc, ◌<◌, ◌≤◌, Bool, true, false, not, eqb, refl, ap, sym, ◌∙◌, subst, arith, cases_Bool, or_cases, or_left, or_right, both_ways, eqb-true, eq-eqb, one_truth, count_below, any_below, is_least, class_count}
 use Rattle.tree_cotree.proofs.ClassLemmas.{found_below, passes_below, count_same, count_less}
 
 -- of the numbers below n those with one name are related, and they bear just the names below a bound that pass a test

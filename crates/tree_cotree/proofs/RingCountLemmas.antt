@@ -1,9 +1,6 @@
 -- The rings of the set without edges, and of the set of all edges: they are the vertices, and the faces.
-use Rattle.tree_cotree.proofs.Common.{IsPermutationBelow, rotation_system, names_all, used_vertices, IsReached, OrientedMesh, IsOrientedSurface, Rotations, rotations_of, IsRotationSystem, ◌≡◌, ℕ, ◌<◌, Bool, true, false, length, slice_index, ap, sym, ◌∙◌, count_below}
-use Rattle.tree_cotree.specs.RingCounts.{ring_count}
-use Rattle.tree_cotree.specs.RingViews.{RingView, AreRingsOf, is_inside, rings_of}
+use Rattle.tree_cotree.proofs.Common.{IsPermutationBelow, rotation_system, names_all, used_vertices, IsReached, OrientedMesh, IsOrientedSurface, Rotations, rotations_of, IsRotationSystem, ◌≡◌, ℕ, ◌<◌, Bool, true, false, length, slice_index, ap, sym, ◌∙◌, count_below, ring_count, RingView, AreRingsOf, is_inside, rings_of, after_dart}
 use Rattle.tree_cotree.specs.RingSets.{rings_of_set, HaveNoEdge, HaveEveryEdge}
-use Rattle.tree_cotree.specs.SpanningTrees.{after_dart}
 use Rattle.tree_cotree.proofs.AfterLemmas.{after_permutes, after_agrees}
 use Rattle.tree_cotree.proofs.ExchangeLemmas.{meets_from, reached_from}
 use Rattle.tree_cotree.proofs.GrowthLemmas.{HasNodes}

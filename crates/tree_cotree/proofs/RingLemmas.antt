@@ -1,10 +1,7 @@
 -- The rings of a set of edges, kept as a list.
-use Rattle.tree_cotree.proofs.Common.{IsPermutationBelow, rotation_system, darts_of, next_of, twin_of, edge_of, OrientedMesh, IsOrientedSurface, Rotations, rotations_of, IsRotationSystem, ◌≡◌, ◌≢◌, inl, inr, ℕ, suc, ◌+◌, ◌<◌, Bool, false, not, List, [], ◌∷◌, ◌++◌, length, get_or, refl, ap, sym, ◌∙◌, subst, arith, set, cases_eq, cases_lt, get_or-map, length-map, get_or-set_same, get_or-set_other, length-set, length_push, get_or_push, get_or_append_left, get_or_past, get_or-replicate, length-replicate, swap, replicate, DartName}
+use Rattle.tree_cotree.proofs.Common.{IsPermutationBelow, rotation_system, darts_of, next_of, twin_of, edge_of, OrientedMesh, IsOrientedSurface, Rotations, rotations_of, IsRotationSystem, ◌≡◌, ◌≢◌, inl, inr, ℕ, suc, ◌+◌, ◌<◌, Bool, false, not, List, [], ◌∷◌, ◌++◌, length, get_or, refl, ap, sym, ◌∙◌, subst, arith, set, cases_eq, cases_lt, get_or-map, length-map, get_or-set_same, get_or-set_other, length-set, length_push, get_or_push, get_or_append_left, get_or_past, get_or-replicate, length-replicate, swap, replicate, DartName, ring_count, exchanged, RingView, AreRingsOf, ChangesByOne, dart_numbers, is_inside, rings_of, after_dart}
 use Rattle.std.proofs.lemmas.List.Edits.{swap_is}
 use Rattle.std.specs.Prelude.{slice_index}
-use Rattle.tree_cotree.specs.RingCounts.{ring_count, exchanged}
-use Rattle.tree_cotree.specs.SpanningTrees.{after_dart}
-use Rattle.tree_cotree.specs.RingViews.{RingView, AreRingsOf, ChangesByOne, dart_numbers, is_inside, rings_of}
 use Rattle.tree_cotree.proofs.ExchangeLemmas.{at_first, at_second, elsewhere, exchanged_permutes, one_ring_more, one_ring_less}
 use Rattle.tree_cotree.proofs.AfterLemmas.{turn, after_permutes, after_exchanges, DifferAt}
 use Rattle.tree_cotree.proofs.SplitLemmas.{rings_same}

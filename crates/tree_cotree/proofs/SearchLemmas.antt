@@ -1,10 +1,6 @@
 -- What an order of a search needs to grow, and what it is when it grows no more.
-use Rattle.tree_cotree.proofs.Common.{next_permutes, face-next, IsPermutationBelow, AreAlike, two_alike, steps_within, reached_keeps, rotation_system, after_steps, IsReached, OrientedMesh, IsOrientedSurface, Rotations, rotations_of, IsRotationSystem, ◌≡◌, ◌≢◌, ◌⊎◌, inl, inr, ℕ, zero, suc, ◌+◌, ◌<◌, ◌≤◌, Bool, true, false, List, [], ◌∷◌, ◌++◌, length, get_or, refl, ap, sym, ◌∙◌, subst, arith, set, cases_eq, cases_lt, length_push, get_or_push, get_or_append_left, get_or-set_same, get_or-set_other, length-set, get_or_read, map-append, append-nil, append_assoc, length-append, option_map, Option, Some, None, is_some, DartName}
+use Rattle.tree_cotree.proofs.Common.{next_permutes, face-next, IsPermutationBelow, AreAlike, two_alike, steps_within, reached_keeps, rotation_system, after_steps, IsReached, OrientedMesh, IsOrientedSurface, Rotations, rotations_of, IsRotationSystem, ◌≡◌, ◌≢◌, ◌⊎◌, inl, inr, ℕ, zero, suc, ◌+◌, ◌<◌, ◌≤◌, Bool, true, false, List, [], ◌∷◌, ◌++◌, length, get_or, refl, ap, sym, ◌∙◌, subst, arith, set, cases_eq, cases_lt, length_push, get_or_push, get_or_append_left, get_or-set_same, get_or-set_other, length-set, get_or_read, map-append, append-nil, append_assoc, length-append, option_map, Option, Some, None, is_some, DartName, dart_numbers, node_of, turn_of, kept_at, IsFound, IsNamed, LeadsBack, IsOrder, IsCrossed, AreAdded, Nodes, Vertices, Faces}
 use Rattle.halfedge_map.proofs.VertexLemmas.{turns_permute, origin-turned}
-use Rattle.tree_cotree.specs.declared.search.Nodes.{Nodes}
-use Rattle.tree_cotree.specs.declared.search.Nodes.TheVariants.{Vertices, Faces}
-use Rattle.tree_cotree.specs.RingViews.{dart_numbers}
-use Rattle.tree_cotree.specs.Searches.{node_of, turn_of, kept_at, IsFound, IsNamed, LeadsBack, IsOrder, IsCrossed, AreAdded}
 use Rattle.tree_cotree.proofs.AfterLemmas.{twin_edge}
 use Rattle.tree_cotree.proofs.ExchangeLemmas.{reached_soon}
 

@@ -1,8 +1,6 @@
 -- Tree, cotree and leftover edges of a rotation system: the rings of the tree and of tree and leftover edges, sets of faces that
 -- are closed under crossing edges, and the number of leftover edges, which is even.
-use Rattle.tree_cotree.proofs.Common.{IsPermutationBelow, steps_within, reached_step, after_steps, IsReached, Rotations, IsRotationSystem, ◌≡◌, inl, inr, ℕ, zero, suc, ◌+◌, ◌<◌, ◌≤◌, Bool, true, false, not, eqb, cond, refl, ap, sym, ◌∙◌, subst, arith, cases_Bool, cases_eq, count_below}
-use Rattle.tree_cotree.specs.RingCounts.{any_below, meets, is_least, ring_count}
-use Rattle.tree_cotree.specs.SpanningTrees.{after_dart, IsSpanningTree, HasOneRing}
+use Rattle.tree_cotree.proofs.Common.{IsPermutationBelow, steps_within, reached_step, after_steps, IsReached, Rotations, IsRotationSystem, ◌≡◌, inl, inr, ℕ, zero, suc, ◌+◌, ◌<◌, ◌≤◌, Bool, true, false, not, eqb, cond, refl, ap, sym, ◌∙◌, subst, arith, cases_Bool, cases_eq, count_below, any_below, meets, is_least, ring_count, after_dart, IsSpanningTree, HasOneRing}
 use Rattle.tree_cotree.proofs.ClassLemmas.{count_same, passes_below}
 use Rattle.tree_cotree.proofs.ExchangeLemmas.{meets_from}
 use Rattle.tree_cotree.proofs.AfterLemmas.{after_permutes, go_on, turn}

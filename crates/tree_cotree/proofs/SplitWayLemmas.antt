@@ -1,7 +1,6 @@
 -- Ways up a split: to the parents of its vertices, and from face to face of its cotree. From each one way leads to the root, and it passes
 -- nothing twice.
-use Rattle.tree_cotree.proofs.Common.{rotation_system, names_all, OrientedMesh, IsOrientedSurface, Rotations, rotations_of, IsRotationSystem, ◌≡◌, ◌⊎◌, inl, inr, ℕ, suc, ◌<◌, ◌≤◌, List, [], ◌∷◌, length, refl, ap, sym, ◌∙◌, subst, arith, cases_lt, IsPath}
-use Rattle.tree_cotree.specs.Splits.{SplitView, IsSplit, StepsToParent, StepsUp, parent_dart}
+use Rattle.tree_cotree.proofs.Common.{rotation_system, names_all, OrientedMesh, IsOrientedSurface, Rotations, rotations_of, IsRotationSystem, ◌≡◌, ◌⊎◌, inl, inr, ℕ, suc, ◌<◌, ◌≤◌, List, [], ◌∷◌, length, refl, ap, sym, ◌∙◌, subst, arith, cases_lt, IsPath, SplitView, IsSplit, StepsToParent, StepsUp, parent_dart}
 use Rattle.tree_cotree.proofs.SearchLemmas.{not_both, same_some}
 use Rattle.tree_cotree.proofs.UpwardLemmas.{IsUpward, single_path, no_loop, few_steps}
 

@@ -1,20 +1,6 @@
 -- A split, made by two searches: over the vertices, and over the faces across the edges outside the tree. The tree of the second is then
 -- turned round, so that its root is a face that has a leftover dart.
-use Rattle.tree_cotree.proofs.Common.{rotation_system, names_all, OrientedMesh, IsOrientedSurface, Rotations, rotations_of, NamesAll, ◌≡◌, inl, inr, ℕ, suc, ◌+◌, ◌/◌, ◌<◌, Bool, true, false, List, length, get_or, refl, ap, sym, ◌∙◌, subst, arith, cases_Bool, both_ways, length-replicate, Option, Some, is_some, replicate, is_used, count_below, AreJoined}
-use Rattle.tree_cotree.specs.declared.split.Kind.{Kind}
-use Rattle.tree_cotree.specs.declared.split.Kind.TheVariants.{Tree, Cotree, Left}
-use Rattle.tree_cotree.specs.declared.search.Nodes.{Nodes}
-use Rattle.tree_cotree.specs.declared.search.Nodes.TheVariants.{Vertices, Faces}
-use Rattle.tree_cotree.specs.SpanningTrees.{IsSpanningTree}
-use Rattle.tree_cotree.specs.Searches.{node_of, same_kind, has_kind, kept_at, IsSearched}
-use Rattle.tree_cotree.specs.Ways.{LeadsUp, IsRooted}
-use Rattle.tree_cotree.specs.Markings.{AreMarked, IsMarked}
-use Rattle.tree_cotree.specs.Joinings.{bound_of, is_node_of, kind_over, AreSpanned}
-use Rattle.tree_cotree.specs.Splits.{SplitView, HasParents, HasChildFaces, IsSplit, StepsToParent, StepsUp, below_edge, in_cotree}
-use Rattle.tree_cotree.specs.Colourings.{ColouringView}
-use Rattle.tree_cotree.specs.ColouredTrees.{HasColouredTrees, without_ways}
-use Rattle.tree_cotree.specs.EdgeFaces.{AreBelowEdges}
-use Rattle.tree_cotree.specs.StoredSplits.{made_split}
+use Rattle.tree_cotree.proofs.Common.{rotation_system, names_all, OrientedMesh, IsOrientedSurface, Rotations, rotations_of, NamesAll, ◌≡◌, inl, inr, ℕ, suc, ◌+◌, ◌/◌, ◌<◌, Bool, true, false, List, length, get_or, refl, ap, sym, ◌∙◌, subst, arith, cases_Bool, both_ways, length-replicate, Option, Some, is_some, replicate, is_used, count_below, AreJoined, HasColouredTrees, without_ways, ColouringView, AreBelowEdges, bound_of, is_node_of, kind_over, AreSpanned, AreMarked, IsMarked, node_of, same_kind, has_kind, kept_at, IsSearched, IsSpanningTree, SplitView, HasParents, HasChildFaces, IsSplit, StepsToParent, StepsUp, below_edge, in_cotree, made_split, LeadsUp, IsRooted, Nodes, Vertices, Faces, Kind, Tree, Cotree, Left}
 use Rattle.tree_cotree.proofs.ClassLemmas.{count_same, count_none}
 use Rattle.tree_cotree.proofs.SetLemmas.{with_one, with_cases, with_keeps, count_with, same_from_count}
 use Rattle.tree_cotree.proofs.GrowthLemmas.{HasNodes}

@@ -1,12 +1,5 @@
 -- The tree that a search makes: a node's dart leads back to a node found before, so following the darts ends at the root.
-use Rattle.tree_cotree.proofs.Common.{joined_trans, joined_sym, Rotations, IsRotationSystem, ◌≡◌, ◌≢◌, ◌⊎◌, inl, inr, ℕ, zero, suc, ◌+◌, ◌<◌, Bool, true, false, cond, List, [], ◌∷◌, length, get_or, refl, ap, sym, ◌∙◌, subst, arith, set, cases_Bool, cases_eq, cases_lt, both_ways, get_or-set_same, get_or-set_other, length-set, Option, Some, None, is_some, count_below, IsPath, AreJoined}
-use Rattle.tree_cotree.specs.SpanningTrees.{IsStepIn, StepsIn}
-use Rattle.tree_cotree.specs.declared.split.Kind.{Kind}
-use Rattle.tree_cotree.specs.declared.split.Kind.TheVariants.{Tree, Cotree, Left}
-use Rattle.tree_cotree.specs.Searches.{same_kind, has_kind, kept_at, IsFound, IsNamed, LeadsBack, IsOrder, IsSearched}
-use Rattle.tree_cotree.specs.Ways.{LeadsUp, IsRooted}
-use Rattle.tree_cotree.specs.Joinings.{HangTogether}
-use Rattle.tree_cotree.specs.Markings.{AreApart, AreMarked, IsMarked}
+use Rattle.tree_cotree.proofs.Common.{joined_trans, joined_sym, Rotations, IsRotationSystem, ◌≡◌, ◌≢◌, ◌⊎◌, inl, inr, ℕ, zero, suc, ◌+◌, ◌<◌, Bool, true, false, cond, List, [], ◌∷◌, length, get_or, refl, ap, sym, ◌∙◌, subst, arith, set, cases_Bool, cases_eq, cases_lt, both_ways, get_or-set_same, get_or-set_other, length-set, Option, Some, None, is_some, count_below, IsPath, AreJoined, HangTogether, AreApart, AreMarked, IsMarked, same_kind, has_kind, kept_at, IsFound, IsNamed, LeadsBack, IsOrder, IsSearched, IsStepIn, StepsIn, LeadsUp, IsRooted, Kind, Tree, Cotree, Left}
 use Rattle.tree_cotree.proofs.SetLemmas.{with_one, with_itself, with_other, with_cases, with_keeps, count_with}
 use Rattle.tree_cotree.proofs.ClassLemmas.{count_same}
 use Rattle.tree_cotree.proofs.AfterLemmas.{twin_edge}

@@ -1,7 +1,5 @@
 -- A tree over nodes has another root when the dart between the two is turned. And ways up a tree over the faces, a dart longer or shorter.
-use Rattle.tree_cotree.proofs.Common.{names_all, OrientedMesh, IsOrientedSurface, rotations_of, Rotations, IsRotationSystem, ◌≡◌, ◌≢◌, ◌⊎◌, inl, inr, ℕ, ◌+◌, ◌<◌, Bool, true, List, [], ◌∷◌, ◌++◌, length, refl, ap, sym, ◌∙◌, subst, arith, set, cases_eq, get_or-set_same, get_or-set_other, length-set, Option, Some, None, IsPath, AreJoined}
-use Rattle.tree_cotree.specs.Searches.{kept_at}
-use Rattle.tree_cotree.specs.Ways.{LeadsUp, IsRooted, IsWay}
+use Rattle.tree_cotree.proofs.Common.{names_all, OrientedMesh, IsOrientedSurface, rotations_of, Rotations, IsRotationSystem, ◌≡◌, ◌≢◌, ◌⊎◌, inl, inr, ℕ, ◌+◌, ◌<◌, Bool, true, List, [], ◌∷◌, ◌++◌, length, refl, ap, sym, ◌∙◌, subst, arith, set, cases_eq, get_or-set_same, get_or-set_other, length-set, Option, Some, None, IsPath, AreJoined, kept_at, LeadsUp, IsRooted, IsWay}
 use Rattle.tree_cotree.proofs.AfterLemmas.{twin_edge}
 use Rattle.tree_cotree.proofs.SearchLemmas.{not_both, same_some}
 use Rattle.tree_cotree.proofs.TreeLemmas.{upward}

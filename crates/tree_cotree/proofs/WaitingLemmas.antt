@@ -1,9 +1,6 @@
 -- The darts that wait while a search is underway: each found node is crossed, or a dart of it waits.
-use Rattle.tree_cotree.proofs.Common.{Rotations, ◌≡◌, ◌⊎◌, inl, inr, ℕ, ◌+◌, ◌-◌, ◌<◌, Bool, List, [], ◌∷◌, ◌++◌, length, get_or, refl, ap, sym, ◌∙◌, subst, arith, cases_lt, get_or_read, length-append, get_or-append_right, append-nil, append_assoc, map-append, option_to_list, Option, Some, None, IfSome, IfNone, Contains, DartName}
+use Rattle.tree_cotree.proofs.Common.{Rotations, ◌≡◌, ◌⊎◌, inl, inr, ℕ, ◌+◌, ◌-◌, ◌<◌, Bool, List, [], ◌∷◌, ◌++◌, length, get_or, refl, ap, sym, ◌∙◌, subst, arith, cases_lt, get_or_read, length-append, get_or-append_right, append-nil, append_assoc, map-append, option_to_list, Option, Some, None, IfSome, IfNone, Contains, DartName, dart_numbers, IsFound, IsOrder, IsCrossed, IsSearched, AreAdded, waiting_darts, IsTaken}
 use Rattle.std.proofs.lemmas.List.Elements.{Contains-append_left, Contains-append_right, Contains-append_cases, Contains-push_cases, Contains-get_or}
-use Rattle.tree_cotree.specs.RingViews.{dart_numbers}
-use Rattle.tree_cotree.specs.Searches.{IsFound, IsOrder, IsCrossed, IsSearched, AreAdded}
-use Rattle.tree_cotree.specs.Waiting.{waiting_darts, IsTaken}
 use Rattle.tree_cotree.proofs.SearchLemmas.{GoesOn, added_goes, crossed_on}
 
 -- what is taken stood there, what is left stood there, nothing else did, and one waits less

@@ -1,4 +1,4 @@
--- What proofs of this crate cite of others, passed on from one place (by tools/imports). Declares nothing.
+-- What proofs of this crate cite of its definitions and of other crates, passed on from one place (by tools/imports). Declares nothing.
 pub use Rattle.closed_surfaces.specs.ComponentGenera.{AreGeneraOf}
 pub use Rattle.commands.proofs.Checking.{read_passes, stops_first, stops_next, told_stops}
 pub use Rattle.commands.proofs.Deciding.{behind, differs, one_decision, refused_behind, walks_of_pair}
@@ -32,4 +32,6 @@ pub use Rattle.surface_commands.proofs.Measuring.{as_passed, as_passes, sound-ge
 pub use Rattle.surface_commands.proofs.Surfaces.{few_pass, few_passed, sound-as_surface, sound-few}
 pub use Rattle.surface_commands.specs.Surface.{genera_of, genus_line, numbers_of}
 pub use Rattle.surface_commands.specs.SurfaceInput.{as_surface, of_few_components}
+pub use Rattle.trial_commands.specs.Trial.{AreDecisions, IsRightOn, IsTrialRow, IsTried, decision_on, is_within, last_lines, pair_decided, pair_walks, pairs_decided, size_fault, surface_spelled, trial, trial_text}
+pub use Rattle.trial_commands.specs.declared.trial.Decisions.{Decisions}
 pub use Rattle.walk_files.specs.Pairs.{IsPair, pair_fault}

@@ -1,5 +1,5 @@
 -- `trial` in the words of the chain.
-use Rattle.trial_commands.proofs.Common.{AreGeneraOf, behind, refused_behind, sound-pass_unless, meant_told, unless_told, Answer, yes_with, Check, End, Refuse, Pass, Passes, pass, ◌>>=◌, refused, off_line, pair_line, told, joined_few, meaning_of, ◌≡◌, inl, inr, ℕ, true, List, refl, subst, and_from, le-leb, Option, Some, None, nat_le, chain_text, chain_mesh, IsChain, MOST_GENUS, LEAST_GRID, MOST_GRID, TrialPair, Commuting, Cell, Loops, Files, FaceList, IsFaceList, AreNumbersOf, IsOrientableSurface, SurfaceNumbers, as_passes, sound-few, few_pass, numbers_of, genera_of, of_few_components, IsPair, pair_fault}
+use Rattle.trial_commands.proofs.Common.{AreGeneraOf, behind, refused_behind, sound-pass_unless, meant_told, unless_told, Answer, yes_with, Check, End, Refuse, Pass, Passes, pass, ◌>>=◌, refused, off_line, pair_line, told, joined_few, meaning_of, ◌≡◌, inl, inr, ℕ, true, List, refl, subst, and_from, le-leb, Option, Some, None, nat_le, chain_text, chain_mesh, IsChain, MOST_GENUS, LEAST_GRID, MOST_GRID, TrialPair, Commuting, Cell, Loops, Files, FaceList, IsFaceList, AreNumbersOf, IsOrientableSurface, SurfaceNumbers, as_passes, sound-few, few_pass, numbers_of, genera_of, of_few_components, IsTrialRow, IsTried, AreDecisions, IsRightOn, is_within, size_fault, surface_spelled, pair_walks, pair_decided, pairs_decided, trial_text, trial, Decisions, IsPair, pair_fault}
 use Rattle.closed_surfaces.proofs.SomeParts.{some_parts}
 use Rattle.commands.specs.Outcomes.{Outcome, AnswersTo, IsAnswerOf}
 use Rattle.commands.specs.declared.status.Status.{Status}
@@ -8,8 +8,6 @@ use Rattle.std.specs.Prelude.{length}
 use Rattle.surf_model.specs.Surfaces.{IsSurface}
 use Rattle.walk_files.proofs.PairLemmas.{none_of_pair}
 use Rattle.surf_model.specs.declared.decisions.Answer as deciding
-use Rattle.trial_commands.specs.Trial.{IsTrialRow, IsTried, AreDecisions, IsRightOn, is_within, size_fault, surface_spelled, pair_walks, pair_decided, pairs_decided, trial_text, trial}
-use Rattle.trial_commands.specs.declared.trial.Decisions.{Decisions}
 use Rattle.trial_commands.proofs.ChainReading.{chain_read}
 use Rattle.trial_commands.proofs.Trying.{spelled_passed, sound-spelled, sizes, within_bounds, with_surface, with_few, with_numbers, with_genera, with_decisions, with_cell, with_loops, in_order, on_pair}
 

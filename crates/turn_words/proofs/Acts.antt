@@ -1,16 +1,7 @@
 -- What a put means for a state, and for a recorder.
-use Rattle.turn_words.proofs.Common.{◌≡◌, ℕ, ◌<◌, arith, sym, ◌∙◌, ap, ap₂, List, [], ◌∷◌, ◌++◌, length, reverse, Option, Some, reverse-reverse, append-nil}
-use Rattle.turn_words.specs.Modulo.{add, minus}
-use Rattle.turn_words.specs.PutTurns.{put}
-use Rattle.turn_words.specs.HyperStates.{HyperState, turn_to, value_at, hyper_next, BelongsTo, LeadOn}
-use Rattle.turn_words.specs.StepTable.{next_changed, after_steps}
-use Rattle.turn_words.specs.Recorded.{with_steps, TellsMore}
-use Rattle.turn_words.specs.Private.PutSteps.{put_steps}
-use Rattle.turn_words.specs.declared.step.Step.{Step}
-use Rattle.turn_words.specs.Lemmas.PutLaws.{put-good}
+use Rattle.turn_words.proofs.Common.{◌≡◌, ℕ, ◌<◌, arith, sym, ◌∙◌, ap, ap₂, List, [], ◌∷◌, ◌++◌, length, reverse, Option, Some, reverse-reverse, append-nil, HyperState, turn_to, value_at, hyper_next, BelongsTo, LeadOn, good_word, turn_below, next_belongs, put-good, add, minus, put_steps, put, with_steps, TellsMore, next_changed, after_steps, Step}
 use Rattle.turn_words.proofs.Telling.{tells-steps}
 use Rattle.turn_words.proofs.Reaching.{IsNextBelow, put-reached}
-use Rattle.turn_words.specs.Lemmas.HyperLaws.{good_word, turn_below, next_belongs}
 
 abbrev state-of : List ℕ → ℕ → HyperState
 state-of w n = record { word = w; number = n }

@@ -1,14 +1,5 @@
 -- Each elementary step is undone by one, so reaching goes both ways.
-use Rattle.turn_words.proofs.Common.{◌≡◌, ℕ, ◌<◌, ◌≤◌, inl, inr, arith, refl, sym, ◌∙◌, ap, ap₂, zero, suc, true, false, List, [], ◌∷◌, ◌++◌, Option, Some, None, cases_eq, eq-eqb, ne_eqb, cases_lt, lt-ltb, le-ltb, option_map}
-use Rattle.turn_words.specs.Modulo.{add, minus}
-use Rattle.turn_words.specs.StepTable.{next_changed, spur_in, spur_out, pushed, from_place, after_step, after_steps, Reaches}
-use Rattle.turn_words.specs.Canonical.{IsTurnWord}
-use Rattle.turn_words.specs.declared.step.Step.{Step}
-use Rattle.turn_words.specs.declared.step.Step.TheVariants.{SpurIn, SpurOut, Push}
-use Rattle.turn_words.specs.Lemmas.Lists.{InRange}
-use Rattle.turn_words.specs.Lemmas.Sums.{add-cases, minus-cases}
-use Rattle.turn_words.specs.Lemmas.FromEnd.{in-range-from, all-from}
-use Rattle.turn_words.specs.Lemmas.PutLaws.{up-down, down-up}
+use Rattle.turn_words.proofs.Common.{◌≡◌, ℕ, ◌<◌, ◌≤◌, inl, inr, arith, refl, sym, ◌∙◌, ap, ap₂, zero, suc, true, false, List, [], ◌∷◌, ◌++◌, Option, Some, None, cases_eq, eq-eqb, ne_eqb, cases_lt, lt-ltb, le-ltb, option_map, IsTurnWord, in-range-from, all-from, InRange, up-down, down-up, add-cases, minus-cases, add, minus, next_changed, spur_in, spur_out, pushed, from_place, after_step, after_steps, Reaches, Step, SpurIn, SpurOut, Push}
 use Rattle.turn_words.proofs.Reading.{state, keeps-step, next-back, minus-next}
 use Rattle.turn_words.proofs.Reaching.{start-sound, after_steps-append}
 

@@ -1,8 +1,7 @@
 -- The loop that finds the spoke of each place.
-use Rattle.turn_words.proofs.Common.{◌≡◌, ◌≢◌, ℕ, ◌+◌, ◌<◌, ◌≤◌, inl, inr, arith, refl, sym, ◌∙◌, ap, zero, suc, cond, ltb, List, [], ◌∷◌, length, get_or, set, cases_eq, cases_lt, lt-ltb, le-ltb, length-set, get_or-set_same, get_or-set_other}
+use Rattle.turn_words.proofs.Common.{◌≡◌, ◌≢◌, ℕ, ◌+◌, ◌<◌, ◌≤◌, inl, inr, arith, refl, sym, ◌∙◌, ap, zero, suc, cond, ltb, List, [], ◌∷◌, length, get_or, set, cases_eq, cases_lt, lt-ltb, le-ltb, length-set, get_or-set_same, get_or-set_other, IsInside, StandsTwice}
 use Rattle.std.proofs.lemmas.List.Sums.{sum_by-set, sum_by-cons}
 use Rattle.std.specs.List.{sum_by}
-use Rattle.turn_words.specs.Wheels.{IsInside, StandsTwice}
 use Rattle.turn_words.specs.Private.StoredWheels.{IsInverse}
 
 -- 1 for a place that has a spoke

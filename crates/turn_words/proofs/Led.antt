@@ -1,7 +1,5 @@
 -- Spokes put one after another, in two lists.
-use Rattle.turn_words.proofs.Common.{◌≡◌, ℕ, refl, sym, ◌∙◌, ap, List, [], ◌∷◌, ◌++◌, append_assoc, append-nil}
-use Rattle.turn_words.specs.FormLaws.{led, NotesAlong}
-use Rattle.turn_words.specs.declared.step.Step.{Step}
+use Rattle.turn_words.proofs.Common.{◌≡◌, ℕ, refl, sym, ◌∙◌, ap, List, [], ◌∷◌, ◌++◌, append_assoc, append-nil, led, NotesAlong, Step}
 
 module _ {State : Type 0} (next : List ℕ → State → ℕ → State) (places : List ℕ) where
   -- where two lists lead, one put after the other

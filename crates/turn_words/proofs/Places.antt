@@ -1,7 +1,5 @@
 -- A canonical word, said of every place in it.
-use Rattle.turn_words.proofs.Common.{◌≡◌, ◌≢◌, ◌↔◌, ℕ, inl, inr, refl, sym, ◌∙◌, ap, subst, zero, suc, true, false, List, [], ◌∷◌, ◌++◌, replicate, append_assoc, cases_eq, cases_Bool, ne_eqb}
-use Rattle.turn_words.specs.Modulo.{minus}
-use Rattle.turn_words.specs.Canonical.{turns_of, closes_bracket, AreReduced, IsCanonical, StandsNowhere}
+use Rattle.turn_words.proofs.Common.{◌≡◌, ◌≢◌, ◌↔◌, ℕ, inl, inr, refl, sym, ◌∙◌, ap, subst, zero, suc, true, false, List, [], ◌∷◌, ◌++◌, replicate, append_assoc, cases_eq, cases_Bool, ne_eqb, turns_of, closes_bracket, AreReduced, IsCanonical, StandsNowhere, minus}
 
 reduced-rest : (d : ℕ) (before rest : List ℕ) → AreReduced d (before ++ rest) → AreReduced d rest
 reduced-rest d [] rest a = a

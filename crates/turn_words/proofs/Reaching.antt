@@ -1,17 +1,6 @@
 -- The steps of a put lead to its word, in front of whatever comes next; so a word reaches what its entries, put one
 -- after another, leave.
-use Rattle.turn_words.proofs.Common.{◌≡◌, ℕ, ◌<◌, ◌≤◌, inl, inr, arith, refl, sym, ◌∙◌, ap, true, false, List, [], ◌∷◌, ◌++◌, reverse, length, Option, Some, None, cases_eq, eq-eqb, ne_eqb, append-nil, length-reverse, option_map, option_and_then}
-use Rattle.turn_words.specs.Modulo.{add, minus}
-use Rattle.turn_words.specs.PutTurns.{Put, is_open, flipped, closed, put}
-use Rattle.turn_words.specs.Private.PutSteps.{flip_steps, close_steps, put_steps}
-use Rattle.turn_words.specs.StepTable.{next_changed, spur_out, pushed, from_place, after_step, after_steps, Reaches}
-use Rattle.turn_words.specs.declared.step.Step.{Step}
-use Rattle.turn_words.specs.declared.step.Step.TheVariants.{SpurOut, Push}
-use Rattle.turn_words.specs.Lemmas.Lists.{InRange, reverse-next, reverse-cons}
-use Rattle.turn_words.specs.Lemmas.Sums.{minus-one, add-zero, add_comm}
-use Rattle.turn_words.specs.Lemmas.WordEnds.{IsGood, open-cases, put-flip, put-close, put-else, good-head, good-tail, Follows}
-use Rattle.turn_words.specs.Lemmas.PutLaws.{put-back, cases, spur, flip, close, other}
-use Rattle.turn_words.specs.Lemmas.Across.{two-up, one-one, one-minus, two-down, minus-minus}
+use Rattle.turn_words.proofs.Common.{◌≡◌, ℕ, ◌<◌, ◌≤◌, inl, inr, arith, refl, sym, ◌∙◌, ap, true, false, List, [], ◌∷◌, ◌++◌, reverse, length, Option, Some, None, cases_eq, eq-eqb, ne_eqb, append-nil, length-reverse, option_map, option_and_then, two-up, one-one, one-minus, two-down, minus-minus, InRange, reverse-next, reverse-cons, put-back, cases, spur, flip, close, other, minus-one, add-zero, add_comm, IsGood, open-cases, put-flip, put-close, put-else, good-head, good-tail, Follows, add, minus, flip_steps, close_steps, put_steps, Put, is_open, flipped, closed, put, next_changed, spur_out, pushed, from_place, after_step, after_steps, Reaches, Step, SpurOut, Push}
 use Rattle.turn_words.proofs.Reading.{read, IsSound, Keeps, state, put-sound, keeps-step}
 
 -- a rule at the place behind a front changes what comes there

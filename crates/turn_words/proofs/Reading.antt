@@ -1,16 +1,6 @@
 -- The word that is left when the entries of a word are put one after another. One elementary step anywhere in the
 -- word does not change it.
-use Rattle.turn_words.proofs.Common.{◌≡◌, ℕ, ◌<◌, ◌≤◌, inl, inr, arith, refl, sym, ◌∙◌, ap, ap₂, zero, suc, true, false, List, [], ◌∷◌, Option, Some, None, cases_eq, eq-eqb, ne_eqb, cases_lt, lt-ltb, le-ltb}
-use Rattle.turn_words.specs.Modulo.{add, minus}
-use Rattle.turn_words.specs.PutTurns.{Put, put}
-use Rattle.turn_words.specs.StepTable.{next_changed, spur_in, spur_out, pushed, from_place, after_step}
-use Rattle.turn_words.specs.declared.step.Step.{Step}
-use Rattle.turn_words.specs.declared.step.Step.TheVariants.{SpurIn, SpurOut, Push}
-use Rattle.turn_words.specs.Lemmas.Sums.{add-cases, minus-cases, minus-one, add-lt, minus-lt, zero-add, add_assoc}
-use Rattle.turn_words.specs.Lemmas.Lists.{InRange}
-use Rattle.turn_words.specs.Lemmas.WordEnds.{IsGood}
-use Rattle.turn_words.specs.Lemmas.PutLaws.{put-good, put-put}
-use Rattle.turn_words.specs.Lemmas.Across.{first_side, second_side, across}
+use Rattle.turn_words.proofs.Common.{◌≡◌, ℕ, ◌<◌, ◌≤◌, inl, inr, arith, refl, sym, ◌∙◌, ap, ap₂, zero, suc, true, false, List, [], ◌∷◌, Option, Some, None, cases_eq, eq-eqb, ne_eqb, cases_lt, lt-ltb, le-ltb, first_side, second_side, across, InRange, put-good, put-put, add-cases, minus-cases, minus-one, add-lt, minus-lt, zero-add, add_assoc, IsGood, add, minus, Put, put, next_changed, spur_in, spur_out, pushed, from_place, after_step, Step, SpurIn, SpurOut, Push}
 
 -- the entries put one after another, each changed by what the one before it left
 abbrev pub read : ℕ → Put → List ℕ → Put

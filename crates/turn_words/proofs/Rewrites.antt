@@ -1,15 +1,5 @@
 -- What a flip and a close make of a word that is read from its end, and the steps that they note.
-use Rattle.turn_words.proofs.Common.{◌≡◌, ◌≢◌, ℕ, ◌+◌, ◌-◌, ◌<◌, ◌≤◌, inl, inr, arith, refl, sym, ◌∙◌, ap, ap₂, zero, suc, Bool, true, false, List, [], ◌∷◌, ◌++◌, All, length, reverse, replicate, Option, Some, None, append_assoc, eq-eqb, ne_eqb, append-nil, length-append, length-replicate, length-reverse}
-use Rattle.turn_words.specs.Modulo.{minus}
-use Rattle.turn_words.specs.PutTurns.{is_open, flipped, closed}
-use Rattle.turn_words.specs.Recorded.{with_steps}
-use Rattle.turn_words.specs.Private.PutSteps.{flip_steps, close_steps, put_steps, pushes}
-use Rattle.turn_words.specs.Private.StoredWords.{EndsOtherwise, EndsBelow, last_changed}
-use Rattle.turn_words.specs.declared.step.Step.{Step}
-use Rattle.turn_words.specs.declared.step.Step.TheVariants.{SpurOut, Push}
-use Rattle.turn_words.specs.Lemmas.Lists.{InRange}
-use Rattle.turn_words.specs.Lemmas.WordEnds.{IsCons, open-two, open-cases}
-use Rattle.turn_words.specs.Lemmas.FromEnd.{in-range-from, in-range-reverse}
+use Rattle.turn_words.proofs.Common.{◌≡◌, ◌≢◌, ℕ, ◌+◌, ◌-◌, ◌<◌, ◌≤◌, inl, inr, arith, refl, sym, ◌∙◌, ap, ap₂, zero, suc, Bool, true, false, List, [], ◌∷◌, ◌++◌, All, length, reverse, replicate, Option, Some, None, append_assoc, eq-eqb, ne_eqb, append-nil, length-append, length-replicate, length-reverse, in-range-from, in-range-reverse, InRange, IsCons, open-two, open-cases, minus, flip_steps, close_steps, put_steps, pushes, EndsOtherwise, EndsBelow, last_changed, is_open, flipped, closed, with_steps, Step, SpurOut, Push}
 use Rattle.turn_words.proofs.RunLists.{cons-behind}
 use Rattle.turn_words.proofs.Table.{flipped-table, closed-table}
 

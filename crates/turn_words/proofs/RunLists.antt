@@ -1,9 +1,6 @@
 -- Runs, written out and read from their end.
-use Rattle.turn_words.proofs.Common.{◌≡◌, ◌≢◌, ℕ, ◌+◌, ◌-◌, ◌<◌, ◌≤◌, ◌⊎◌, inl, inr, arith, refl, sym, ◌∙◌, ap, ap₂, zero, suc, List, [], ◌∷◌, ◌++◌, length, reverse, replicate, take, get_or, Option, Some, None, append_assoc, append-nil, reverse-append, length-append, length-replicate, length-reverse, replicate_more, replicate-append-replicate, take_all, take_more, IfSome}
+use Rattle.turn_words.proofs.Common.{◌≡◌, ◌≢◌, ℕ, ◌+◌, ◌-◌, ◌<◌, ◌≤◌, ◌⊎◌, inl, inr, arith, refl, sym, ◌∙◌, ap, ap₂, zero, suc, List, [], ◌∷◌, ◌++◌, length, reverse, replicate, take, get_or, Option, Some, None, append_assoc, append-nil, reverse-append, length-append, length-replicate, length-reverse, replicate_more, replicate-append-replicate, take_all, take_more, IfSome, IsCons, EndsOtherwise, TopDiffers, written, AreFilled, AreApart}
 use Rattle.std.specs.Option.{option_to_list}
-use Rattle.turn_words.specs.Runs.{written, AreFilled, AreApart}
-use Rattle.turn_words.specs.Private.StoredWords.{EndsOtherwise, TopDiffers}
-use Rattle.turn_words.specs.Lemmas.WordEnds.{IsCons}
 
 -- a run of copies, read from its end
 pub reverse-replicate : (n x : ℕ) → reverse (replicate n x) ≡ replicate n x

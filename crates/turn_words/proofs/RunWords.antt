@@ -1,12 +1,6 @@
 -- A word as it is kept, and what the edits at its end make of it.
-use Rattle.turn_words.proofs.Common.{◌≡◌, ◌≢◌, ℕ, ◌+◌, ◌-◌, ◌<◌, ◌≤◌, ◌^◌, ◌⊎◌, inl, inr, arith, refl, sym, ◌∙◌, ap, ap₂, zero, suc, true, false, eqb, ◌&&◌, List, [], ◌∷◌, ◌++◌, length, reverse, replicate, take, drop, get_or, cases_eq, eq-eqb, ne_eqb, length-append, length-replicate, length-take-le, length_push, get_or-take, take_more, take-append-drop}
+use Rattle.turn_words.proofs.Common.{◌≡◌, ◌≢◌, ℕ, ◌+◌, ◌-◌, ◌<◌, ◌≤◌, ◌^◌, ◌⊎◌, inl, inr, arith, refl, sym, ◌∙◌, ap, ap₂, zero, suc, true, false, eqb, ◌&&◌, List, [], ◌∷◌, ◌++◌, length, reverse, replicate, take, drop, get_or, cases_eq, eq-eqb, ne_eqb, length-append, length-replicate, length-take-le, length_push, get_or-take, take_more, take-append-drop, add-cases, IsCons, open-one, open-two, open-other, add, word_of, IsStoredWord, TopDiffers, is_open, written, AreFilled, AreApart}
 use Rattle.std.specs.Bool.{Decides}
-use Rattle.turn_words.specs.Modulo.{add}
-use Rattle.turn_words.specs.PutTurns.{is_open}
-use Rattle.turn_words.specs.Runs.{written, AreFilled, AreApart}
-use Rattle.turn_words.specs.Private.StoredWords.{word_of, IsStoredWord, TopDiffers}
-use Rattle.turn_words.specs.Lemmas.Sums.{add-cases}
-use Rattle.turn_words.specs.Lemmas.WordEnds.{IsCons, open-one, open-two, open-other}
 use Rattle.turn_words.proofs.RunLists.{cons-behind, written-append, written-push, filled-front, filled-length, apart-push, apart-front, top-differs, differs-top, last-run, back, back-written, back-push, back-cons, back-first, one-list}
 
 word-some : (len start : ℕ) (rs : List (ℕ × ℕ)) → 0 < len → word_of len start rs ≡ start ∷ written rs

@@ -1,20 +1,5 @@
 -- A list of spokes leads to the canonical word of its turn word, and the steps that are noted along it lead there too.
-use Rattle.turn_words.proofs.Common.{◌≡◌, ℕ, ◌+◌, ◌%◌, ◌==◌, ◌<◌, ◌⊎◌, inl, inr, arith, refl, sym, ◌∙◌, ap, ap₂, Bool, true, false, not, List, [], ◌∷◌, ◌++◌, All, length, reverse, slice_index, Some, cases_eq, eq-eqb, ne_eqb, append-nil}
-use Rattle.turn_words.specs.Modulo.{add, minus}
-use Rattle.turn_words.specs.PutTurns.{put}
-use Rattle.turn_words.specs.StepTable.{next_changed, after_steps}
-use Rattle.turn_words.specs.Canonical.{IsCanonicalOf, IsTurnWord}
-use Rattle.turn_words.specs.Wheels.{IsWheel}
-use Rattle.turn_words.specs.HyperStates.{HyperState, empty_state, value_at, turn_to, put_spoke, hyper_next, IsHyperWheel, BelongsTo, LeadOn}
-use Rattle.turn_words.specs.FormLaws.{led, NotesAlong}
-use Rattle.turn_words.specs.SpokePaths.{place_round, turns_after, turn_word_of, turns_from}
-use Rattle.turn_words.specs.Private.PutSteps.{put_steps}
-use Rattle.turn_words.specs.declared.step.Step.{Step}
-use Rattle.turn_words.specs.Lemmas.Sums.{add-cases, minus-cases, add-lt, minus-lt}
-use Rattle.turn_words.specs.Lemmas.PutLaws.{put-good}
-use Rattle.turn_words.specs.Lemmas.Lists.{InRange}
-use Rattle.turn_words.specs.Lemmas.FromEnd.{in-range-from, all-from}
-use Rattle.turn_words.specs.Lemmas.HyperLaws.{good_word, turn_below, next_belongs, length-next, hyper_starts}
+use Rattle.turn_words.proofs.Common.{◌≡◌, ℕ, ◌+◌, ◌%◌, ◌==◌, ◌<◌, ◌⊎◌, inl, inr, arith, refl, sym, ◌∙◌, ap, ap₂, Bool, true, false, not, List, [], ◌∷◌, ◌++◌, All, length, reverse, slice_index, Some, cases_eq, eq-eqb, ne_eqb, append-nil, IsCanonicalOf, IsTurnWord, led, NotesAlong, HyperState, empty_state, value_at, turn_to, put_spoke, hyper_next, IsHyperWheel, BelongsTo, LeadOn, in-range-from, all-from, good_word, turn_below, next_belongs, length-next, hyper_starts, InRange, put-good, add-cases, minus-cases, add-lt, minus-lt, add, minus, put_steps, put, place_round, turns_after, turn_word_of, turns_from, next_changed, after_steps, IsWheel, Step}
 use Rattle.turn_words.proofs.Reaching.{IsNextBelow, next-below, after_steps-append}
 use Rattle.turn_words.proofs.Acts.{puts-lead}
 

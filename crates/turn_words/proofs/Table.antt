@@ -1,10 +1,6 @@
 -- The table of the five cases, with the word written from its start.
-use Rattle.turn_words.proofs.Common.{◌≡◌, ◌≢◌, ℕ, ◌≤◌, inl, inr, refl, sym, ◌∙◌, ap, ap₂, zero, suc, true, List, [], ◌∷◌, ◌++◌, reverse, replicate, append_assoc, cases_Bool, reverse-append, reverse-reverse}
-use Rattle.turn_words.specs.Modulo.{add, minus}
-use Rattle.turn_words.specs.PutTurns.{Put, is_open, flipped, closed, put, put_last}
+use Rattle.turn_words.proofs.Common.{◌≡◌, ◌≢◌, ℕ, ◌≤◌, inl, inr, refl, sym, ◌∙◌, ap, ap₂, zero, suc, true, List, [], ◌∷◌, ◌++◌, reverse, replicate, append_assoc, cases_Bool, reverse-append, reverse-reverse, reverse-cons, Follows, IsCons, open-cases, open-two, flipped-run, flipped-end, closed-two, put-flip, put-close, put-else, add, minus, Put, is_open, flipped, closed, put, put_last}
 use Rattle.turn_words.specs.FiveCases.{FiveCases}
-use Rattle.turn_words.specs.Lemmas.WordEnds.{Follows, IsCons, open-cases, open-two, flipped-run, flipped-end, closed-two, put-flip, put-close, put-else}
-use Rattle.turn_words.specs.Lemmas.Lists.{reverse-cons}
 use Rattle.turn_words.proofs.RunLists.{reverse-replicate}
 
 -- a front, an entry and a run, read from the end

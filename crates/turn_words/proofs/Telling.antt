@@ -1,7 +1,5 @@
 -- What a recorder tells after more steps were noted, one after another.
-use Rattle.turn_words.proofs.Common.{◌≡◌, sym, ◌∙◌, ap, subst, List, [], ◌++◌, Option, Some, None, append_assoc}
-use Rattle.turn_words.specs.Recorded.{with_steps, TellsMore}
-use Rattle.turn_words.specs.declared.step.Step.{Step}
+use Rattle.turn_words.proofs.Common.{◌≡◌, sym, ◌∙◌, ap, subst, List, [], ◌++◌, Option, Some, None, append_assoc, with_steps, TellsMore, Step}
 
 -- steps are noted
 pub tells-steps : (Such : List Step → Type 0) (o p : Option (List Step)) (steps : List Step) → p ≡ with_steps o steps → Such steps

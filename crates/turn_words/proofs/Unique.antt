@@ -1,15 +1,8 @@
 -- A turn word reaches one canonical word: the one that is left when its entries are put one after another.
-use Rattle.turn_words.proofs.Common.{◌≡◌, ◌↔◌, ℕ, ◌+◌, ◌<◌, ◌≤◌, arith, refl, sym, ◌∙◌, ap, ap₂, subst, zero, suc, List, [], ◌∷◌, ◌++◌, All, length, reverse, take, get_or, reverse-reverse, take_more, take_all}
-use Rattle.turn_words.specs.Modulo.{add}
-use Rattle.turn_words.specs.PutTurns.{put}
-use Rattle.turn_words.specs.StepTable.{Reaches}
-use Rattle.turn_words.specs.Canonical.{IsCanonical, IsCanonicalOf, IsTurnWord}
-use Rattle.turn_words.specs.Lemmas.WordEnds.{IsGood}
-use Rattle.turn_words.specs.Lemmas.Lists.{InRange}
+use Rattle.turn_words.proofs.Common.{◌≡◌, ◌↔◌, ℕ, ◌+◌, ◌<◌, ◌≤◌, arith, refl, sym, ◌∙◌, ap, ap₂, subst, zero, suc, List, [], ◌∷◌, ◌++◌, All, length, reverse, take, get_or, reverse-reverse, take_more, take_all, IsCanonical, IsCanonicalOf, IsTurnWord, canonical-from, good-from-canonical, in-range-from, InRange, IsGood, add, put, Reaches}
 use Rattle.turn_words.proofs.Reading.{read, IsSound, state}
 use Rattle.turn_words.proofs.Backward.{both-ways}
 use Rattle.turn_words.proofs.Reaching.{reached-good, left-reached, read-sound, start-sound, after_steps-append, read-append}
-use Rattle.turn_words.specs.Lemmas.FromEnd.{canonical-from, good-from-canonical, in-range-from}
 
 -- what is left of a word
 abbrev pub left : ℕ → List ℕ → List ℕ

@@ -1,5 +1,5 @@
 -- What a certificate that convinces is written as spells it again, and `verify` accepts it.
-use Rattle.verify_commands.proofs.Common.{Pass, as_certificate, certificate_behind, certificate_of, SpellsCertificate, Outcome, IsAnswerOf, Certificate, Moves, Denial, MOST_BYTES, Status, Yes, accepted_exactly, verdict_of, Verdict, Accepted, ◌≡◌, ℕ, ◌^◌, ◌<◌, ◌≤◌, List, [], length, length-append, refl, sym, ap, subst, arith, Option, Some, Result, Ok, Err, Files, FaceList, IsFaceList, HasFileSize, PeakedMoves, IsWalk, head_of_text, moves_of_text, with_peak, list_behind, list_of_text, denial_text, denial_of_lines, denial_behind, denial_of_text, list_text, CertHead, CertFault}
+use Rattle.verify_commands.proofs.Common.{Pass, as_certificate, certificate_behind, certificate_of, SpellsCertificate, Outcome, IsAnswerOf, Certificate, Moves, Denial, MOST_BYTES, Status, Yes, accepted_exactly, verdict_of, Verdict, Accepted, ◌≡◌, ℕ, ◌^◌, ◌<◌, ◌≤◌, List, [], length, length-append, refl, sym, ap, subst, arith, Option, Some, Result, Ok, Err, Files, FaceList, IsFaceList, HasFileSize, PeakedMoves, IsWalk, verify, judgement, IsVerifyInput, verdict_answer, denial_answer, head_of_text, moves_of_text, with_peak, list_behind, list_of_text, denial_text, denial_of_lines, denial_behind, denial_of_text, list_text, CertHead, CertFault}
 use Rattle.commands.specs.Certificates.{Convinces, IsPeakLow, decision_line, certificate_text}
 use Rattle.commands.specs.Lines.{line}
 use Rattle.std.specs.Prelude.{codes}
@@ -13,7 +13,6 @@ use Rattle.verify_commands.proofs.FittingDenials.{denial_fits}
 use Rattle.verify_commands.proofs.FittingMoves.{list_fits}
 use Rattle.verify_commands.proofs.VerifyRows.{sound-verify}
 use Rattle.verify_commands.proofs.VerifyOutcomes.{judged_input}
-use Rattle.verify_commands.specs.Verify.{verify, judgement, IsVerifyInput, verdict_answer, denial_answer}
 
 -- ---- the certificate of a text that is a list, and of one that is a denial
 

@@ -1,4 +1,4 @@
--- What proofs of this crate cite of others, passed on from one place (by tools/imports). Declares nothing.
+-- What proofs of this crate cite of its definitions and of other crates, passed on from one place (by tools/imports). Declares nothing.
 pub use Rattle.commands.proofs.Checking.{stops_first, stops_next, stops_second, told_stops}
 pub use Rattle.commands.proofs.Judgements.{IsJudgedBy, first_failing, judged_by, judgement_answered}
 pub use Rattle.commands.proofs.MeshTexts.{mesh_valid}
@@ -40,6 +40,8 @@ pub use Rattle.surf_model.specs.Moves.{Leads, PeakedMoves, apply_all, greatest_d
 unfoldable pub use Rattle.surf_model.specs.Moves.{apply}
 pub use Rattle.surf_model.specs.Walks.{AreWalkPair, IsWalk, darts}
 pub use Rattle.surf_model.specs.declared.moves.Move.{Move}
+pub use Rattle.verify_commands.specs.Progress.{IsVerdictOnFile, outlook, peak_in}
+pub use Rattle.verify_commands.specs.Verify.{IsDenialVerified, IsVerified, IsVerifyInput, denial_answer, denial_line, denial_status, judged_file, judgement, verdict_answer, verdict_status, verify}
 pub use Rattle.walk_files.proofs.EachLemmas.{before_ok, before_ok-more}
 pub use Rattle.walk_files.proofs.ReaderLemmas.{moves_left-started, moves_left-step}
 pub use Rattle.walk_files.specs.Certificates.{head_of_text, list_behind, list_of_text, moves_of_text, with_peak}

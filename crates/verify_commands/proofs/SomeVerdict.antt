@@ -1,5 +1,5 @@
 -- Each denial has a verdict, and one.
-use Rattle.verify_commands.proofs.Common.{first_failing, one_made, IsSound, sound-pass, Pass, Certificate, Moves, Denial, IsVerdict, HasShape, HasDegree, HasPlaces, IsGood, LabellingView, DenialVerdict, ◌≡◌, ◌⊎◌, inl, inr, ℕ, zero, suc, ◌<◌, List, length, refl, arith, Option, slice_index, Files, Edge, edge_in, FaceList, IsFaceList}
+use Rattle.verify_commands.proofs.Common.{first_failing, one_made, IsSound, sound-pass, Pass, Certificate, Moves, Denial, IsVerdict, HasShape, HasDegree, HasPlaces, IsGood, LabellingView, DenialVerdict, ◌≡◌, ◌⊎◌, inl, inr, ℕ, zero, suc, ◌<◌, List, length, refl, arith, Option, slice_index, Files, Edge, edge_in, FaceList, IsFaceList, judgement, denial_answer}
 use Rattle.labellings.proofs.EdgeRuleLemmas.{each-edge, least-against}
 use Rattle.labellings.proofs.VerdictLemmas.{one_verdict}
 use Rattle.labellings.specs.TableRules.{EntryMeetsRule}
@@ -8,7 +8,6 @@ use Rattle.labellings.specs.declared.verdict.DenialVerdict.TheVariants.{Label, W
 use Rattle.surf_model.proofs.EdgeTables.{some_table}
 use Rattle.turn_words.specs.Wheels.{StandsTwice, IsFirstTwice}
 use Rattle.labellings.specs.declared.denial.Denial as denials
-use Rattle.verify_commands.specs.Verify.{judgement, denial_answer}
 
 -- where no place is the first that stands twice, none stands twice
 none_twice : (places : List ℕ) → ((p : ℕ) → IsFirstTwice places p → ⊥) → (n p : ℕ) → p < n → StandsTwice places p → ⊥

@@ -1,5 +1,5 @@
 -- A certificate that is read in pieces, and judged while it is read.
-use Rattle.verify_commands.proofs.Common.{stops_next, told_stops, IsText, Texts, Check, End, Refuse, Passes, IsTold, file, meant, where_told, IsCertificateEnd, certificate_in, certificate_in_bytes, certificate_of, certificate_line, too_large, Stops, StopsReading, bytes_of, Certificate as Certified, MOST_BYTES, Stop, Refused, ReadFault, OutOfMemory, true, ◌≡◌, inl, inr, ℕ, ◌+◌, ◌<◌, ◌≤◌, List, [], ◌∷◌, ◌++◌, length, refl, sym, ap, ◌∙◌, subst, Option, Some, None, Result, Ok, Err, IsSome, MatchOption, Files, file_of, Move, before_ok, moves_left-step, head_of_text, moves_of_text, denial_of_lines, count_in, next_answer, after_answer, answer_first, moves_left, denial_left, Streamed, reader_at, streams_list, IsIn, IsAnswer, IsWithin, CertHead, Labels, CertFault, StreamEnd}
+use Rattle.verify_commands.proofs.Common.{stops_next, told_stops, IsText, Texts, Check, End, Refuse, Passes, IsTold, file, meant, where_told, IsCertificateEnd, certificate_in, certificate_in_bytes, certificate_of, certificate_line, too_large, Stops, StopsReading, bytes_of, Certificate as Certified, MOST_BYTES, Stop, Refused, ReadFault, OutOfMemory, true, ◌≡◌, inl, inr, ℕ, ◌+◌, ◌<◌, ◌≤◌, List, [], ◌∷◌, ◌++◌, length, refl, sym, ap, ◌∙◌, subst, Option, Some, None, Result, Ok, Err, IsSome, MatchOption, Files, file_of, Move, peak_in, before_ok, moves_left-step, head_of_text, moves_of_text, denial_of_lines, count_in, next_answer, after_answer, answer_first, moves_left, denial_left, Streamed, reader_at, streams_list, IsIn, IsAnswer, IsWithin, CertHead, Labels, CertFault, StreamEnd}
 use Rattle.commands.specs.declared.refusal.Input.{Input}
 use Rattle.commands.specs.declared.text.Text.{Text}
 use Rattle.labellings.specs.declared.denial.Denial.{Denial}
@@ -8,7 +8,6 @@ use Rattle.walk_files.specs.Readers.{Certificate}
 use Rattle.walk_files.specs.declared.certificate.CertHead.TheVariants.{Moves}
 use Rattle.walk_files.specs.declared.stream_end.StreamEnd.TheVariants.{Fault, TooLarge, Cert}
 use Rattle.walk_files.specs.declared.stream_end.StreamEnd.TheVariants as ends
-use Rattle.verify_commands.specs.Progress.{peak_in}
 use Rattle.commands.specs.declared.certificate.Certificate.TheVariants as certificates
 use Rattle.commands.specs.declared.refusal.Input.TheVariants as inputs
 use Rattle.verify_commands.proofs.Gathering.{list-moves, list-wrong, one_more, none_more, wrong_line, left_start, text_stops}

@@ -1,5 +1,5 @@
 -- `verify` in the words of the mesh.
-use Rattle.verify_commands.proofs.Common.{IsJudgedBy, judged_by, judgement_answered, mesh_valid, mesh_passes, held, meant_told, Answer, IsText, Refuse, Pass, Passes, IsTold, Holds, IsCertificateEnd, certificate_in, certificate_in_bytes, certificate_of, SpellsPair, SpellsCertificate, Outcome, AnswersTo, IsAnswerOf, certificate_line, Certificate, Status, Yes, IsVerdict, DenialHolds, DenialVerdict, accepted_exactly, verdict_of, Verdict, Accepted, Peak, AtMove, ◌≡◌, inr, ℕ, ◌≤◌, List, [], ◌∷◌, codes, refl, sym, ap, ◌∙◌, subst, ◌↔◌, Option, Files, FaceList, PeakedMoves, Leads, greatest_darts}
+use Rattle.verify_commands.proofs.Common.{IsJudgedBy, judged_by, judgement_answered, mesh_valid, mesh_passes, held, meant_told, Answer, IsText, Refuse, Pass, Passes, IsTold, Holds, IsCertificateEnd, certificate_in, certificate_in_bytes, certificate_of, SpellsPair, SpellsCertificate, Outcome, AnswersTo, IsAnswerOf, certificate_line, Certificate, Status, Yes, IsVerdict, DenialHolds, DenialVerdict, accepted_exactly, verdict_of, Verdict, Accepted, Peak, AtMove, ◌≡◌, inr, ℕ, ◌≤◌, List, [], ◌∷◌, codes, refl, sym, ap, ◌∙◌, subst, ◌↔◌, Option, Files, FaceList, PeakedMoves, Leads, greatest_darts, verify, verdict_status, denial_status, denial_line, judgement, IsVerifyInput, IsVerified, IsDenialVerified, verdict_answer, denial_answer}
 use Rattle.labellings.proofs.WalkWordLemmas.{denial_excludes}
 use Rattle.labellings.specs.declared.denial.Denial.{Denial}
 use Rattle.move_checker.specs.declared.judge.Verdict.TheVariants.{End}
@@ -8,7 +8,6 @@ use Rattle.commands.specs.declared.certificate.Certificate.TheVariants as certif
 use Rattle.commands.specs.declared.refusal.Input.TheVariants as inputs
 use Rattle.verify_commands.proofs.Streaming.{where_told_ends}
 use Rattle.verify_commands.proofs.VerifyRows.{sound-certificate}
-use Rattle.verify_commands.specs.Verify.{verify, verdict_status, denial_status, denial_line, judgement, IsVerifyInput, IsVerified, IsDenialVerified, verdict_answer, denial_answer}
 
 -- the status is yes exactly where the verdict is that the list is accepted
 yes_accepted : (verdict : Verdict) → verdict_status verdict ≡ Yes → verdict ≡ Accepted

@@ -1,10 +1,8 @@
 -- How the checks of `verify` end, by the place where the reading ends, and the verdicts on a denial.
-use Rattle.verify_commands.proofs.Common.{stops_next, stops_second, Answer, Check, Passes, ◌>>=◌, mesh_in, pair_in, certificate_in, walk_at, Concludes, IsReplyTo, Replies, Stops, Certificate, Moves, Denial, Stop, OutOfMemory, IsVerdict, DenialVerdict, verdict_of, Verdict, inr, ℕ, List, refl, sym, subst, MatchResult, ◌≡◌, Option, Files, FaceList}
+use Rattle.verify_commands.proofs.Common.{stops_next, stops_second, Answer, Check, Passes, ◌>>=◌, mesh_in, pair_in, certificate_in, walk_at, Concludes, IsReplyTo, Replies, Stops, Certificate, Moves, Denial, Stop, OutOfMemory, IsVerdict, DenialVerdict, verdict_of, Verdict, inr, ℕ, List, refl, sym, subst, MatchResult, ◌≡◌, Option, Files, FaceList, IsVerdictOnFile, denial_answer, judged_file, judgement, verdict_answer, verify}
 use Rattle.commands.specs.declared.reply.Reply.{Reply}
 use Rattle.std.proofs.Common.{Ok, Err, Result}
 use Rattle.labellings.specs.declared.denial.Denial as denials
-use Rattle.verify_commands.specs.Progress.{IsVerdictOnFile}
-use Rattle.verify_commands.specs.Verify.{denial_answer, judged_file, judgement, verdict_answer, verify}
 
 -- what is looked at behind the walks, and behind the mesh
 abbrev pub after_pair : Option Files → List ℕ → FaceList → List (List ℕ) → Check Answer

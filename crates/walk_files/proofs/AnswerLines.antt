@@ -1,8 +1,5 @@
 -- The answer that a line is.
-use Rattle.walk_files.proofs.Common.{◌≡◌, ℕ, Bool, true, false, List, [], ◌∷◌, refl, sym, ap, ◌∙◌, Option, Some, None, if◌then◌else◌, ◌&&◌, codes, bytes_eq, words, Unread, are_words, words_here}
-use Rattle.walk_files.specs.declared.certificate.Answer.{Answer}
-use Rattle.walk_files.specs.declared.certificate.Answer.TheVariants.{Homotopic, Different}
-use Rattle.walk_files.specs.Certificates.{answer_of}
+use Rattle.walk_files.proofs.Common.{◌≡◌, ℕ, Bool, true, false, List, [], ◌∷◌, refl, sym, ap, ◌∙◌, Option, Some, None, if◌then◌else◌, ◌&&◌, codes, bytes_eq, words, Unread, are_words, words_here, answer_of, Answer, Homotopic, Different}
 
 -- by what two comparisons with the lines of the answers say
 abbrev by_tests : Bool → Bool → Option Answer

@@ -1,9 +1,7 @@
 -- What is first wrong with two closed walks.
-use Rattle.walk_files.proofs.Common.{◌≡◌, ℕ, ◌<◌, List, [], ◌∷◌, length, refl, eq-eqb, eqb-true, None, Result, IsOk, All, slice_index, result_err, FaceList, darts}
+use Rattle.walk_files.proofs.Common.{◌≡◌, ℕ, ◌<◌, List, [], ◌∷◌, length, refl, eq-eqb, eqb-true, None, Result, IsOk, All, slice_index, result_err, FaceList, darts, IsClosedPair, of_entry, open_fault, loops_fault, NotClosed, NotTwo}
 use Rattle.std.specs.Prelude.{◌==◌}
 use Rattle.walk_files.specs.declared.loops.LoopFault.{LoopFault}
-use Rattle.walk_files.specs.declared.loops.LoopFault.TheVariants.{NotClosed, NotTwo}
-use Rattle.walk_files.specs.ClosedPairs.{IsClosedPair, of_entry, open_fault, loops_fault}
 use Rattle.walk_files.proofs.TwoWalkLemmas.{if_none, none_of_walks, walks_of_none, two_of_none, says}
 
 -- a list ends where it starts

@@ -1,4 +1,4 @@
--- What proofs of this crate cite of others, passed on from one place (by tools/imports). Declares nothing.
+-- What proofs of this crate cite of its definitions and of other crates, passed on from one place (by tools/imports). Declares nothing.
 pub use Rattle.file_pieces.specs.FileLines.{IsOneLine, LinesReading, ReadsLine}
 pub use Rattle.file_pieces.specs.Reading.{Reads, left_of}
 pub use Rattle.file_pieces.specs.SameLines.{SameLine, SameWord, SameWords}
@@ -41,3 +41,36 @@ pub use Rattle.text_scan.specs.Unread.{LinesLeft, Unread, are_words, at_line, be
 unfoldable pub use Rattle.text_scan.specs.Unread.{words_here}
 pub use Rattle.turn_words.specs.declared.word.Word.{Word}
 pub use Rattle.turn_words.specs.declared.word.Word.TheVariants.{Flat, Turns}
+pub use Rattle.walk_files.specs.Certificates.{across_of, answer_of, behind_head, direction_of, first_head, fitting_head, head_among, head_in, head_of, head_of_text, list_behind, list_of_text, move_of, moves_in, moves_of_text, spur_of, with_peak}
+pub use Rattle.walk_files.specs.ClosedPairs.{IsClosedPair, loops_fault, of_entry, open_fault}
+pub use Rattle.walk_files.specs.DenialTexts.{AreNumbers, AreWordNumbers, FitsDegree, HasForm, HasForms, HasNumbers, ReadsBack, denial_lines, denial_text, entry_words, face_words, labelling_text, labels_head_words, lines_behind_faces, places_words, sign_word, word_words}
+pub use Rattle.walk_files.specs.Denials.{AreFew, denial_behind, denial_in, denial_of_text, face_of, is_places, sign_of, unlabelled, word_of, words_in}
+pub use Rattle.walk_files.specs.Entries.{edge_fault, first_fault, vertex_fault, walks_fault}
+pub use Rattle.walk_files.specs.LineReads.{IsCountedTo, capped, put_before, rest_of, walk_on}
+pub use Rattle.walk_files.specs.MoveTexts.{FitsFormat, MoveFits, direction_word, head_words, list_lines, list_text, move_words}
+pub use Rattle.walk_files.specs.NumberLists.{AreWithin, NumberLine, PendingLists, list_at, stored_lists}
+pub use Rattle.walk_files.specs.NumberTexts.{entries_of, line_of_numbers, plain_walks_of, walk_of, words_of}
+pub use Rattle.walk_files.specs.PairLists.{ArePairs, WalkPair, are_paired, in_pairs, pairs_ends_fault, pairs_fault}
+pub use Rattle.walk_files.specs.Pairs.{IsPair, ends_fault, pair_fault}
+pub use Rattle.walk_files.specs.Readers.{Certificate, after_answer, answer_first, count_in, lines_to_come, moves_left, next_answer, next_of, next_on}
+pub use Rattle.walk_files.specs.StreamEnds.{end_of_text}
+pub use Rattle.walk_files.specs.Streams.{Belongs, IsAnswer, IsIn, Streamed, after_move, end_behind, reader_at, streams_list}
+pub use Rattle.walk_files.specs.WalkLists.{WalkText}
+pub use Rattle.walk_files.specs.WalkTexts.{behind_vertex, ends_at, has_header, in_version, read_tokens, times, token_of, walk_of_line, walk_text_of, walks_behind, within_limits, written_out}
+pub use Rattle.walk_files.specs.declared.certificate.Answer.{Answer}
+pub use Rattle.walk_files.specs.declared.certificate.Answer.TheVariants.{Different, Homotopic}
+pub use Rattle.walk_files.specs.declared.certificate.CertHead.{CertHead}
+pub use Rattle.walk_files.specs.declared.certificate.CertHead.TheVariants.{Labels, Moves}
+pub use Rattle.walk_files.specs.declared.entries.EntryFault.{EntryFault}
+pub use Rattle.walk_files.specs.declared.entries.EntryFault.TheVariants.{NoEdge, NoVertex}
+pub use Rattle.walk_files.specs.declared.fault.CertFault.{CertFault}
+pub use Rattle.walk_files.specs.declared.fault.CertFault.TheVariants.{Bad, Ended, Extra, NoHead, OutOfMemory, Peak}
+pub use Rattle.walk_files.specs.declared.fault.WalkFault.{WalkFault}
+pub use Rattle.walk_files.specs.declared.fault.WalkFault.TheVariants.{BadGroup, TooLong, TooMany}
+pub use Rattle.walk_files.specs.declared.limits.TheConstants.{MOST_DARTS, MOST_ENTRIES, MOST_LINES, MOST_PEAK, MOST_POWER, MOST_WALK_DARTS, MOST_WALK_VERTICES}
+pub use Rattle.walk_files.specs.declared.loops.LoopFault.TheVariants.{NotClosed, NotTwo}
+pub use Rattle.walk_files.specs.declared.pair.PairFault.TheVariants.{EndsDiffer}
+pub use Rattle.walk_files.specs.declared.stream_end.StreamEnd.{StreamEnd}
+pub use Rattle.walk_files.specs.declared.stream_end.StreamEnd.TheVariants.{Cert, Fault, TooLarge}
+pub use Rattle.walk_files.specs.declared.tokens.Token.{Token}
+pub use Rattle.walk_files.specs.declared.tokens.Token.TheVariants.{Close, Number, Open}

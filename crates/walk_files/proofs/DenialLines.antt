@@ -1,8 +1,6 @@
 -- The lines of a denial, one by one.
-use Rattle.walk_files.proofs.Common.{FaceLabels, LabellingView, ◌≡◌, ℕ, suc, ◌+◌, ◌<◌, Bool, true, false, List, [], ◌∷◌, ◌++◌, length, refl, sym, ap, ◌∙◌, subst, arith, length-append, All-head, All-tail, Option, Some, None, Err, codes, All, bytes_eq, some_first, each_some, Line, is_filled, number_of, Unread, lines_left, at_line, past_word, next_word}
+use Rattle.walk_files.proofs.Common.{FaceLabels, LabellingView, ◌≡◌, ℕ, suc, ◌+◌, ◌<◌, Bool, true, false, List, [], ◌∷◌, ◌++◌, length, refl, sym, ap, ◌∙◌, subst, arith, length-append, All-head, All-tail, Option, Some, None, Err, codes, All, bytes_eq, some_first, each_some, Line, is_filled, number_of, Unread, lines_left, at_line, past_word, next_word, sign_of, words_in, denial_in, AreFew, Bad}
 use Rattle.std.specs.Prelude.{drop, ◌^◌}
-use Rattle.walk_files.specs.declared.fault.CertFault.TheVariants.{Bad}
-use Rattle.walk_files.specs.Denials.{sign_of, words_in, denial_in, AreFew}
 use Rattle.walk_files.proofs.FewLemmas.{found_line}
 
 -- the line of a face

@@ -1,8 +1,7 @@
 -- The parts of a denial that are written one after another.
-use Rattle.walk_files.proofs.Common.{FaceLabels, LabellingView, labels_at, signs_of, Denial, ◌≡◌, ℕ, zero, suc, ◌+◌, ◌-◌, ◌^◌, ◌<◌, ◌≤◌, false, get_or, List, [], ◌∷◌, ◌++◌, length, drop, refl, sym, ap, ◌∙◌, append_assoc, inl, inr, arith, eq-or-lt_of_le, append-nil, All-cons, All-nil, flat_map-map, slice_get-get_or, Some, flat_map, slice_get, slice_index, decimal, line_of-numbers, spaced, is_flipped, line_of, Word, Turns, Flat}
+use Rattle.walk_files.proofs.Common.{FaceLabels, LabellingView, labels_at, signs_of, Denial, ◌≡◌, ℕ, zero, suc, ◌+◌, ◌-◌, ◌^◌, ◌<◌, ◌≤◌, false, get_or, List, [], ◌∷◌, ◌++◌, length, drop, refl, sym, ap, ◌∙◌, append_assoc, inl, inr, arith, eq-or-lt_of_le, append-nil, All-cons, All-nil, flat_map-map, slice_get-get_or, Some, flat_map, slice_get, slice_index, decimal, line_of-numbers, spaced, is_flipped, line_of, Word, Turns, Flat, entry_words, face_words, places_words, word_words, labels_head_words, lines_behind_faces, labelling_text, denial_text, AreNumbers, HasNumbers, AreWordNumbers, HasForm, HasForms, FitsDegree, ReadsBack}
 use Rattle.std.proofs.lemmas.List.Concat.{flat_map-append}
 use Rattle.std.specs.Prelude.{map}
-use Rattle.walk_files.specs.DenialTexts.{entry_words, face_words, places_words, word_words, labels_head_words, lines_behind_faces, labelling_text, denial_text, AreNumbers, HasNumbers, AreWordNumbers, HasForm, HasForms, FitsDegree, ReadsBack}
 
 -- entry k of a turn word, behind the first
 pub later_entry : (word : List ℕ) (k : ℕ) → 1 ≤ k → k < length word → slice_get (drop 1 word) (k - 1) ≡ Some (slice_index word k)

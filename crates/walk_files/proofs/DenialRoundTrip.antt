@@ -1,13 +1,6 @@
 -- A denial that was written is read again.
-use Rattle.walk_files.proofs.Common.{FaceLabels, Denial, ◌≡◌, ℕ, ◌+◌, ◌^◌, ◌<◌, ◌==◌, Bool, true, false, List, [], ◌∷◌, ◌++◌, map, refl, ap, sym, subst, ◌∙◌, arith, append_assoc, and_parts, ne_eqb, append-nil, All-head, All-tail, All-cons, All-nil, All-append, All-map, All-weaker, list_all, Some, None, Ok, Result, decimal, codes, cond, All, bytes_eq, IsWritable, IsLine, decimal_is, numbered, lines_from-written, number-writable, number-read, decimals-writable, numbers-read, integer-writable, integer-read, each_some, unmarked, lines_from, full_lines, end_line, is_digit, number_of, line_of, Word, Turns, Flat}
+use Rattle.walk_files.proofs.Common.{FaceLabels, Denial, ◌≡◌, ℕ, ◌+◌, ◌^◌, ◌<◌, ◌==◌, Bool, true, false, List, [], ◌∷◌, ◌++◌, map, refl, ap, sym, subst, ◌∙◌, arith, append_assoc, and_parts, ne_eqb, append-nil, All-head, All-tail, All-cons, All-nil, All-append, All-map, All-weaker, list_all, Some, None, Ok, Result, decimal, codes, cond, All, bytes_eq, IsWritable, IsLine, decimal_is, numbered, lines_from-written, number-writable, number-read, decimals-writable, numbers-read, integer-writable, integer-read, each_some, unmarked, lines_from, full_lines, end_line, is_digit, number_of, line_of, Word, Turns, Flat, head_of, head_among, behind_head, head_of_text, fitting_head, sign_word, face_words, places_words, entry_words, word_words, labels_head_words, lines_behind_faces, denial_lines, denial_text, AreNumbers, FitsDegree, ReadsBack, sign_of, face_of, is_places, word_of, denial_in, unlabelled, denial_behind, denial_of_text, entries_of, Different, Labels, CertFault}
 use Rattle.std.specs.Fmt.{signed_decimal}
-use Rattle.walk_files.specs.declared.certificate.CertHead.TheVariants.{Labels}
-use Rattle.walk_files.specs.declared.certificate.Answer.TheVariants.{Different}
-use Rattle.walk_files.specs.declared.fault.CertFault.{CertFault}
-use Rattle.walk_files.specs.NumberTexts.{entries_of}
-use Rattle.walk_files.specs.Certificates.{head_of, head_among, behind_head, head_of_text, fitting_head}
-use Rattle.walk_files.specs.Denials.{sign_of, face_of, is_places, word_of, denial_in, unlabelled, denial_behind, denial_of_text}
-use Rattle.walk_files.specs.DenialTexts.{sign_word, face_words, places_words, entry_words, word_words, labels_head_words, lines_behind_faces, denial_lines, denial_text, AreNumbers, FitsDegree, ReadsBack}
 
 -- ---- the words that are written
 

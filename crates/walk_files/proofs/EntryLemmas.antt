@@ -1,9 +1,6 @@
 -- The least number that passes a test, and what is first wrong with walks.
-use Rattle.walk_files.proofs.Common.{◌≡◌, ℕ, zero, suc, ◌+◌, ◌<◌, ◌≤◌, List, [], ◌∷◌, length, drop, Bool, true, false, refl, sym, ap, subst, ◌∙◌, inl, inr, add-one, arith, eq-or-lt_of_le, get_or_default, find, range_with_len, option_or, Option, Some, None, cond, not, option_map, slice_index, slice_get, FaceList, is_edge, is_used, darts, IsWalk}
+use Rattle.walk_files.proofs.Common.{◌≡◌, ℕ, zero, suc, ◌+◌, ◌<◌, ◌≤◌, List, [], ◌∷◌, length, drop, Bool, true, false, refl, sym, ap, subst, ◌∙◌, inl, inr, add-one, arith, eq-or-lt_of_le, get_or_default, find, range_with_len, option_or, Option, Some, None, cond, not, option_map, slice_index, slice_get, FaceList, is_edge, is_used, darts, IsWalk, vertex_fault, edge_fault, first_fault, EntryFault, NoVertex, NoEdge}
 use Rattle.surf_model.specs.Numbers.{first_below}
-use Rattle.walk_files.specs.declared.entries.EntryFault.{EntryFault}
-use Rattle.walk_files.specs.declared.entries.EntryFault.TheVariants.{NoVertex, NoEdge}
-use Rattle.walk_files.specs.Entries.{vertex_fault, edge_fault, first_fault}
 
 none_from : (test : ℕ → Bool) (a n : ℕ) → ((k : ℕ) → a ≤ k → k < a + n → test k ≡ false) → find test (range_with_len a n) ≡ None
 none_from test a zero h = refl

@@ -1,10 +1,8 @@
 -- A short text has few lines, each with few words.
-use Rattle.walk_files.proofs.Common.{◌≡◌, inl, inr, ℕ, zero, suc, ◌==◌, ◌+◌, ◌<◌, ◌≤◌, ◌^◌, Bool, true, false, List, [], ◌∷◌, length, drop, refl, sym, subst, arith, cases_Bool, All-head, All-tail, All-cons, All-nil, enumerate_from, slice_split, onto_first, before_first, All, filter, cond, is_some, before_first-yes, before_first-no, Line, is_filled, is_blank, unmarked, uncommented, cut, words, lines_from, full_lines, Unread, lines_left, at_line}
+use Rattle.walk_files.proofs.Common.{◌≡◌, inl, inr, ℕ, zero, suc, ◌==◌, ◌+◌, ◌<◌, ◌≤◌, ◌^◌, Bool, true, false, List, [], ◌∷◌, length, drop, refl, sym, subst, arith, cases_Bool, All-head, All-tail, All-cons, All-nil, enumerate_from, slice_split, onto_first, before_first, All, filter, cond, is_some, before_first-yes, before_first-no, Line, is_filled, is_blank, unmarked, uncommented, cut, words, lines_from, full_lines, Unread, lines_left, at_line, behind_head, answer_of, AreFew}
 use Rattle.std.proofs.lemmas.List.Splits.{slice_split-cons_yes, slice_split-cons_no}
 use Rattle.std.specs.Prelude.{map}
 use Rattle.text_scan.proofs.StepLemmas.{few_lines}
-use Rattle.walk_files.specs.Certificates.{behind_head, answer_of}
-use Rattle.walk_files.specs.Denials.{AreFew}
 
 short-more : (n m : ℕ) (pieces : List (List ℕ)) → n ≤ m → All (λ piece. length piece ≤ n) pieces → All (λ piece. length piece ≤ m) pieces
 short-more n m [] le short = All-nil (λ piece. length piece ≤ m)

@@ -1,9 +1,5 @@
 -- The header of a walk text, and what stands behind it.
-use Rattle.walk_files.proofs.Common.{◌≡◌, ◌⊎◌, inl, inr, ℕ, Bool, true, false, List, [], ◌∷◌, drop, refl, sym, ap, ◌∙◌, codes, Option, Some, None, Result, Err, MatchOption, Line, is_filled, words, full_lines, LinesLeft, Unread, lines_left, at_line, are_words, words_here}
-use Rattle.walk_files.specs.NumberTexts.{plain_walks_of}
-use Rattle.walk_files.specs.WalkLists.{WalkText}
-use Rattle.walk_files.specs.WalkTexts.{has_header, in_version, walks_behind, walk_text_of}
-use Rattle.walk_files.specs.declared.fault.WalkFault.{WalkFault}
+use Rattle.walk_files.proofs.Common.{◌≡◌, ◌⊎◌, inl, inr, ℕ, Bool, true, false, List, [], ◌∷◌, drop, refl, sym, ap, ◌∙◌, codes, Option, Some, None, Result, Err, MatchOption, Line, is_filled, words, full_lines, LinesLeft, Unread, lines_left, at_line, are_words, words_here, plain_walks_of, WalkText, has_header, in_version, walks_behind, walk_text_of, WalkFault}
 use Rattle.walk_files.specs.declared.fault.WalkFault.TheVariants.{OutOfMemory}
 use Rattle.walk_files.proofs.FewLemmas.{found_line}
 

@@ -1,7 +1,6 @@
 -- Lists: one element more, and lists of numbers that lie one after another.
-use Rattle.walk_files.proofs.Common.{◌≡◌, ℕ, ◌+◌, ◌-◌, ◌≤◌, List, [], ◌∷◌, ◌++◌, length, take, drop, refl, sym, ap, subst, ◌∙◌, arith, drop-append-le, take-append-le, length-drop, All-head, All-tail, All-more, slice_get_within, get_or_from_slice_get, All, Some, slice_get}
+use Rattle.walk_files.proofs.Common.{◌≡◌, ℕ, ◌+◌, ◌-◌, ◌≤◌, List, [], ◌∷◌, ◌++◌, length, take, drop, refl, sym, ap, subst, ◌∙◌, arith, drop-append-le, take-append-le, length-drop, All-head, All-tail, All-more, slice_get_within, get_or_from_slice_get, All, Some, slice_get, list_at, stored_lists, AreWithin}
 use Rattle.walk_files.specs.declared.number_lines.Place.{Place}
-use Rattle.walk_files.specs.NumberLists.{list_at, stored_lists, AreWithin}
 
 -- what holds of the first ones and of the next one holds of one more
 pub all-next : {X : Type 0} (P : X → Type 0) (xs : List X) (k : ℕ) (x : X) → All P (take k xs) → slice_get xs k ≡ Some x → P x

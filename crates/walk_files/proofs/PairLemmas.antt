@@ -1,9 +1,9 @@
 -- What is first wrong with two walks.
-use Rattle.walk_files.proofs.Common.{◌≡◌, ℕ, ◌<◌, List, [], ◌∷◌, length, true, false, refl, eq-eqb, eqb-true, None, Result, IsOk, All, slice_index, result_err, FaceList, darts, HaveCommonEnds}
+use Rattle.walk_files.proofs.Common.{◌≡◌, ℕ, ◌<◌, List, [], ◌∷◌, length, true, false, refl, eq-eqb, eqb-true, None, Result, IsOk, All, slice_index, result_err, FaceList, darts, HaveCommonEnds, IsPair, ends_fault, pair_fault, EndsDiffer}
 use Rattle.std.specs.Prelude.{◌==◌}
+use Rattle.walk_files.specs.Pairs.{of_entry}
 use Rattle.walk_files.specs.declared.pair.PairFault.{PairFault}
-use Rattle.walk_files.specs.declared.pair.PairFault.TheVariants.{EndsDiffer, NotTwo}
-use Rattle.walk_files.specs.Pairs.{IsPair, of_entry, ends_fault, pair_fault}
+use Rattle.walk_files.specs.declared.pair.PairFault.TheVariants.{NotTwo}
 use Rattle.walk_files.proofs.TwoWalkLemmas.{if_none, none_of_walks, walks_of_none, two_of_none, says}
 
 no_ends_fault : (first second : List ℕ) → HaveCommonEnds first second → ends_fault first second ≡ None

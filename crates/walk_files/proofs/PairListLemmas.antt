@@ -1,12 +1,9 @@
 -- What is first wrong with walks that should come in pairs.
-use Rattle.walk_files.proofs.Common.{◌≡◌, ℕ, zero, suc, ◌+◌, ◌*◌, ◌<◌, ◌≤◌, List, [], ◌∷◌, length, drop, Bool, true, false, refl, sym, ap, ◌∙◌, eq-eqb, arith, eqb-true, All-head, All-tail, All-cons, All-nil, option_or, Option, Some, None, Result, IsOk, All, option_map, slice_index, slice_get, if◌then◌else◌, result_err, FaceList, darts, IsWalk, HaveCommonEnds}
+use Rattle.walk_files.proofs.Common.{◌≡◌, ℕ, zero, suc, ◌+◌, ◌*◌, ◌<◌, ◌≤◌, List, [], ◌∷◌, length, drop, Bool, true, false, refl, sym, ap, ◌∙◌, eq-eqb, arith, eqb-true, All-head, All-tail, All-cons, All-nil, option_or, Option, Some, None, Result, IsOk, All, option_map, slice_index, slice_get, if◌then◌else◌, result_err, FaceList, darts, IsWalk, HaveCommonEnds, vertex_fault, edge_fault, first_fault, walks_fault, WalkPair, in_pairs, are_paired, ArePairs, pairs_ends_fault, pairs_fault, WalkText, EntryFault}
 use Rattle.std.specs.Prelude.{◌==◌}
-use Rattle.walk_files.specs.declared.entries.EntryFault.{EntryFault}
+use Rattle.walk_files.specs.PairLists.{of_entry, ends_fault}
 use Rattle.walk_files.specs.declared.pairs.PairsFault.{PairsFault}
 use Rattle.walk_files.specs.declared.pairs.PairsFault.TheVariants.{NotPairs, EndsDiffer}
-use Rattle.walk_files.specs.Entries.{vertex_fault, edge_fault, first_fault, walks_fault}
-use Rattle.walk_files.specs.PairLists.{WalkPair, in_pairs, are_paired, ArePairs, of_entry, ends_fault, pairs_ends_fault, pairs_fault}
-use Rattle.walk_files.specs.WalkLists.{WalkText}
 use Rattle.walk_files.proofs.TwoWalkLemmas.{says, if_none}
 use Rattle.walk_files.proofs.EntryLemmas.{both_none, none_or, some_or, walk_of_none, no_vertex_fault, no_edge_fault}
 

@@ -1,10 +1,5 @@
 -- A line whose words are all numbers is a walk line, and the numbers are its walk.
-use Rattle.walk_files.proofs.Common.{◌≡◌, ℕ, ◌+◌, ◌<◌, ◌≤◌, ◌==◌, Bool, true, false, List, [], ◌∷◌, length, map, refl, sym, ap, ◌∙◌, arith, and_parts, list_all, codes, nat_lt, ◌||◌, if◌then◌else◌, Option, Some, None, option_map, Ok, Err, bytes_eq, darts, each_some, some_first, Line, is_filled, is_digit, is_natural, number_of}
-use Rattle.walk_files.specs.LineReads.{walk_on}
-use Rattle.walk_files.specs.WalkTexts.{token_of, behind_vertex, read_tokens, written_out, within_limits}
-use Rattle.walk_files.specs.declared.fault.WalkFault.TheVariants.{TooLong}
-use Rattle.walk_files.specs.declared.limits.TheConstants.{MOST_DARTS, MOST_WALK_DARTS}
-use Rattle.walk_files.specs.declared.tokens.Token.TheVariants.{Number}
+use Rattle.walk_files.proofs.Common.{◌≡◌, ℕ, ◌+◌, ◌<◌, ◌≤◌, ◌==◌, Bool, true, false, List, [], ◌∷◌, length, map, refl, sym, ap, ◌∙◌, arith, and_parts, list_all, codes, nat_lt, ◌||◌, if◌then◌else◌, Option, Some, None, option_map, Ok, Err, bytes_eq, darts, each_some, some_first, Line, is_filled, is_digit, is_natural, number_of, walk_on, token_of, behind_vertex, read_tokens, written_out, within_limits, TooLong, MOST_DARTS, MOST_WALK_DARTS, Number}
 
 -- a word of digits is no parenthesis
 digits_differ : (mark : ℕ) (word : List ℕ) → mark < 48 → list_all is_digit word ≡ true → bytes_eq word (mark ∷ []) ≡ false

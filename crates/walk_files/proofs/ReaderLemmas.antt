@@ -1,11 +1,5 @@
 -- A reader gives the moves of its text one by one.
-use Rattle.walk_files.proofs.Common.{◌≡◌, ℕ, ◌+◌, ◌-◌, ◌==◌, Bool, true, false, List, [], ◌∷◌, drop, refl, sym, ap, ◌∙◌, drop-drop, arith, ok_or, Option, Some, None, Result, Ok, Err, cond, option_map, Move, ok_first, Line, full_lines, end_line}
-use Rattle.walk_files.specs.declared.fault.CertFault.{CertFault}
-use Rattle.walk_files.specs.declared.fault.CertFault.TheVariants.{Bad, Ended, Extra}
-use Rattle.walk_files.specs.declared.certificate.CertHead.{CertHead}
-use Rattle.walk_files.specs.declared.certificate.CertHead.TheVariants.{Moves}
-use Rattle.walk_files.specs.Certificates.{behind_head, move_of, moves_in, moves_of_text}
-use Rattle.walk_files.specs.Readers.{Certificate, count_in, next_of, next_answer, after_answer, moves_left, answer_first}
+use Rattle.walk_files.proofs.Common.{◌≡◌, ℕ, ◌+◌, ◌-◌, ◌==◌, Bool, true, false, List, [], ◌∷◌, drop, refl, sym, ap, ◌∙◌, drop-drop, arith, ok_or, Option, Some, None, Result, Ok, Err, cond, option_map, Move, ok_first, Line, full_lines, end_line, behind_head, move_of, moves_in, moves_of_text, Certificate, count_in, next_of, next_answer, after_answer, moves_left, answer_first, CertHead, Moves, CertFault, Bad, Ended, Extra}
 
 -- the state behind a move, or the same state
 abbrev state : List ℕ → CertHead → ℕ → Bool → Option CertFault → Certificate

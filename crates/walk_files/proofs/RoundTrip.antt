@@ -1,11 +1,6 @@
 -- A list of moves that was written is read again.
-use Rattle.walk_files.proofs.Common.{◌≡◌, ℕ, ◌+◌, ◌-◌, ◌^◌, ◌<◌, eqb, Bool, true, false, List, [], ◌∷◌, ◌++◌, length, map, refl, ap, ◌∙◌, arith, le-ltb, ne_eqb, All-head, All-tail, All-cons, All-map, All-weaker, Some, None, Ok, decimal, codes, All, Move, Insert, Remove, Across, IsWritable, IsLine, numbered, lines_from-written, AreWritable, all_writable, decimal-writable, number-writable, number_below-decimal, number-read, unmarked, lines_from, full_lines, end_line, line_of}
+use Rattle.walk_files.proofs.Common.{◌≡◌, ℕ, ◌+◌, ◌-◌, ◌^◌, ◌<◌, eqb, Bool, true, false, List, [], ◌∷◌, ◌++◌, length, map, refl, ap, ◌∙◌, arith, le-ltb, ne_eqb, All-head, All-tail, All-cons, All-map, All-weaker, Some, None, Ok, decimal, codes, All, Move, Insert, Remove, Across, IsWritable, IsLine, numbered, lines_from-written, AreWritable, all_writable, decimal-writable, number-writable, number_below-decimal, number-read, unmarked, lines_from, full_lines, end_line, line_of, head_of, head_among, behind_head, direction_of, move_of, moves_in, head_of_text, fitting_head, moves_of_text, list_behind, list_of_text, with_peak, direction_word, move_words, head_words, list_lines, list_text, FitsFormat, MoveFits, Homotopic, Moves, MOST_PEAK}
 use Rattle.surf_model.specs.Moves.{PeakedMoves}
-use Rattle.walk_files.specs.declared.certificate.CertHead.TheVariants.{Moves}
-use Rattle.walk_files.specs.declared.certificate.Answer.TheVariants.{Homotopic}
-use Rattle.walk_files.specs.Certificates.{head_of, head_among, behind_head, direction_of, move_of, moves_in, head_of_text, fitting_head, moves_of_text, list_behind, list_of_text, with_peak}
-use Rattle.walk_files.specs.MoveTexts.{direction_word, move_words, head_words, list_lines, list_text, FitsFormat, MoveFits}
-use Rattle.walk_files.specs.declared.limits.TheConstants.{MOST_PEAK}
 
 -- ---- the words that are written
 

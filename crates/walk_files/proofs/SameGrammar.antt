@@ -1,6 +1,5 @@
 -- Lines that say the same mean the same in a certificate.
-use Rattle.walk_files.proofs.Common.{SameWord, SameWords, SameLine, ◌≡◌, ℕ, ◌^◌, Bool, true, false, List, [], ◌∷◌, take, refl, sym, ◌∙◌, lit≤, codes, None, bytes_eq, number_of, number_below}
-use Rattle.walk_files.specs.Certificates.{head_of, direction_of, spur_of, across_of, move_of}
+use Rattle.walk_files.proofs.Common.{SameWord, SameWords, SameLine, ◌≡◌, ℕ, ◌^◌, Bool, true, false, List, [], ◌∷◌, take, refl, sym, ◌∙◌, lit≤, codes, None, bytes_eq, number_of, number_below, head_of, direction_of, spur_of, across_of, move_of}
 
 number_same : (a b : List ℕ) → SameWord a b → number_of a ≡ number_of b
 number_same a b same = same.number (2 ^ 32) (lit≤ tt)

@@ -1,13 +1,6 @@
 -- The denial of a certificate that is read in pieces: its lines behind as many line feeds as lines came before.
-use Rattle.walk_files.proofs.Common.{LinesReading, Reads, left_of, Denial, inl, inr, ◌≡◌, ◌⊎◌, ℕ, zero, suc, ◌+◌, ◌-◌, ◌<◌, List, ◌∷◌, ◌++◌, length, refl, sym, ap, subst, ◌∙◌, arith, Option, Some, None, Result, Ok, Err, IfSome, replicate, words_here-line_feed, behind-line_feed, cut_first, lines_from_here, Line, is_filled, cut, unmarked, lines_from, full_lines, end_line, behind}
+use Rattle.walk_files.proofs.Common.{LinesReading, Reads, left_of, Denial, inl, inr, ◌≡◌, ◌⊎◌, ℕ, zero, suc, ◌+◌, ◌-◌, ◌<◌, List, ◌∷◌, ◌++◌, length, refl, sym, ap, subst, ◌∙◌, arith, Option, Some, None, Result, Ok, Err, IfSome, replicate, words_here-line_feed, behind-line_feed, cut_first, lines_from_here, Line, is_filled, cut, unmarked, lines_from, full_lines, end_line, behind, denial_in, unlabelled, end_of_text, IsAnswer, end_behind, CertFault, NoHead, Bad, Ended, Extra, Peak, OutOfMemory, StreamEnd, Cert}
 use Rattle.std.proofs.Common.{cond}
-use Rattle.walk_files.specs.Denials.{denial_in, unlabelled}
-use Rattle.walk_files.specs.StreamEnds.{end_of_text}
-use Rattle.walk_files.specs.Streams.{IsAnswer, end_behind}
-use Rattle.walk_files.specs.declared.fault.CertFault.{CertFault}
-use Rattle.walk_files.specs.declared.fault.CertFault.TheVariants.{NoHead, Bad, Ended, Extra, Peak, OutOfMemory}
-use Rattle.walk_files.specs.declared.stream_end.StreamEnd.{StreamEnd}
-use Rattle.walk_files.specs.declared.stream_end.StreamEnd.TheVariants.{Cert}
 
 -- ---- lines behind line feeds
 

@@ -1,16 +1,8 @@
 -- The lines of a certificate that is read in pieces.
-use Rattle.walk_files.proofs.Common.{ReadsLine, LinesReading, Reads, left_of, SameLine, ◌≡◌, ◌⊎◌, ℕ, ◌+◌, ◌-◌, ◌<◌, ◌≤◌, ◌==◌, Bool, true, false, List, [], ◌∷◌, length, drop, inl, inr, refl, sym, ap, subst, ◌∙◌, arith, drop-drop, ok_or, Option, Some, None, Result, Ok, Err, OnOk, IfNone, IfSome, MatchOption, option_map, Move, Line, is_filled, cut, unmarked, lines_from, full_lines, end_line, Unread, lines_left, at_line}
+use Rattle.walk_files.proofs.Common.{ReadsLine, LinesReading, Reads, left_of, SameLine, ◌≡◌, ◌⊎◌, ℕ, ◌+◌, ◌-◌, ◌<◌, ◌≤◌, ◌==◌, Bool, true, false, List, [], ◌∷◌, length, drop, inl, inr, refl, sym, ap, subst, ◌∙◌, arith, drop-drop, ok_or, Option, Some, None, Result, Ok, Err, OnOk, IfNone, IfSome, MatchOption, option_map, Move, Line, is_filled, cut, unmarked, lines_from, full_lines, end_line, Unread, lines_left, at_line, move_of, answer_of, fitting_head, head_in, first_head, head_among, head_of_text, behind_head, count_in, next_of, next_on, next_answer, lines_to_come, Streamed, reader_at, streams_list, IsIn, Belongs, IsAnswer, end_behind, after_move, Answer, CertHead, CertFault, NoHead, Bad, Ended, Extra, StreamEnd, Fault, TooLarge, Cert}
 use Rattle.file_pieces.proofs.ShortLemmas.{no_lines}
 use Rattle.std.proofs.Common.{cond}
-use Rattle.walk_files.specs.declared.fault.CertFault.{CertFault}
-use Rattle.walk_files.specs.declared.fault.CertFault.TheVariants.{NoHead, Bad, Ended, Extra}
-use Rattle.walk_files.specs.declared.stream_end.StreamEnd.{StreamEnd}
-use Rattle.walk_files.specs.declared.stream_end.StreamEnd.TheVariants.{Fault, TooLarge, Cert, OutOfMemory}
-use Rattle.walk_files.specs.Certificates.{move_of, answer_of, fitting_head, head_in, first_head, head_among, head_of_text, behind_head}
-use Rattle.walk_files.specs.Readers.{count_in, next_of, next_on, next_answer, lines_to_come}
-use Rattle.walk_files.specs.declared.certificate.Answer.{Answer}
-use Rattle.walk_files.specs.declared.certificate.CertHead.{CertHead}
-use Rattle.walk_files.specs.Streams.{Streamed, reader_at, streams_list, IsIn, Belongs, IsAnswer, end_behind, after_move}
+use Rattle.walk_files.specs.declared.stream_end.StreamEnd.TheVariants.{OutOfMemory}
 use Rattle.walk_files.proofs.SameGrammar.{move_same, head_same}
 
 -- ---- the short line

@@ -1,14 +1,6 @@
 -- Each walk of a text has a vertex.
-use Rattle.walk_files.proofs.Common.{◌≡◌, ℕ, ◌+◌, ◌<◌, List, [], ◌∷◌, ◌++◌, length, drop, Bool, true, false, refl, sym, ap, subst, ◌∙◌, arith, All-head, All-tail, All-cons, All-nil, All-push, filter_passes, enumerate_from, sum_by, ok_or, Option, Some, None, Result, Ok, Err, All, if◌then◌else◌, ◌||◌, nat_le, nat_lt, option_map, darts, each_some, each_ok, some_first, ok_first, Line, cut, full_lines, is_filled, lines_from, unmarked, words, number_of}
+use Rattle.walk_files.proofs.Common.{◌≡◌, ℕ, ◌+◌, ◌<◌, List, [], ◌∷◌, ◌++◌, length, drop, Bool, true, false, refl, sym, ap, subst, ◌∙◌, arith, All-head, All-tail, All-cons, All-nil, All-push, filter_passes, enumerate_from, sum_by, ok_or, Option, Some, None, Result, Ok, Err, All, if◌then◌else◌, ◌||◌, nat_le, nat_lt, option_map, darts, each_some, each_ok, some_first, ok_first, Line, cut, full_lines, is_filled, lines_from, unmarked, words, number_of, line_of_numbers, plain_walks_of, walk_of, WalkText, behind_vertex, has_header, in_version, read_tokens, token_of, walk_of_line, walk_text_of, walks_behind, within_limits, written_out, WalkFault, TooLong, TooMany, BadGroup, MOST_LINES, MOST_WALK_VERTICES, MOST_WALK_DARTS, MOST_DARTS, Token, Open, Close, Number}
 use Rattle.std.specs.Prelude.{map}
-use Rattle.walk_files.specs.NumberTexts.{line_of_numbers, plain_walks_of, walk_of}
-use Rattle.walk_files.specs.WalkLists.{WalkText}
-use Rattle.walk_files.specs.WalkTexts.{behind_vertex, has_header, in_version, read_tokens, token_of, walk_of_line, walk_text_of, walks_behind, within_limits, written_out}
-use Rattle.walk_files.specs.declared.fault.WalkFault.{WalkFault}
-use Rattle.walk_files.specs.declared.fault.WalkFault.TheVariants.{TooLong, TooMany, BadGroup}
-use Rattle.walk_files.specs.declared.limits.TheConstants.{MOST_LINES, MOST_WALK_VERTICES, MOST_WALK_DARTS, MOST_DARTS}
-use Rattle.walk_files.specs.declared.tokens.Token.{Token}
-use Rattle.walk_files.specs.declared.tokens.Token.TheVariants.{Open, Close, Number}
 
 abbrev pub HasVertex : List ℕ → Type 0
 HasVertex walk = 0 < length walk

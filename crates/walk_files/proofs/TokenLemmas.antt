@@ -1,12 +1,5 @@
 -- What a token more of a walk line means.
-use Rattle.walk_files.proofs.Common.{◌≡◌, ℕ, zero, suc, ◌+◌, ◌-◌, ◌*◌, ◌^◌, ◌<◌, ◌≤◌, ◌==◌, Bool, true, false, List, [], ◌∷◌, ◌++◌, length, refl, sym, ap, subst, ◌∙◌, append_assoc, length-append, arith, le-mul_of_pos_right, mul_comm, mul-le-mul_right, ltb-true, ltb-false, ok_or, nat_le, nat_lt, ◌&&◌, min, Option, Some, None, option_map, Result, Ok, Err, if◌then◌else◌, each_some, some_first, Line}
-use Rattle.walk_files.specs.LineReads.{capped, put_before, rest_of, IsCountedTo}
-use Rattle.walk_files.specs.WalkTexts.{token_of, times, ends_at, behind_vertex, written_out, read_tokens}
-use Rattle.walk_files.specs.declared.fault.WalkFault.{WalkFault}
-use Rattle.walk_files.specs.declared.fault.WalkFault.TheVariants.{BadGroup}
-use Rattle.walk_files.specs.declared.limits.TheConstants.{MOST_POWER}
-use Rattle.walk_files.specs.declared.tokens.Token.{Token}
-use Rattle.walk_files.specs.declared.tokens.Token.TheVariants.{Open, Close, Number}
+use Rattle.walk_files.proofs.Common.{◌≡◌, ℕ, zero, suc, ◌+◌, ◌-◌, ◌*◌, ◌^◌, ◌<◌, ◌≤◌, ◌==◌, Bool, true, false, List, [], ◌∷◌, ◌++◌, length, refl, sym, ap, subst, ◌∙◌, append_assoc, length-append, arith, le-mul_of_pos_right, mul_comm, mul-le-mul_right, ltb-true, ltb-false, ok_or, nat_le, nat_lt, ◌&&◌, min, Option, Some, None, option_map, Result, Ok, Err, if◌then◌else◌, each_some, some_first, Line, capped, put_before, rest_of, IsCountedTo, token_of, times, ends_at, behind_vertex, written_out, read_tokens, WalkFault, BadGroup, MOST_POWER, Token, Open, Close, Number}
 
 -- ---- reading on
 

@@ -1,8 +1,6 @@
 -- What is first wrong with two walks, of which something more is asked.
-use Rattle.walk_files.proofs.Common.{◌≡◌, ℕ, ◌<◌, List, [], ◌∷◌, length, Bool, true, false, refl, sym, ap, ◌∙◌, arith, All-head, All-tail, option_or, Option, Some, None, Result, Ok, Err, IsOk, not, option_map, slice_get, All, result_err, FaceList, IsWalk}
+use Rattle.walk_files.proofs.Common.{◌≡◌, ℕ, ◌<◌, List, [], ◌∷◌, length, Bool, true, false, refl, sym, ap, ◌∙◌, arith, All-head, All-tail, option_or, Option, Some, None, Result, Ok, Err, IsOk, not, option_map, slice_get, All, result_err, FaceList, IsWalk, vertex_fault, edge_fault, first_fault, walks_fault, EntryFault}
 use Rattle.std.proofs.Common.{cond}
-use Rattle.walk_files.specs.declared.entries.EntryFault.{EntryFault}
-use Rattle.walk_files.specs.Entries.{vertex_fault, edge_fault, first_fault, walks_fault}
 use Rattle.walk_files.specs.TwoWalks.{two_fault}
 use Rattle.walk_files.proofs.EntryLemmas.{both_none, none_or, walk_of_none, no_vertex_fault, no_edge_fault}
 

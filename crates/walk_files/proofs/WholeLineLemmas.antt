@@ -1,11 +1,8 @@
 -- Moves whose lines lie whole in the bytes that are at hand.
-use Rattle.walk_files.proofs.Common.{LinesReading, IsOneLine, ReadsLine, Reads, left_of, ◌≡◌, ◌≢◌, ℕ, ◌+◌, ◌-◌, ◌*◌, ◌^◌, ◌<◌, ◌≤◌, Bool, true, false, List, [], ◌∷◌, ◌++◌, length, take, drop, get_or, append_assoc, length-append, refl, subst, sym, ap, ◌∙◌, arith, and_parts, and_from, lt-ltb, ne_eqb, take_all, All-head, All-tail, All-cons, All-nil, list_all-append, before_first, list_all, Option, Some, None, Ok, IfSome, All, Move, Across, before_first-append, before_first-yes, from_first-append, from_first-yes, words_here-nil, words_here-blank, words_here-word, digits_inside, is_filled, lines_from, is_digit, is_natural, value_of, number_of, is_line_feed, words_here}
+use Rattle.walk_files.proofs.Common.{LinesReading, IsOneLine, ReadsLine, Reads, left_of, ◌≡◌, ◌≢◌, ℕ, ◌+◌, ◌-◌, ◌*◌, ◌^◌, ◌<◌, ◌≤◌, Bool, true, false, List, [], ◌∷◌, ◌++◌, length, take, drop, get_or, append_assoc, length-append, refl, subst, sym, ap, ◌∙◌, arith, and_parts, and_from, lt-ltb, ne_eqb, take_all, All-head, All-tail, All-cons, All-nil, list_all-append, before_first, list_all, Option, Some, None, Ok, IfSome, All, Move, Across, before_first-append, before_first-yes, from_first-append, from_first-yes, words_here-nil, words_here-blank, words_here-word, digits_inside, is_filled, lines_from, is_digit, is_natural, value_of, number_of, is_line_feed, words_here, direction_of, spur_of, across_of, move_of, next_of, next_on, end_behind}
 use Rattle.std.proofs.Common.{not, append-nil}
 use Rattle.std.proofs.lemmas.List.Sums.{fold-append}
 use Rattle.text_scan.specs.Steps.{ends_word, from_first, begins_word}
-use Rattle.walk_files.specs.Certificates.{direction_of, spur_of, across_of, move_of}
-use Rattle.walk_files.specs.Readers.{next_of, next_on}
-use Rattle.walk_files.specs.Streams.{end_behind}
 use Rattle.walk_files.specs.WholeLines.{IsMoveLine, IsPlainWord, spaced, BeginsWithWord, BeginsWithWords, IsMoveText, BeginsWithMove}
 use Rattle.walk_files.proofs.StreamLemmas.{next_read, next_on-same}
 

@@ -1,4 +1,4 @@
--- What proofs of this crate cite of others, passed on from one place (by tools/imports). Declares nothing.
+-- What proofs of this crate cite of its definitions and of other crates, passed on from one place (by tools/imports). Declares nothing.
 pub use Rattle.flat_forms.specs.FlatStates.{flat_next}
 pub use Rattle.flat_forms.specs.Vectors.{Vector, origin}
 pub use Rattle.halfedge_map.specs.OrientedMeshes.{IsOrientedSurface, OrientedMesh}
@@ -26,3 +26,7 @@ pub use Rattle.tree_cotree.specs.Splits.{IsSplit, SplitView}
 pub use Rattle.turn_words.specs.FormLaws.{led}
 pub use Rattle.turn_words.specs.HyperStates.{BelongsTo, HyperState, IsEven, IsHyperWheel, empty_state, hyper_next}
 pub use Rattle.turn_words.specs.declared.word.Word.TheVariants.{Flat, Turns}
+pub use Rattle.walk_translate.specs.DartSpokes.{AreSpokesBelow, AreSpokesOf, kept_at}
+pub use Rattle.walk_translate.specs.Found.{DoDecide}
+pub use Rattle.walk_translate.specs.LabelledSurfaces.{IsLabelledSurface, IsWordUnder, LabelledView}
+pub use Rattle.walk_translate.specs.SurfaceLabels.{HasSphereSplit, IsLabelledByCut, IsSurfaceLabelling}

@@ -1,12 +1,9 @@
 -- Equal words mean homotopic walks, on the surface from which the polygon of the labelling was cut.
-use Rattle.walk_translate.proofs.Common.{flat_next, Vector, origin, OrientedMesh, IsOrientedSurface, quad_path_leads_to_sum, LabellingView, quad_path, IsWordOf, PolygonView, IsCutFrom, one_sum, labelling_from, ◌≡◌, ℕ, ◌≤◌, List, ap, sym, ◌∙◌, subst, arith, [], ◌↔◌, ℤ, Option, Some, None, MatchOption, Homotopic, IsWalk, HaveCommonEnds, AreWalkPair, SplitView, IsSplit, led, Turns, Flat}
+use Rattle.walk_translate.proofs.Common.{flat_next, Vector, origin, OrientedMesh, IsOrientedSurface, quad_path_leads_to_sum, LabellingView, quad_path, IsWordOf, PolygonView, IsCutFrom, one_sum, labelling_from, ◌≡◌, ℕ, ◌≤◌, List, ap, sym, ◌∙◌, subst, arith, [], ◌↔◌, ℤ, Option, Some, None, MatchOption, Homotopic, IsWalk, HaveCommonEnds, AreWalkPair, SplitView, IsSplit, led, Turns, Flat, DoDecide, LabelledView, IsLabelledSurface, IsWordUnder, HasSphereSplit, IsLabelledByCut}
 use Rattle.polygon_cut.proofs.SphereLemmas.{all_homotopic}
 use Rattle.quad_system.proofs.EqualWordLemmas.{one_word}
 use Rattle.surf_model.specs.declared.decisions.Answer.{Answer}
 use Rattle.turn_words.specs.declared.word.Word.{Word}
-use Rattle.walk_translate.specs.Found.{DoDecide}
-use Rattle.walk_translate.specs.LabelledSurfaces.{LabelledView, IsLabelledSurface, IsWordUnder}
-use Rattle.walk_translate.specs.SurfaceLabels.{HasSphereSplit, IsLabelledByCut}
 use Rattle.surf_model.specs.declared.decisions.Answer.TheVariants as answers
 
 abbrev pub vector : ℤ → ℤ → Vector

@@ -1,5 +1,5 @@
 -- The labelling of a polygon, and the genus of the surface.
-use Rattle.walk_translate.proofs.Common.{OrientedMesh, IsOrientedSurface, IsGood, FaceLabels, LabellingView, signs_of, PolygonView, labelling_from, face_labels, IsFull, ◌≡◌, ℕ, ◌+◌, ◌*◌, Bool, false, List, length, refl, ap, sym, ◌∙◌, subst, arith, ints, length-map, same_lists, get_or_default, Option, Some, None, MatchOption, ℤ, pos, ◌+ℤ◌, ◌-ℤ◌, is_used, SplitView, IsSplit}
+use Rattle.walk_translate.proofs.Common.{OrientedMesh, IsOrientedSurface, IsGood, FaceLabels, LabellingView, signs_of, PolygonView, labelling_from, face_labels, IsFull, ◌≡◌, ℕ, ◌+◌, ◌*◌, Bool, false, List, length, refl, ap, sym, ◌∙◌, subst, arith, ints, length-map, same_lists, get_or_default, Option, Some, None, MatchOption, ℤ, pos, ◌+ℤ◌, ◌-ℤ◌, is_used, SplitView, IsSplit, IsSurfaceLabelling, HasSphereSplit, IsLabelledByCut}
 use Rattle.halfedge_map.specs.DartMaps.{used_vertices}
 use Rattle.quad_system.proofs.FullLemmas.{polygon_full}
 use Rattle.quad_system.proofs.PolygonLabelLemmas.{polygon_good, flips_are}
@@ -8,7 +8,6 @@ use Rattle.std.specs.List.{enumerate_from}
 use Rattle.surf_model.specs.Genera.{HasGenus}
 use Rattle.surf_model.specs.Numbers.{count_below}
 use Rattle.tree_cotree.proofs.LawLemmas.{exact}
-use Rattle.walk_translate.specs.SurfaceLabels.{IsSurfaceLabelling, HasSphereSplit, IsLabelledByCut}
 
 -- the labelling has the signs of the surface
 signs_are : (s : OrientedMesh) (polygon : PolygonView) → IsOrientedSurface s → signs_of (labelling_from s polygon) ≡ s.signs

@@ -1,5 +1,5 @@
 -- Walks whose darts are looked up once: the spokes of their darts, and the states to which they lead.
-use Rattle.walk_translate.proofs.Common.{flat_next, origin, OrientedMesh, IsOrientedSurface, quad_path_below, hyper_wheel_of_good, IsGood, LabellingView, spokes, quad_path, spoke_list, IsWordOf, one_sum, ◌≡◌, ◌⊎◌, inl, inr, ℕ, zero, suc, ◌+◌, ◌*◌, ◌<◌, ◌≤◌, true, false, List, [], ◌∷◌, ◌++◌, length, get_or, refl, ap, sym, ◌∙◌, subst, arith, add-one, append-nil, get_or_append_left, get_or_default, length-append, ◌↔◌, All, IsTrue, Option, Some, None, IfSome, edge_swap, head_used, table_pair, Edge, IsTableOf, HasEnds, edge_in, FaceList, is_edge, is_used, Homotopic, darts, IsWalk, AreWalkPair, led, HyperState, IsHyperWheel, BelongsTo, IsEven, empty_state, hyper_next, Turns}
+use Rattle.walk_translate.proofs.Common.{flat_next, origin, OrientedMesh, IsOrientedSurface, quad_path_below, hyper_wheel_of_good, IsGood, LabellingView, spokes, quad_path, spoke_list, IsWordOf, one_sum, ◌≡◌, ◌⊎◌, inl, inr, ℕ, zero, suc, ◌+◌, ◌*◌, ◌<◌, ◌≤◌, true, false, List, [], ◌∷◌, ◌++◌, length, get_or, refl, ap, sym, ◌∙◌, subst, arith, add-one, append-nil, get_or_append_left, get_or_default, length-append, ◌↔◌, All, IsTrue, Option, Some, None, IfSome, edge_swap, head_used, table_pair, Edge, IsTableOf, HasEnds, edge_in, FaceList, is_edge, is_used, Homotopic, darts, IsWalk, AreWalkPair, led, HyperState, IsHyperWheel, BelongsTo, IsEven, empty_state, hyper_next, Turns, AreSpokesBelow, AreSpokesOf, kept_at, IsLabelledByCut}
 use Rattle.labellings.proofs.FoldLemmas.{PutLaws}
 use Rattle.labellings.proofs.KeepingLemmas.{moves_keep}
 use Rattle.std.proofs.Math.Seq.{get_or-append_seam}
@@ -9,8 +9,6 @@ use Rattle.turn_words.proofs.Spokes.{canonical}
 use Rattle.turn_words.specs.Canonical.{IsCanonicalOf}
 use Rattle.turn_words.specs.Lemmas.HyperLaws.{hyper_starts, hyper_stays, hyper_there_and_back, hyper_across}
 use Rattle.turn_words.specs.SpokePaths.{turn_word_of}
-use Rattle.walk_translate.specs.DartSpokes.{AreSpokesBelow, AreSpokesOf, kept_at}
-use Rattle.walk_translate.specs.SurfaceLabels.{IsLabelledByCut}
 use Rattle.walk_translate.proofs.LabelLemmas.{cut_is_good}
 use Rattle.walk_translate.proofs.DecidingLemmas.{words_decide}
 

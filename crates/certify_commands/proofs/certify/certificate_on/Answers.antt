@@ -1,6 +1,4 @@
-use Rattle.certify_commands.proofs.Common.{OrientedMesh, sym, subst, IsWalk}
-use Rattle.certify_commands.specs.Certify.{IsWithinLimits}
-use Rattle.certify_commands.specs.Findings.{IsFinding}
+use Rattle.certify_commands.proofs.Common.{IsWithinLimits, IsFinding, OrientedMesh, sym, subst, IsWalk}
 use Rattle.certify_commands.proofs.certify.certificate_on.Goals as goal
 
 pub find-requires-clause-first : goal.find-requires-clause-first

@@ -1,6 +1,5 @@
-use Rattle.commands.proofs.Common.{◌∙◌, ◌∷◌, [], List, ℕ, ap, arith, get_or, length, slice_get-get_or, err_from_is_err_and, each-none, each-more, each-fails, puts-same, Homotopic, line_of}
+use Rattle.commands.proofs.Common.{decision_line, ◌∙◌, ◌∷◌, [], List, ℕ, ap, arith, get_or, length, slice_get-get_or, err_from_is_err_and, each-none, each-more, each-fails, puts-same, Homotopic, line_of}
 use Rattle.surf_model.specs.declared.decisions.Answer.{Answer}
-use Rattle.commands.specs.Certificates.{decision_line}
 use Rattle.commands.proofs.GatheredLines.{decision_line-put, decision_word-short}
 use Rattle.commands.proofs.Writing.{writes_each, writes_unput}
 use Rattle.commands.proofs.decision_lines.put_decisions.Goals as goal

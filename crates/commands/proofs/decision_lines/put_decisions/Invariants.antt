@@ -1,5 +1,4 @@
-use Rattle.commands.proofs.Common.{EachPut}
-use Rattle.commands.specs.Certificates.{decision_line}
+use Rattle.commands.proofs.Common.{decision_line, EachPut}
 use Rattle.commands.proofs.decision_lines.put_decisions.Given as goal
 
 -- the lines of the decisions so far were put

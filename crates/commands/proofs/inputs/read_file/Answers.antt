@@ -1,8 +1,5 @@
-use Rattle.commands.proofs.Common.{refl, ap, file_of}
+use Rattle.commands.proofs.Common.{file, too_large, MOST_BYTES, refl, ap, file_of}
 use Rattle.std.proofs.Common.{Err}
-use Rattle.commands.specs.Checks.{file}
-use Rattle.commands.specs.Refusals.{too_large}
-use Rattle.commands.specs.declared.inputs.TheConstants.{MOST_BYTES}
 use Rattle.commands.proofs.Checking.{long_file, told_stops}
 use Rattle.commands.proofs.Running.{reads_faulty, tells_no_fault}
 use Rattle.commands.proofs.inputs.read_file.Goals as goal

@@ -1,7 +1,4 @@
-use Rattle.commands.proofs.Common.{walk_text_of}
-use Rattle.commands.specs.Checks.{file, meant}
-use Rattle.commands.specs.Refusals.{numbers_line}
-use Rattle.commands.specs.declared.refusal.Input.TheVariants.{Walks}
+use Rattle.commands.proofs.Common.{file, meant, numbers_line, Walks, walk_text_of}
 use Rattle.commands.proofs.Checking.{next_end}
 use Rattle.commands.proofs.Running.{reads_ended}
 use Rattle.commands.proofs.inputs.read_list.Goals as goal

@@ -1,7 +1,5 @@
-use Rattle.commands.proofs.Common.{meaning_of, OutOfMemory, inr, refl, err_from_is_err_and}
-use Rattle.commands.specs.Checks.{file, meant}
-use Rattle.commands.specs.Refusals.{off_line}
-use Rattle.commands.specs.declared.refusal.Input.TheVariants.{Mesh}
+use Rattle.commands.proofs.Common.{file, meant, off_line, Mesh, meaning_of, inr, refl, err_from_is_err_and}
+use Rattle.off_reader.specs.declared.off_fault.OffFault.TheVariants.{OutOfMemory}
 use Rattle.commands.proofs.Checking.{stops_next, read_passes, read_stops}
 use Rattle.commands.proofs.Running.{reads_faulty, reads_made, tells_no_fault}
 use Rattle.commands.proofs.inputs.read_mesh.Goals as goal

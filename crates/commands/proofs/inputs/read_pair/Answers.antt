@@ -1,5 +1,4 @@
-use Rattle.commands.proofs.Common.{sym, err_from_is_err_and, pair_fault}
-use Rattle.commands.specs.Refusals.{pair_line}
+use Rattle.commands.proofs.Common.{pair_line, sym, err_from_is_err_and, pair_fault}
 use Rattle.commands.proofs.Running.{only_self, reads_faulty, reads_made, reads_then, tells_no_fault}
 use Rattle.commands.proofs.WalkInputs.{fault_stops, text_passes, text_stops}
 use Rattle.commands.proofs.inputs.read_pair.Goals as goal

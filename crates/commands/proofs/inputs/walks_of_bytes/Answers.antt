@@ -1,7 +1,5 @@
-use Rattle.commands.proofs.Common.{refl, walk_text_of}
+use Rattle.commands.proofs.Common.{numbers_line, Walks, refl, walk_text_of}
 use Rattle.walk_files.specs.declared.fault.WalkFault.TheVariants.{OutOfMemory}
-use Rattle.commands.specs.Refusals.{numbers_line}
-use Rattle.commands.specs.declared.refusal.Input.TheVariants.{Walks}
 use Rattle.commands.proofs.Checking.{read_passes, read_stops}
 use Rattle.commands.proofs.Running.{tells_no_fault}
 use Rattle.commands.proofs.inputs.walks_of_bytes.Goals as goal

@@ -1,5 +1,4 @@
-use Rattle.commands.proofs.Common.{[], ◌∷◌}
-use Rattle.commands.specs.Lines.{phrase_text}
+use Rattle.commands.proofs.Common.{phrase_text, [], ◌∷◌}
 use Rattle.commands.proofs.Writing.{writes_then}
 use Rattle.commands.proofs.line.put_behind.Goals as goal
 

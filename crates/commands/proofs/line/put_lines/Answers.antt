@@ -1,5 +1,4 @@
-use Rattle.commands.proofs.Common.{◌≡◌, ◌<◌, ◌≤◌, ◌++◌, ℕ, suc, List, length, get_or, take, drop, sym, ap, subst, ◌∙◌, arith, take_all, err_from_is_err_and, appends_twice, part_after, Appends}
-use Rattle.commands.specs.Lines.{in_lines}
+use Rattle.commands.proofs.Common.{in_lines, ◌≡◌, ◌<◌, ◌≤◌, ◌++◌, ℕ, suc, List, length, get_or, take, drop, sym, ap, subst, ◌∙◌, arith, take_all, err_from_is_err_and, appends_twice, part_after, Appends}
 use Rattle.commands.proofs.Writing.{lines-more, lines-parts}
 use Rattle.commands.proofs.line.put_lines.Goals as goal
 

@@ -1,5 +1,4 @@
-use Rattle.commands.proofs.Common.{◌≡◌, ◌≤◌, take, Appends}
-use Rattle.commands.specs.Lines.{in_lines}
+use Rattle.commands.proofs.Common.{in_lines, ◌≡◌, ◌≤◌, take, Appends}
 use Rattle.commands.proofs.line.put_lines.Given as goal
 
 -- the lines so far were written

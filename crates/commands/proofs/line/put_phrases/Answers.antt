@@ -1,5 +1,4 @@
-use Rattle.commands.proofs.Common.{◌≡◌, [], ◌∷◌, List, take, subst, ◌∙◌, arith, take_all, err_from_is_err_and, WroteAll}
-use Rattle.commands.specs.declared.line.Phrase.{Phrase}
+use Rattle.commands.proofs.Common.{Phrase, ◌≡◌, [], ◌∷◌, List, take, subst, ◌∙◌, arith, take_all, err_from_is_err_and, WroteAll}
 use Rattle.commands.proofs.Writing.{so_far, part_of_line, writes_then}
 use Rattle.commands.proofs.line.put_phrases.Goals as goal
 

@@ -1,5 +1,5 @@
 use Rattle.commands.proofs.Writing.{part_unsettled}
-use Rattle.commands.specs.Replies.{reply_text}
+use Rattle.commands.proofs.Common.{reply_text}
 use Rattle.commands.proofs.reply.settle.Goals as goal
 
 pub returns-in_default-flush-clause-write_fault : goal.returns-in_default-flush-clause-write_fault

@@ -1,6 +1,5 @@
-use Rattle.commands.proofs.Common.{◌≡◌, ◌<◌, ◌≤◌, List, [], ℕ, length, get_or, refl, subst, slice_get_read, err_from_is_err_and, slice_get, each-none, each-more, each-fails, puts-same}
+use Rattle.commands.proofs.Common.{word_line, ◌≡◌, ◌<◌, ◌≤◌, List, [], ℕ, length, get_or, refl, subst, slice_get_read, err_from_is_err_and, slice_get, each-none, each-more, each-fails, puts-same}
 use Rattle.std.proofs.Common.{Some}
-use Rattle.commands.specs.WordTexts.{word_line}
 use Rattle.commands.proofs.GatheredLines.{word_line-put}
 use Rattle.commands.proofs.Writing.{writes_each, writes_unput}
 use Rattle.commands.proofs.word_lines.put_words.Goals as goal

@@ -1,5 +1,4 @@
-use Rattle.commands.proofs.Common.{EachPut}
-use Rattle.commands.specs.WordTexts.{word_line}
+use Rattle.commands.proofs.Common.{word_line, EachPut}
 use Rattle.commands.proofs.word_lines.put_words.Given as goal
 
 -- the lines of the words so far were put

@@ -1,5 +1,4 @@
-use Rattle.common_ends.proofs.Common.{refl}
-use Rattle.common_ends.specs.Trimmed.{put_around}
+use Rattle.common_ends.proofs.Common.{put_around, refl}
 use Rattle.common_ends.proofs.TrimLemmas.{parted, leads_whole}
 use Rattle.common_ends.proofs.laws.a_list_between_leads_around.Goals as goal
 

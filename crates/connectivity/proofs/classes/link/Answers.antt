@@ -1,5 +1,4 @@
-use Rattle.connectivity.proofs.Common.{◌≡◌, ℕ, List, min, max, ap, sym, ◌∙◌, arith}
-use Rattle.connectivity.specs.Classes.{HasSameRoots, root_of, joined_at}
+use Rattle.connectivity.proofs.Common.{HasSameRoots, root_of, joined_at, ◌≡◌, ℕ, List, min, max, ap, sym, ◌∙◌, arith}
 use Rattle.connectivity.proofs.Forests.{root_le, linked_forest, roots_of-linked, same_roots_of, same_roots_trans}
 use Rattle.connectivity.proofs.classes.link.Goals as goal
 

@@ -1,5 +1,4 @@
-use Rattle.connectivity.proofs.Common.{◌<◌, ℕ, length, get_or, sym, ◌∙◌, arith}
-use Rattle.connectivity.specs.Classes.{root_of}
+use Rattle.connectivity.proofs.Common.{root_of, ◌<◌, ℕ, length, get_or, sym, ◌∙◌, arith}
 use Rattle.connectivity.proofs.Forests.{IsLabelling, root_labels, parent_le, lifted_forest, lifted_roots, same_roots_trans, root_own}
 use Rattle.connectivity.proofs.classes.root.Goals as goal
 

@@ -1,5 +1,4 @@
-use Rattle.connectivity.proofs.Common.{◌≡◌, ◌<◌, length}
-use Rattle.connectivity.specs.Classes.{IsForest, root_of, HasSameRoots}
+use Rattle.connectivity.proofs.Common.{IsForest, root_of, HasSameRoots, ◌≡◌, ◌<◌, length}
 use Rattle.connectivity.proofs.classes.root.Given as goal
 
 abbrev pub invariant-loop-parents : goal.invariant-loop-parents

@@ -1,5 +1,4 @@
-use Rattle.connectivity.proofs.Common.{◌≡◌, ◌<◌, ◌≤◌, inl, inr, ℕ, List, length, get_or, ap, sym, ◌∙◌, arith, below_more, cases_eq, get_or-set_same, get_or-set_other, ext_get_or}
-use Rattle.connectivity.specs.Classes.{root_of, roots_of}
+use Rattle.connectivity.proofs.Common.{root_of, roots_of, ◌≡◌, ◌<◌, ◌≤◌, inl, inr, ℕ, List, length, get_or, ap, sym, ◌∙◌, arith, below_more, cases_eq, get_or-set_same, get_or-set_other, ext_get_or}
 use Rattle.connectivity.proofs.Forests.{IsLabelling, root_labels, parent_le, lifted_forest, lifted_roots, same_roots_trans, root_own, length-roots_of, get_or-roots_of}
 use Rattle.connectivity.proofs.classes.settle.Goals as goal
 

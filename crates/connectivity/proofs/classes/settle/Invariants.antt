@@ -1,5 +1,4 @@
-use Rattle.connectivity.proofs.Common.{◌≡◌, ◌<◌, ℕ, get_or}
-use Rattle.connectivity.specs.Classes.{IsForest, root_of, HasSameRoots}
+use Rattle.connectivity.proofs.Common.{IsForest, root_of, HasSameRoots, ◌≡◌, ◌<◌, ℕ, get_or}
 use Rattle.connectivity.proofs.classes.settle.Given as goal
 
 abbrev pub invariant-loop-number : goal.invariant-loop-number

@@ -1,6 +1,4 @@
-use Rattle.connectivity.proofs.Common.{◌≡◌, ◌<◌, ℕ}
-use Rattle.connectivity.specs.Links.{link_at}
-use Rattle.connectivity.specs.declared.corners.Link.TheVariants.{Pinched}
+use Rattle.connectivity.proofs.Common.{link_at, Pinched, ◌≡◌, ◌<◌, ℕ}
 use Rattle.connectivity.proofs.corners.first_pinched.Given as goal
 
 abbrev pub invariant-loop-vertex : goal.invariant-loop-vertex

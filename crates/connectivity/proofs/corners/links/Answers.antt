@@ -1,7 +1,5 @@
-use Rattle.connectivity.proofs.Common.{Vec, ◌≡◌, ◌+◌, ◌<◌, ℕ, List, length, refl, ap, sym, ◌∙◌, subst, arith, length-set, with_items_is, with_items, Side}
+use Rattle.connectivity.proofs.Common.{link_at, with_ring, AreLinksUpTo, Link, Vec, ◌≡◌, ◌+◌, ◌<◌, ℕ, List, length, refl, ap, sym, ◌∙◌, subst, arith, length-set, with_items_is, with_items, Side}
 use Rattle.std.specs.declared.alloc.Global.{Global}
-use Rattle.connectivity.specs.Links.{link_at, with_ring, AreLinksUpTo}
-use Rattle.connectivity.specs.declared.corners.Link.{Link}
 use Rattle.connectivity.proofs.CornerLemmas.{corner_below}
 use Rattle.connectivity.proofs.LinkLemmas.{added, links_more, links_other}
 use Rattle.connectivity.proofs.corners.links.Goals as goal

@@ -1,4 +1,4 @@
-use Rattle.connectivity.specs.Links.{AreLinksUpTo}
+use Rattle.connectivity.proofs.Common.{AreLinksUpTo}
 use Rattle.connectivity.proofs.corners.links.Given as goal
 
 abbrev pub invariant-loop-corner : goal.invariant-loop-corner

@@ -1,7 +1,4 @@
-use Rattle.connectivity.proofs.Common.{◌≡◌, ◌<◌, ℕ, List, length, ap, subst, arith, IfSome, IfNone}
-use Rattle.connectivity.specs.Links.{AreLinks, IsFirstPinched, link_at}
-use Rattle.connectivity.specs.declared.corners.Link.{Link}
-use Rattle.connectivity.specs.declared.corners.Link.TheVariants.{Pinched}
+use Rattle.connectivity.proofs.Common.{AreLinks, IsFirstPinched, link_at, Link, Pinched, ◌≡◌, ◌<◌, ℕ, List, length, ap, subst, arith, IfSome, IfNone}
 use Rattle.connectivity.proofs.LinkLemmas.{pinch_found}
 use Rattle.connectivity.proofs.corners.pinched_vertex.Goals as goal
 

@@ -1,6 +1,5 @@
-use Rattle.connectivity.proofs.Common.{◌≡◌, ◌⊎◌, inl, inr, ◌+◌, ℕ, List, refl, ap, sym, ◌∙◌, subst, arith, range_with_len, first_side, IsSide, Side}
+use Rattle.connectivity.proofs.Common.{AreRings, ◌≡◌, ◌⊎◌, inl, inr, ◌+◌, ℕ, List, refl, ap, sym, ◌∙◌, subst, arith, range_with_len, first_side, IsSide, Side}
 use Rattle.surf_model.proofs.SideNumberLemmas.{first_side-more, first_side-all}
-use Rattle.connectivity.specs.Partitions.{AreRings}
 use Rattle.connectivity.proofs.RingLemmas.{HasPartner, IsAlone, partner_or_alone, partners_by_number, JoinsSidesUpTo, sides_none, sides_fewer, side_alone, side_passed, side_joined, sides_all}
 use Rattle.connectivity.proofs.corners.rings.Goals as goal
 use Rattle.connectivity.proofs.corners.rings.Goals.{then-other-dart, else-other-dart}

@@ -1,5 +1,4 @@
-use Rattle.connectivity.proofs.Common.{◌+◌, ℕ, List, ap, sym, ◌∙◌, subst, arith, range_with_len}
-use Rattle.connectivity.specs.Partitions.{AreComponents}
+use Rattle.connectivity.proofs.Common.{AreComponents, ◌+◌, ℕ, List, ap, sym, ◌∙◌, subst, arith, range_with_len}
 use Rattle.connectivity.proofs.EdgeLemmas.{ends_below}
 use Rattle.connectivity.proofs.ComponentLemmas.{JoinsEdgesUpTo, edges_none, edges_more, edges_all}
 use Rattle.connectivity.proofs.vertices.components.Goals as goal

@@ -1,5 +1,4 @@
-use Rattle.connectivity.proofs.Common.{◌≡◌, ◌<◌, ℕ, List, get_or, subst, true, is_used}
-use Rattle.connectivity.specs.Partitions.{IsLeastElsewhere}
+use Rattle.connectivity.proofs.Common.{IsLeastElsewhere, ◌≡◌, ◌<◌, ℕ, List, get_or, subst, true, is_used}
 use Rattle.connectivity.proofs.EdgeLemmas.{used_below}
 use Rattle.connectivity.proofs.WalkLemmas.{least_apart, all_joined}
 use Rattle.connectivity.proofs.vertices.vertices_apart.Goals as goal

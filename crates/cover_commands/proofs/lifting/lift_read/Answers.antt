@@ -1,5 +1,4 @@
-use Rattle.cover_commands.proofs.Common.{only_self, reads_made, reads_then, err_from_is_err_and}
-use Rattle.cover_commands.specs.MeshCover.{seen, seen_lifts}
+use Rattle.cover_commands.proofs.Common.{only_self, reads_made, reads_then, seen, seen_lifts, err_from_is_err_and}
 use Rattle.cover_commands.proofs.CoverChecks.{pair_stop, lifts_pass}
 use Rattle.cover_commands.proofs.lifting.lift_read.Goals as goal
 

@@ -1,5 +1,4 @@
-use Rattle.cover_commands.proofs.Common.{reads_behind, Passes, Stops, subst, Option, MatchResult, Files}
-use Rattle.cover_commands.specs.MeshCover.{lifts_behind, seen, seen_lifts}
+use Rattle.cover_commands.proofs.Common.{reads_behind, Passes, Stops, lifts_behind, seen, seen_lifts, subst, Option, MatchResult, Files}
 use Rattle.cover_commands.proofs.CoverChecks.{lifts_end}
 use Rattle.cover_commands.proofs.lifting.read_lifts.Goals as goal
 

@@ -1,5 +1,4 @@
-use Rattle.cover_commands.proofs.Common.{first_fault_stops, tells_no_fault, refl, subst, HasFileSize}
-use Rattle.cover_commands.specs.MeshCover.{cover_line, covered, seen}
+use Rattle.cover_commands.proofs.Common.{first_fault_stops, tells_no_fault, cover_line, covered, seen, refl, subst, HasFileSize}
 use Rattle.cover_commands.proofs.reading.cover_on.Goals as goal
 
 pub returns-in-Ok : goal.returns-in-Ok

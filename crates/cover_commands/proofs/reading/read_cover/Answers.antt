@@ -1,5 +1,4 @@
-use Rattle.cover_commands.proofs.Common.{next_end, reads_ended}
-use Rattle.cover_commands.specs.MeshCover.{covered, seen, ways_in}
+use Rattle.cover_commands.proofs.Common.{next_end, reads_ended, covered, seen, ways_in}
 use Rattle.cover_commands.proofs.reading.read_cover.Goals as goal
 
 pub returns : goal.returns

@@ -1,5 +1,4 @@
-use Rattle.cover_commands.proofs.Common.{err_from_is_err_and, puts-then, puts-fails}
-use Rattle.cover_commands.specs.MeshCover.{walk_line}
+use Rattle.cover_commands.proofs.Common.{walk_line, err_from_is_err_and, puts-then, puts-fails}
 use Rattle.cover_commands.proofs.walk_writing.put_walks.Goals as goal
 
 pub returns-in_err-put_walk : goal.returns-in_err-put_walk

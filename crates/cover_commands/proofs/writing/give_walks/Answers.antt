@@ -1,5 +1,5 @@
+use Rattle.cover_commands.proofs.Common.{seen_lifts, walk_lines}
 use Rattle.commands.proofs.Writing.{part_unsettled}
-use Rattle.cover_commands.specs.MeshCover.{seen_lifts, walk_lines}
 use Rattle.cover_commands.proofs.writing.give_walks.Goals as goal
 
 pub returns-in_default-flush-clause-write_fault : goal.returns-in_default-flush-clause-write_fault

@@ -1,5 +1,4 @@
-use Rattle.cover_commands.proofs.Common.{wrote_all, wrote_part}
-use Rattle.cover_commands.specs.MeshCover.{seen_lifts}
+use Rattle.cover_commands.proofs.Common.{wrote_all, wrote_part, seen_lifts}
 use Rattle.cover_commands.proofs.CoverChecks.{lifts_answers, lift_refusal_answers}
 use Rattle.cover_commands.proofs.writing.write_lifts.Goals as goal
 

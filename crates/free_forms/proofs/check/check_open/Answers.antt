@@ -1,7 +1,4 @@
-use Rattle.free_forms.proofs.Common.{good_accepted, first_refused}
-use Rattle.free_forms.specs.OpenSurfaces.{IsOpenSurface}
-use Rattle.free_forms.specs.OpenFaults.{IsFirstFault}
-use Rattle.free_forms.specs.declared.fault.OpenFault.TheVariants.{OutOfMemory}
+use Rattle.free_forms.proofs.Common.{good_accepted, first_refused, IsFirstFault, IsOpenSurface, OutOfMemory}
 use Rattle.free_forms.proofs.FaultLemmas.{one_fault, no_fault}
 use Rattle.free_forms.proofs.check.check_open.Goals as goal
 

@@ -1,8 +1,4 @@
-use Rattle.free_forms.proofs.Common.{◌≡◌, ℕ, ◌+◌, ◌*◌, ◌++◌, ap, sym, ◌∙◌, subst, arith, both_ways, All, ◌↔◌, FaceList, PeakedMoves, Homotopic, way_back, darts}
-use Rattle.free_forms.specs.Normal.{IsNormal}
-use Rattle.free_forms.specs.PeakedLists.{LeadsAtPeak, IsWithin, IsMoveOf}
-use Rattle.free_forms.specs.declared.limits.TheConstants.{MOST_OPEN_SIDES}
-use Rattle.free_forms.specs.Reductions.{state_of, whole}
+use Rattle.free_forms.proofs.Common.{IsNormal, LeadsAtPeak, IsWithin, IsMoveOf, state_of, whole, MOST_OPEN_SIDES, ◌≡◌, ℕ, ◌+◌, ◌*◌, ◌++◌, ap, sym, ◌∙◌, subst, arith, both_ways, All, ◌↔◌, FaceList, PeakedMoves, Homotopic, way_back, darts}
 use Rattle.free_forms.proofs.BackLemmas.{moves_of, there_and_back_leads, both_within}
 use Rattle.free_forms.proofs.NormalLemmas.{by_normal_walks}
 use Rattle.free_forms.proofs.lifting.lift_by_normal_walks.Goals as goal

@@ -1,6 +1,4 @@
-use Rattle.free_forms.proofs.Common.{places_within, AreLeft, fewer_darts, left_together, left_apart, left_leads, put_around, ℕ, ◌+◌, ◌*◌, refl, subst, arith, MatchOption, IfSome, FaceList, Homotopic, darts, AreWalkPair}
-use Rattle.free_forms.specs.PeakedLists.{LeadsAtPeak, IsWithin}
-use Rattle.free_forms.specs.declared.limits.TheConstants.{MOST_OPEN_SIDES, MOST_OPEN_STEPS}
+use Rattle.free_forms.proofs.Common.{places_within, AreLeft, fewer_darts, left_together, left_apart, left_leads, put_around, LeadsAtPeak, IsWithin, MOST_OPEN_SIDES, MOST_OPEN_STEPS, ℕ, ◌+◌, ◌*◌, refl, subst, arith, MatchOption, IfSome, FaceList, Homotopic, darts, AreWalkPair}
 use Rattle.free_forms.proofs.AroundLemmas.{around_within}
 use Rattle.free_forms.proofs.lifting.lift_open.Goals as goal
 

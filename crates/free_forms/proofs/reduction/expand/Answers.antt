@@ -1,6 +1,5 @@
-use Rattle.free_forms.proofs.Common.{ℕ, ◌+◌, ◌≤◌, length, eqb, ap, ◌∙◌, subst, arith, face_at, Side, MOST_PEAK}
+use Rattle.free_forms.proofs.Common.{Joins, ℕ, ◌+◌, ◌≤◌, length, eqb, ap, ◌∙◌, subst, arith, face_at, Side, MOST_PEAK}
 use Rattle.std.proofs.lemmas.Result.{on_ok_weaker}
-use Rattle.free_forms.specs.Parents.{Joins}
 use Rattle.free_forms.proofs.ExpandLemmas.{IsRead, pushed_length, expands_made, length_numbers, length_coming}
 use Rattle.free_forms.proofs.reduction.expand.Goals as goal
 use Rattle.free_forms.proofs.reduction.expand.Goals.{In_ok-push_others}

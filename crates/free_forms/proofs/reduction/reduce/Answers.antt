@@ -1,8 +1,4 @@
-use Rattle.free_forms.proofs.Common.{leads_nowhere, ◌≡◌, ℕ, List, [], ◌∷◌, ◌++◌, ◌+◌, ◌*◌, ◌≤◌, length, ap, sym, ◌∙◌, subst, arith, PeakedMoves, darts}
-use Rattle.free_forms.specs.declared.limits.TheConstants.{MOST_OPEN_SIDES}
-use Rattle.free_forms.specs.Normal.{IsNormal}
-use Rattle.free_forms.specs.PeakedLists.{LeadsAtPeak}
-use Rattle.free_forms.specs.Reductions.{ReductionView, state_of, darts_in}
+use Rattle.free_forms.proofs.Common.{leads_nowhere, IsNormal, LeadsAtPeak, ReductionView, state_of, darts_in, MOST_OPEN_SIDES, ◌≡◌, ℕ, List, [], ◌∷◌, ◌++◌, ◌+◌, ◌*◌, ◌≤◌, length, ap, sym, ◌∙◌, subst, arith, PeakedMoves, darts}
 use Rattle.free_forms.proofs.CostLemmas.{stays_paid, has_room, paid_darts}
 use Rattle.free_forms.proofs.StepLemmas.{HasStepped, has_stepped, normal_alone, weight}
 use Rattle.free_forms.proofs.WeightLemmas.{weight_bound}

@@ -1,8 +1,4 @@
-use Rattle.free_forms.proofs.Common.{◌*◌, darts}
-use Rattle.free_forms.specs.declared.limits.TheConstants.{MOST_OPEN_SIDES}
-use Rattle.free_forms.specs.Normal.{IsNormal}
-use Rattle.free_forms.specs.PeakedLists.{LeadsAtPeak}
-use Rattle.free_forms.specs.Reductions.{state_of, settled, whole}
+use Rattle.free_forms.proofs.Common.{IsNormal, LeadsAtPeak, state_of, settled, whole, MOST_OPEN_SIDES, ◌*◌, darts}
 use Rattle.free_forms.proofs.CostLemmas.{IsPaid}
 use Rattle.free_forms.proofs.StepLemmas.{weight}
 use Rattle.free_forms.proofs.reduction.reduce.Given as goal

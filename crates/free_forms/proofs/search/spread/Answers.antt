@@ -1,5 +1,4 @@
-use Rattle.free_forms.proofs.Common.{ℕ, ◌≤◌, length, ◌∙◌, subst, arith, get_or_default, face_at}
-use Rattle.free_forms.specs.Searches.{found_by, NeighboursReached}
+use Rattle.free_forms.proofs.Common.{found_by, NeighboursReached, ℕ, ◌≤◌, length, ◌∙◌, subst, arith, get_or_default, face_at}
 use Rattle.free_forms.proofs.SearchLemmas.{few_reached, grows_trans, closed_more}
 use Rattle.free_forms.proofs.search.spread.Goals as goal
 

@@ -1,5 +1,4 @@
-use Rattle.free_forms.proofs.Common.{◌-◌, length}
-use Rattle.free_forms.specs.Searches.{found_by, IsSearch, Grows, IsClosedUpTo}
+use Rattle.free_forms.proofs.Common.{found_by, IsSearch, Grows, IsClosedUpTo, ◌-◌, length}
 use Rattle.free_forms.proofs.search.spread.Given as goal
 
 abbrev pub invariant-loop-at : goal.invariant-loop-at

@@ -1,5 +1,4 @@
-use Rattle.free_forms.proofs.Common.{HasPartner, IsAlone, partner_or_alone, partner_below, ◌≡◌, ◌⊎◌, inl, inr, ◌+◌, ◌<◌, length, arith, Side}
-use Rattle.free_forms.specs.Searches.{found_by}
+use Rattle.free_forms.proofs.Common.{HasPartner, IsAlone, partner_or_alone, partner_below, found_by, ◌≡◌, ◌⊎◌, inl, inr, ◌+◌, ◌<◌, length, arith, Side}
 use Rattle.free_forms.proofs.SearchLemmas.{HasSpread, reached_below, spread_more}
 use Rattle.free_forms.proofs.search.spread_from.Goals as goal
 

@@ -1,4 +1,4 @@
-use Rattle.free_forms.specs.Searches.{found_by, IsSearch, Grows, NeighboursReached}
+use Rattle.free_forms.proofs.Common.{found_by, IsSearch, Grows, NeighboursReached}
 use Rattle.free_forms.proofs.search.spread_from.Given as goal
 
 abbrev pub invariant-loop-at : goal.invariant-loop-at

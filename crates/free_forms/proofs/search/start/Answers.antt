@@ -1,5 +1,4 @@
-use Rattle.free_forms.proofs.Common.{ℕ, ◌+◌, sym, subst, arith, IsSide}
-use Rattle.free_forms.specs.Searches.{found_by}
+use Rattle.free_forms.proofs.Common.{found_by, ℕ, ◌+◌, sym, subst, arith, IsSide}
 use Rattle.free_forms.proofs.SearchLemmas.{HasStarted, side_of_one, start_more, start_other}
 use Rattle.free_forms.proofs.search.start.Goals as goal
 use Rattle.free_forms.proofs.search.start.Goals.{then-sides_of-eq1+in_ok-reach, else-sides_of-eq1}

@@ -1,4 +1,4 @@
-use Rattle.free_forms.specs.Searches.{found_by, IsSearch, IsStartedUpTo}
+use Rattle.free_forms.proofs.Common.{found_by, IsSearch, IsStartedUpTo}
 use Rattle.free_forms.proofs.search.start.Given as goal
 
 abbrev pub invariant-loop-edge : goal.invariant-loop-edge

@@ -1,6 +1,5 @@
-use Rattle.loop_commands.proofs.Common.{fault_stops, text_passes, text_stops, sym, err_from_is_err_and, loops_fault}
+use Rattle.loop_commands.proofs.Common.{fault_stops, text_passes, text_stops, loops_line, sym, err_from_is_err_and, loops_fault}
 use Rattle.commands.proofs.Running.{only_self, reads_faulty, reads_made, reads_then, tells_no_fault}
-use Rattle.loop_commands.specs.Loops.{loops_line}
 use Rattle.loop_commands.proofs.input.read_loops.Goals as goal
 
 pub returns-in_err-walks-clause-reads : goal.returns-in_err-walks-clause-reads

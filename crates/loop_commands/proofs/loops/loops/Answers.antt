@@ -1,7 +1,6 @@
-use Rattle.loop_commands.proofs.Common.{FreelyHomotopic, Freely, ◌≡◌, ℕ, List, arith, refl, ◌↔◌}
+use Rattle.loop_commands.proofs.Common.{FreelyHomotopic, Freely, free_answer, loops_in, ◌≡◌, ℕ, List, arith, refl, ◌↔◌}
 use Rattle.commands.proofs.Deciding.{at_places}
 use Rattle.surface_commands.proofs.RunsOnWalks.{runs_asked, runs_refused_walks, runs_wanting}
-use Rattle.loop_commands.specs.Loops.{free_answer, loops_in}
 use Rattle.loop_commands.proofs.LoopAnswers.{AreClosed, after_pair, loops_long, walks_of_pair}
 use Rattle.loop_commands.proofs.loops.loops.Goals as goal
 

@@ -1,5 +1,4 @@
-use Rattle.off_reader.proofs.Common.{sym, subst}
-use Rattle.off_reader.specs.OffSteps.{SaysHeader}
+use Rattle.off_reader.proofs.Common.{SaysHeader, sym, subst}
 use Rattle.off_reader.proofs.HeaderLemmas.{no_header, keyword_header, plain_header}
 use Rattle.off_reader.proofs.header.read_header.Goals as goal
 

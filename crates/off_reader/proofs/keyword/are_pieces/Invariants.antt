@@ -1,5 +1,4 @@
-use Rattle.off_reader.proofs.Common.{◌≡◌, length}
-use Rattle.off_reader.specs.OffTexts.{are_pieces}
+use Rattle.off_reader.proofs.Common.{are_pieces, ◌≡◌, length}
 use Rattle.off_reader.proofs.keyword.are_pieces.Given as goal
 
 abbrev pub invariant-loop-rest : goal.invariant-loop-rest

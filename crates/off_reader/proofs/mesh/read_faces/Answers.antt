@@ -1,6 +1,5 @@
-use Rattle.off_reader.proofs.Common.{arith, sym, ap, subst, ◌∙◌, inl, inr, ◌≡◌, [], ◌∷◌, ◌++◌, err_from_is_err_and, FaceList, PendingFace, total_sides, IsFace}
+use Rattle.off_reader.proofs.Common.{TakesFaces, arith, sym, ap, subst, ◌∙◌, inl, inr, ◌≡◌, [], ◌∷◌, ◌++◌, err_from_is_err_and, FaceList, PendingFace, total_sides, IsFace}
 use Rattle.std.proofs.Common.{Ok}
-use Rattle.off_reader.specs.OffSteps.{TakesFaces}
 use Rattle.off_reader.proofs.RingLemmas.{ring_face, ring_room}
 use Rattle.off_reader.proofs.MeshLemmas.{one_face, bad_face_line, no_face_line, all_faces}
 use Rattle.off_reader.proofs.mesh.read_faces.Goals as goal

@@ -1,7 +1,5 @@
-use Rattle.off_reader.proofs.Common.{sym, ap, ◌∙◌, inr, arith, subst, err_from_is_err_and, total_sides}
+use Rattle.off_reader.proofs.Common.{ReadsCorners, has_equal_neighbours, sym, ap, ◌∙◌, inr, arith, subst, err_from_is_err_and, total_sides}
 use Rattle.std.proofs.Common.{Ok}
-use Rattle.off_reader.specs.OffTexts.{has_equal_neighbours}
-use Rattle.off_reader.specs.OffSteps.{ReadsCorners}
 use Rattle.off_reader.proofs.RingLemmas.{no_sides, few_sides, faulty, many_sides, missing_ring, out_of_range, equal_neighbours, good_ring}
 use Rattle.off_reader.proofs.ring.read_ring.Goals as goal
 

@@ -1,7 +1,5 @@
-use Rattle.off_writer.proofs.Common.{◌≡◌, ◌++◌, ◌∙◌, sym, ap, List, ℕ, err_from_is_err_and, flat_map, gathers-none, gathers-put, only-none, puts-then, puts-fails, puts-same, line_of}
+use Rattle.off_writer.proofs.Common.{head_text, ring_words, ◌≡◌, ◌++◌, ◌∙◌, sym, ap, List, ℕ, err_from_is_err_and, flat_map, gathers-none, gathers-put, only-none, puts-then, puts-fails, puts-same, line_of}
 use Rattle.std.specs.Prelude.{map}
-use Rattle.off_writer.specs.Parts.{head_text}
-use Rattle.off_writer.specs.WrittenMeshes.{ring_words}
 use Rattle.off_writer.proofs.RowLemmas.{behind_head, points_of}
 use Rattle.off_writer.proofs.ReadingBack.{reads_back}
 use Rattle.off_writer.proofs.writing.put_mesh.Goals as goal

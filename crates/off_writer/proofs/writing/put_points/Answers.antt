@@ -1,5 +1,4 @@
-use Rattle.off_writer.proofs.Common.{arith, length-replicate, err_from_is_err_and, replicate, gathers-put, each-none, each-more, each-stops, each-all, line_of}
-use Rattle.off_writer.specs.WrittenMeshes.{point_words}
+use Rattle.off_writer.proofs.Common.{point_words, arith, length-replicate, err_from_is_err_and, replicate, gathers-put, each-none, each-more, each-stops, each-all, line_of}
 use Rattle.off_writer.proofs.RowLemmas.{point_there}
 use Rattle.off_writer.proofs.writing.put_points.Goals as goal
 

@@ -1,5 +1,4 @@
-use Rattle.off_writer.proofs.Common.{replicate, EachPut, line_of}
-use Rattle.off_writer.specs.WrittenMeshes.{point_words}
+use Rattle.off_writer.proofs.Common.{point_words, replicate, EachPut, line_of}
 use Rattle.off_writer.proofs.writing.put_points.Given as goal
 
 -- the points so far were put

@@ -1,7 +1,5 @@
-use Rattle.open_commands.proofs.Common.{stops_first, pair_long, memory_no_fault, only_self, runs_faulty, runs_replied, runs_stopped, LeadsAtPeak, IsWithin, MOST_OPEN_STEPS, subst, arith, HasFileSize}
+use Rattle.open_commands.proofs.Common.{stops_first, pair_long, memory_no_fault, only_self, runs_faulty, runs_replied, runs_stopped, LeadsAtPeak, IsWithin, MOST_OPEN_STEPS, list_answer, open_pair_in, subst, arith, HasFileSize}
 use Rattle.surf_model.specs.Moves as moves
-use Rattle.open_commands.specs.CertifyOpen.{list_answer}
-use Rattle.open_commands.specs.OpenPairs.{open_pair_in}
 use Rattle.open_commands.proofs.Listing.{list_passes, found_reply, found_short}
 use Rattle.open_commands.proofs.OpenInputs.{AreOpenWalks, open_walks}
 use Rattle.open_commands.proofs.OpenOutcomes.{then_listed}

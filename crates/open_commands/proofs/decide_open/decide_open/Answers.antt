@@ -1,6 +1,5 @@
-use Rattle.open_commands.proofs.Common.{stops_first, pair_long, memory_no_fault, only_self, runs_faulty, runs_replied, runs_stopped, decision_answer, arith, if◌then◌else◌, Homotopic, Different}
+use Rattle.open_commands.proofs.Common.{stops_first, pair_long, memory_no_fault, only_self, runs_faulty, runs_replied, runs_stopped, decision_answer, open_pair_in, arith, if◌then◌else◌, Homotopic, Different}
 use Rattle.surf_model.specs.declared.decisions.Answer as deciding
-use Rattle.open_commands.specs.OpenPairs.{open_pair_in}
 use Rattle.open_commands.proofs.Listing.{decision_passes}
 use Rattle.open_commands.proofs.OpenInputs.{AreOpenWalks, open_walks}
 use Rattle.open_commands.proofs.OpenOutcomes.{then_decided}

@@ -1,5 +1,4 @@
-use Rattle.open_commands.proofs.Common.{first_fault_stops, tells_no_fault, refl}
-use Rattle.open_commands.specs.OpenInput.{open_line, open_surface}
+use Rattle.open_commands.proofs.Common.{first_fault_stops, tells_no_fault, open_line, open_surface, refl}
 use Rattle.open_commands.proofs.open_input.check_surface.Goals as goal
 
 pub returns-in-Err : goal.returns-in-Err

@@ -1,7 +1,6 @@
-use Rattle.open_commands.proofs.Common.{pair_long, fitting, memory_no_fault, only_then, reads_faulty, reads_made, reads_then, tells_no_fault, Exactly, Passes, pair_in, walk_at, Stops, ◌≡◌, ◌∙◌, ℕ, List, ap, sym, subst, arith, get_or_from_slice_get, Option, Files, FaceList}
+use Rattle.open_commands.proofs.Common.{pair_long, fitting, memory_no_fault, only_then, reads_faulty, reads_made, reads_then, tells_no_fault, Exactly, Passes, pair_in, walk_at, Stops, IsWithinLimits, limit_fault, limit_word, open_limits, open_pair_in, ◌≡◌, ◌∙◌, ℕ, List, ap, sym, subst, arith, get_or_from_slice_get, Option, Files, FaceList}
 use Rattle.std.proofs.lemmas.Result.{err_from_is_err_and}
 use Rattle.walk_files.specs.Pairs.{IsPair}
-use Rattle.open_commands.specs.OpenPairs.{IsWithinLimits, limit_fault, limit_word, open_limits, open_pair_in}
 use Rattle.open_commands.proofs.OpenInputs.{walks_stop, limits_stop, pair_passes, built_passes}
 use Rattle.open_commands.proofs.open_pair.read_open_pair.Goals as goal
 use Rattle.open_commands.proofs.open_pair.read_open_pair.Goals.{After-at-2}

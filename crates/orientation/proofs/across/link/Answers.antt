@@ -1,5 +1,4 @@
-use Rattle.orientation.proofs.Common.{sym, subst, edge_in}
-use Rattle.orientation.specs.Trees.{IsAlong}
+use Rattle.orientation.proofs.Common.{IsAlong, sym, subst, edge_in}
 use Rattle.orientation.proofs.AcrossLemmas.{along_edge, has_numbered}
 use Rattle.orientation.proofs.across.link.Goals as goal
 

@@ -1,5 +1,4 @@
-use Rattle.orientation.proofs.Common.{◌<◌, ◌≤◌, ◌∷◌, [], sym, ◌∙◌, ap, subst, arith, IsOddChain, FaceName}
-use Rattle.orientation.specs.Trees.{IsFoundFrom}
+use Rattle.orientation.proofs.Common.{IsFoundFrom, ◌<◌, ◌≤◌, ◌∷◌, [], sym, ◌∙◌, ap, subst, arith, IsOddChain, FaceName}
 use Rattle.orientation.proofs.SearchLemmas.{seen_below}
 use Rattle.orientation.proofs.TreeLemmas.{few_faces}
 use Rattle.orientation.proofs.ClimbLemmas.{IsClimb, climb_first, climb_last, found_up, found_down, climbed_up, climbed_down, apart_from_test, same_from_test}

@@ -1,5 +1,4 @@
-use Rattle.orientation.proofs.Common.{◌+◌}
-use Rattle.orientation.specs.Trees.{place_of}
+use Rattle.orientation.proofs.Common.{place_of, ◌+◌}
 use Rattle.orientation.proofs.ClimbLemmas.{IsClimb}
 use Rattle.orientation.proofs.climb.chain_round.Given as goal
 

@@ -1,5 +1,4 @@
-use Rattle.orientation.proofs.Common.{◌≡◌, ◌≢◌, inl, inr, ◌+◌, ℕ, refl, ap, sym, ◌∙◌, arith, both_ways, cases_eq, first_side-more, first_side-all, first_side, IsSide, ArePartners, Side}
-use Rattle.orientation.specs.Trees.{runs_alike}
+use Rattle.orientation.proofs.Common.{runs_alike, ◌≡◌, ◌≢◌, inl, inr, ◌+◌, ℕ, refl, ap, sym, ◌∙◌, arith, both_ways, cases_eq, first_side-more, first_side-all, first_side, IsSide, ArePartners, Side}
 use Rattle.orientation.proofs.AcrossLemmas.{IsOther, has_other, alone}
 use Rattle.orientation.proofs.ListedLemmas.{fit_fewer, fit_passed, other_partner, only_partner, partner_number, fit_all}
 use Rattle.orientation.proofs.listed.are_listed_coherently.Goals as goal

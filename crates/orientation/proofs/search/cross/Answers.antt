@@ -1,6 +1,4 @@
-use Rattle.orientation.proofs.Common.{Bool, refl, ◌≡◌, ◌+◌, ◌∙◌, not, ap, arith, sym, is_flipped, beq}
-use Rattle.orientation.specs.Trees.{runs_alike}
-use Rattle.orientation.specs.declared.trees.Place.{Place}
+use Rattle.orientation.proofs.Common.{runs_alike, Place, Bool, refl, ◌≡◌, ◌+◌, ◌∙◌, not, ap, arith, sym, is_flipped, beq}
 use Rattle.orientation.proofs.TreeLemmas.{few_faces}
 use Rattle.orientation.proofs.SearchLemmas.{Crossed, crossed}
 use Rattle.orientation.proofs.search.cross.Goals as goal

@@ -1,5 +1,4 @@
-use Rattle.orientation.proofs.Common.{◌+◌, List, arith, sym, subst, Side, FaceName}
-use Rattle.orientation.specs.Trees.{Growth}
+use Rattle.orientation.proofs.Common.{Growth, ◌+◌, List, arith, sym, subst, Side, FaceName}
 use Rattle.orientation.proofs.SearchLemmas.{IsExploring, exploring_past, exploring_across, exploring_last, seen_below}
 use Rattle.orientation.proofs.search.explore.Goals as goal
 use Rattle.orientation.proofs.search.explore.Goals.{in-Some+in_ok-cross+else-not-branch, in_default}

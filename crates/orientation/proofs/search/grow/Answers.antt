@@ -1,5 +1,4 @@
-use Rattle.orientation.proofs.Common.{◌∙◌, ◌++◌, ◌∷◌, [], List, ap, arith, refl, subst, FaceName}
-use Rattle.orientation.specs.Searches.{IsSearch}
+use Rattle.orientation.proofs.Common.{IsSearch, ◌∙◌, ◌++◌, ◌∷◌, [], List, ap, arith, refl, subst, FaceName}
 use Rattle.orientation.proofs.SearchLemmas.{growing_first, taken, length-taken, growing_more, seen_later}
 use Rattle.orientation.proofs.TreeLemmas.{extends_more}
 use Rattle.orientation.proofs.search.grow.Goals as goal

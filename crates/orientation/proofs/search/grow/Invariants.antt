@@ -1,5 +1,4 @@
-use Rattle.orientation.proofs.Common.{◌+◌, length}
-use Rattle.orientation.specs.Trees.{count_unseen}
+use Rattle.orientation.proofs.Common.{count_unseen, ◌+◌, length}
 use Rattle.orientation.proofs.SearchLemmas.{IsGrowing}
 use Rattle.orientation.proofs.search.grow.Given as goal
 

@@ -1,5 +1,4 @@
-use Rattle.orientation.proofs.Common.{◌+◌, List, arith, sym, ◌∙◌, subst, FaceName}
-use Rattle.orientation.specs.Trees.{Growth}
+use Rattle.orientation.proofs.Common.{Growth, ◌+◌, List, arith, sym, ◌∙◌, subst, FaceName}
 use Rattle.orientation.proofs.SearchLemmas.{IsThrough, through_none, through_grown, through_seen, through_all}
 use Rattle.orientation.proofs.search.search.Goals as goal
 use Rattle.orientation.proofs.search.search.Goals.{then-not-seen+in_ok-tear+in_default, else-not-seen}

@@ -1,7 +1,5 @@
-use Rattle.pair_commands.proofs.Common.{err_no_fault, refl}
+use Rattle.pair_commands.proofs.Common.{err_no_fault, decisions_answer, pairs_in, refl}
 use Rattle.surface_commands.proofs.RunsOnWalks.{runs_asked, runs_refused_read, runs_refused_walks}
-use Rattle.pair_commands.specs.Decide.{decisions_answer}
-use Rattle.pair_commands.specs.PairInput.{pairs_in}
 use Rattle.pair_commands.proofs.PairChecks.{list_pass, list_stop, text_stop}
 use Rattle.pair_commands.proofs.DecideOutcomes.{after_pairs}
 use Rattle.pair_commands.proofs.decide.decide.Goals as goal

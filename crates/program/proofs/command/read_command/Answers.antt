@@ -1,5 +1,4 @@
-use Rattle.program.proofs.Common.{texts, ◌≡◌, ◌∷◌, [], ℕ, List, ap, sym, subst, ◌∙◌, IfSome, IfNone}
-use Rattle.program.specs.Commands.{Row, IsRow, row_of}
+use Rattle.program.proofs.Common.{texts, Row, IsRow, row_of, ◌≡◌, ◌∷◌, [], ℕ, List, ap, sym, subst, ◌∙◌, IfSome, IfNone}
 use Rattle.program.specs.declared.command.Command.{Command}
 use Rattle.program.proofs.WordTexts.{three_texts, four_texts}
 use Rattle.program.proofs.command.read_command.Goals as goal

@@ -1,5 +1,4 @@
-use Rattle.program.proofs.Common.{certified_so}
-use Rattle.program.specs.Commands.{Certify}
+use Rattle.program.proofs.Common.{certified_so, Certify}
 use Rattle.program.proofs.Rows.{row_answered}
 use Rattle.program.proofs.laws.certify_answers.Goals as goal
 

@@ -1,5 +1,4 @@
-use Rattle.program.proofs.Common.{certified_open_so}
-use Rattle.program.specs.Commands.{CertifyOpen}
+use Rattle.program.proofs.Common.{certified_open_so, CertifyOpen}
 use Rattle.program.proofs.Rows.{row_answered}
 use Rattle.program.proofs.laws.certify_open_answers.Goals as goal
 

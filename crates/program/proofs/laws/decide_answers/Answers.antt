@@ -1,5 +1,4 @@
-use Rattle.program.proofs.Common.{decided_so}
-use Rattle.program.specs.Commands.{Decide}
+use Rattle.program.proofs.Common.{decided_so, Decide}
 use Rattle.program.proofs.Rows.{row_answered}
 use Rattle.program.proofs.laws.decide_answers.Goals as goal
 

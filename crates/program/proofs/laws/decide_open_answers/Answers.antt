@@ -1,5 +1,4 @@
-use Rattle.program.proofs.Common.{decided_open_so}
-use Rattle.program.specs.Commands.{DecideOpen}
+use Rattle.program.proofs.Common.{decided_open_so, DecideOpen}
 use Rattle.program.proofs.Rows.{row_answered}
 use Rattle.program.proofs.laws.decide_open_answers.Goals as goal
 

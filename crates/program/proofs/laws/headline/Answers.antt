@@ -1,5 +1,4 @@
-use Rattle.program.proofs.Common.{certified_so, decided_so}
-use Rattle.program.specs.Commands.{Decide, Certify}
+use Rattle.program.proofs.Common.{certified_so, decided_so, Decide, Certify}
 use Rattle.program.proofs.HeadlineLemmas.{headline}
 use Rattle.program.proofs.Rows.{row_answered}
 use Rattle.program.proofs.laws.headline.Goals as goal

@@ -1,5 +1,5 @@
+use Rattle.program.proofs.Common.{Homology}
 use Rattle.homology_commands.proofs.HomologyOutcomes.{homology_so}
-use Rattle.program.specs.Commands.{Homology}
 use Rattle.program.proofs.Rows.{row_answered}
 use Rattle.program.proofs.laws.homology_answers.Goals as goal
 

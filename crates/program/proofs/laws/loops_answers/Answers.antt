@@ -1,5 +1,5 @@
+use Rattle.program.proofs.Common.{Loops}
 use Rattle.loop_commands.proofs.LoopOutcomes.{loops_so}
-use Rattle.program.specs.Commands.{Loops}
 use Rattle.program.proofs.Rows.{row_answered}
 use Rattle.program.proofs.laws.loops_answers.Goals as goal
 

@@ -1,5 +1,4 @@
-use Rattle.program.proofs.Common.{reduced}
-use Rattle.program.specs.Commands.{Reduce}
+use Rattle.program.proofs.Common.{Reduce, reduced}
 use Rattle.program.proofs.Rows.{row_answered}
 use Rattle.program.proofs.laws.reduce_answers.Goals as goal
 

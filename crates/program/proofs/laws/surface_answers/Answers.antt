@@ -1,5 +1,5 @@
+use Rattle.program.proofs.Common.{Surface}
 use Rattle.surface_commands.proofs.SurfaceOutcomes.{measured}
-use Rattle.program.specs.Commands.{Surface}
 use Rattle.program.proofs.Rows.{row_answered}
 use Rattle.program.proofs.laws.surface_answers.Goals as goal
 

@@ -1,5 +1,5 @@
+use Rattle.program.proofs.Common.{Trial}
 use Rattle.trial_commands.proofs.TrialOutcomes.{tried}
-use Rattle.program.specs.Commands.{Trial}
 use Rattle.program.proofs.Rows.{row_answered}
 use Rattle.program.proofs.laws.trial_answers.Goals as goal
 

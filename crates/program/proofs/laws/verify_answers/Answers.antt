@@ -1,5 +1,5 @@
+use Rattle.program.proofs.Common.{Verify}
 use Rattle.verify_commands.proofs.VerifyOutcomes.{verified, denial_verified}
-use Rattle.program.specs.Commands.{Verify}
 use Rattle.program.proofs.Rows.{row_answered}
 use Rattle.program.proofs.laws.verify_answers.Goals as goal
 

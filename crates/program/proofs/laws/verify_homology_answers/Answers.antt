@@ -1,5 +1,4 @@
-use Rattle.program.proofs.Common.{homology_verified}
-use Rattle.program.specs.Commands.{VerifyHomology}
+use Rattle.program.proofs.Common.{VerifyHomology, homology_verified}
 use Rattle.program.proofs.Rows.{row_answered}
 use Rattle.program.proofs.laws.verify_homology_answers.Goals as goal
 

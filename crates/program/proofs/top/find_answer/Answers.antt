@@ -1,5 +1,4 @@
-use Rattle.program.specs.Commands.{row_of}
-use Rattle.program.proofs.Common.{runs_refused, wrong_words, texts}
+use Rattle.program.proofs.Common.{runs_refused, wrong_words, texts, row_of}
 use Rattle.program.proofs.Outcomes.{row_runs, wrong_stops}
 use Rattle.program.proofs.top.find_answer.Goals as goal
 

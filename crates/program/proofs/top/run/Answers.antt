@@ -1,5 +1,4 @@
-use Rattle.program.proofs.Common.{wrote_all, wrote_part, reply_status, reply_text, IsAnswered, Stops, texts, Reply, OutOfMemory, ◌≡◌, ◌⊎◌, inl, inr, sym, subst}
-use Rattle.program.specs.Outcomes.{Answers, answer_of}
+use Rattle.program.proofs.Common.{wrote_all, wrote_part, reply_status, reply_text, IsAnswered, Stops, texts, Reply, OutOfMemory, Answers, answer_of, ◌≡◌, ◌⊎◌, inl, inr, sym, subst}
 use Rattle.program.proofs.Outcomes.{reply_answers, refusal_answers, is_answered}
 use Rattle.program.proofs.top.run.Given as given
 use Rattle.program.proofs.top.run.Goals as goal

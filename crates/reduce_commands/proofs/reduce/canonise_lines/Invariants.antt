@@ -1,5 +1,4 @@
-use Rattle.reduce_commands.proofs.Common.{◌≡◌, List, before_ok, NumberLine, words_of}
-use Rattle.reduce_commands.specs.Canonised.{IsSoFar}
+use Rattle.reduce_commands.proofs.Common.{IsSoFar, ◌≡◌, List, before_ok, NumberLine, words_of}
 use Rattle.reduce_commands.proofs.reduce.canonise_lines.Given as goal
 
 -- lines were read, and this is what they came to

@@ -1,6 +1,5 @@
-use Rattle.reduce_commands.proofs.Common.{stops_first, runs_faulty, runs_refused, runs_replied, runs_stopped, yes_with, file, meant, numbers_line, words_text, refl, arith, words_of}
+use Rattle.reduce_commands.proofs.Common.{stops_first, runs_faulty, runs_refused, runs_replied, runs_stopped, yes_with, file, meant, numbers_line, words_text, degree_line, refl, arith, words_of}
 use Rattle.commands.specs.declared.refusal.Input.TheVariants.{TurnWords}
-use Rattle.reduce_commands.specs.Reduce.{degree_line}
 use Rattle.reduce_commands.proofs.Reducing.{degree_stops, lines_stop, looks_at_file, words_no_fault, words_pass, words_stop}
 use Rattle.reduce_commands.proofs.reduce.reduce.Goals as goal
 

@@ -1,7 +1,4 @@
-use Rattle.spoke_paths.proofs.Common.{◌≡◌, ◌-◌, ◌<◌, ◌++◌, Some, true, arith, length, take, drop, get_or, suc, sym, ◌∙◌, ap, subst, length-remove, remove, if◌then◌else◌, minus}
-use Rattle.spoke_paths.specs.PathSteps.{PathLeads, after_path_step}
-use Rattle.spoke_paths.specs.PathTurns.{IsTurnedOver}
-use Rattle.spoke_paths.specs.declared.step.PathStep.TheVariants.{Spur}
+use Rattle.spoke_paths.proofs.Common.{PathLeads, after_path_step, IsTurnedOver, Spur, ◌≡◌, ◌-◌, ◌<◌, ◌++◌, Some, true, arith, length, take, drop, get_or, suc, sym, ◌∙◌, ap, subst, length-remove, remove, if◌then◌else◌, minus}
 use Rattle.spoke_paths.proofs.Closing.{closing-next, closed-is, spur-stands, below-remove, signs-of}
 use Rattle.spoke_paths.proofs.Leading.{leads-more, spur-at, written}
 use Rattle.spoke_paths.proofs.reduce.close.Goals as goal

@@ -1,5 +1,4 @@
-use Rattle.spoke_paths.proofs.Common.{◌<◌, All, length, if◌then◌else◌, minus}
-use Rattle.spoke_paths.specs.PathTurns.{LeadsOn}
+use Rattle.spoke_paths.proofs.Common.{LeadsOn, ◌<◌, All, length, if◌then◌else◌, minus}
 use Rattle.spoke_paths.proofs.Closing.{Closing}
 use Rattle.spoke_paths.proofs.reduce.close.Given as goal
 

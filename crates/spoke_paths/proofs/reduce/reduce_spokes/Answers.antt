@@ -1,5 +1,4 @@
-use Rattle.spoke_paths.proofs.Common.{subst}
-use Rattle.spoke_paths.specs.PathSteps.{PathLeads}
+use Rattle.spoke_paths.proofs.Common.{PathLeads, subst}
 use Rattle.spoke_paths.proofs.Shortening.{short-pushed, all-read, reduced-from}
 use Rattle.spoke_paths.proofs.reduce.reduce_spokes.Goals as goal
 

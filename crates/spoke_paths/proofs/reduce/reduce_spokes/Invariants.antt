@@ -1,6 +1,4 @@
-use Rattle.spoke_paths.proofs.Common.{◌≤◌, ◌<◌, ◌++◌, All, length, drop}
-use Rattle.spoke_paths.specs.PathSteps.{PathLeads}
-use Rattle.spoke_paths.specs.PathTurns.{IsShort}
+use Rattle.spoke_paths.proofs.Common.{PathLeads, IsShort, ◌≤◌, ◌<◌, ◌++◌, All, length, drop}
 use Rattle.spoke_paths.proofs.reduce.reduce_spokes.Given as goal
 
 abbrev pub invariant-loop-spoke : goal.invariant-loop-spoke

@@ -1,6 +1,4 @@
-use Rattle.spoke_paths.proofs.Common.{◌≡◌, ℕ, ◌-◌, ◌<◌, ◌≤◌, List, ◌++◌, true, false, arith, length, get_or, suc, sym, ◌∙◌, ap, ap₂, subst, remove, minus}
-use Rattle.spoke_paths.specs.PathTurns.{turn_of, Opens}
-use Rattle.spoke_paths.specs.declared.step.PathStep.TheVariants.{Spur}
+use Rattle.spoke_paths.proofs.Common.{turn_of, Opens, Spur, ◌≡◌, ℕ, ◌-◌, ◌<◌, ◌≤◌, List, ◌++◌, true, false, arith, length, get_or, suc, sym, ◌∙◌, ap, ap₂, subst, remove, minus}
 use Rattle.spoke_paths.proofs.Leading.{leads-more, spur-at}
 use Rattle.spoke_paths.proofs.Shortening.{short-closed, short-more, turns-below, equal-by-turn, spur-short, minus-is}
 use Rattle.spoke_paths.proofs.reduce.shorten_end.Goals as goal

@@ -1,7 +1,4 @@
-use Rattle.spoke_paths.proofs.Common.{◌≡◌, ℕ, ◌<◌, List, [], ◌∷◌, length, ap, sym, ◌∙◌, subst, arith, Some, remove}
-use Rattle.spoke_paths.specs.PathSteps.{after_path_step}
-use Rattle.spoke_paths.specs.PathTurns.{from_vertex}
-use Rattle.spoke_paths.specs.declared.step.PathStep.{PathStep}
+use Rattle.spoke_paths.proofs.Common.{after_path_step, from_vertex, PathStep, ◌≡◌, ℕ, ◌<◌, List, [], ◌∷◌, length, ap, sym, ◌∙◌, subst, arith, Some, remove}
 use Rattle.spoke_paths.proofs.Placing.{new_way, AreTakenOut, spur-taken, turn-written, some-turn}
 use Rattle.spoke_paths.proofs.take.take_step.Goals as goal
 

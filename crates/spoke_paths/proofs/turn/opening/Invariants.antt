@@ -1,5 +1,4 @@
-use Rattle.spoke_paths.proofs.Common.{◌≡◌, ℕ, ◌-◌, ◌<◌, ◌≤◌, length}
-use Rattle.spoke_paths.specs.PathTurns.{turn_of}
+use Rattle.spoke_paths.proofs.Common.{turn_of, ◌≡◌, ℕ, ◌-◌, ◌<◌, ◌≤◌, length}
 use Rattle.spoke_paths.proofs.turn.opening.Given as goal
 
 abbrev pub invariant-loop-at : goal.invariant-loop-at

@@ -1,5 +1,4 @@
-use Rattle.surf_io.proofs.Common.{◌+◌, ◌-◌, ◌≡◌, ◌≤◌, vec_len, IfSome}
-use Rattle.surf_io.specs.Files.{file_of}
+use Rattle.surf_io.proofs.Common.{◌+◌, ◌-◌, ◌≡◌, ◌≤◌, vec_len, IfSome, file_of}
 use Rattle.surf_io.proofs.Reading.{IsReadUpTo}
 use Rattle.surf_io.proofs.read.read_whole.Given as goal
 

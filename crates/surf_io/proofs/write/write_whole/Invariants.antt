@@ -1,5 +1,4 @@
-use Rattle.surf_io.proofs.Common.{length, ◌-◌, ◌≡◌, ◌≤◌, take}
-use Rattle.surf_io.specs.Bytes.{Appends}
+use Rattle.surf_io.proofs.Common.{length, ◌-◌, ◌≡◌, ◌≤◌, take, Appends}
 use Rattle.surf_io.proofs.write.write_whole.Given as goal
 
 abbrev pub invariant-loop-at : goal.invariant-loop-at

@@ -1,7 +1,5 @@
-use Rattle.surf_model.proofs.Common.{◌++◌, length, refl, All-nil, All-append}
+use Rattle.surf_model.proofs.Common.{◌++◌, length, refl, All-nil, All-append, IsSpurMove, all_raised, way_back}
 use Rattle.std.specs.Prelude.{[]}
-use Rattle.surf_model.specs.FreeWalks.{IsSpurMove}
-use Rattle.surf_model.specs.Rewriting.{all_raised, way_back}
 use Rattle.surf_model.proofs.ContextLemmas.{list_in_context, one_after_another}
 use Rattle.surf_model.proofs.WayBackLemmas.{list_undone}
 use Rattle.surf_model.proofs.FreeWalkLemmas.{spurs_raised, spurs_back}

@@ -1,6 +1,5 @@
-use Rattle.surf_model.proofs.Common.{◌++◌, length, refl}
+use Rattle.surf_model.proofs.Common.{◌++◌, length, refl, all_raised, way_back}
 use Rattle.std.specs.Prelude.{[]}
-use Rattle.surf_model.specs.Rewriting.{all_raised, way_back}
 use Rattle.surf_model.proofs.ContextLemmas.{list_in_context, one_after_another}
 use Rattle.surf_model.proofs.WayBackLemmas.{list_undone}
 use Rattle.surf_model.proofs.homotopy_laws.homotopy_is_a_congruence.Goals as goal

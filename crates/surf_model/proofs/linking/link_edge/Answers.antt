@@ -1,9 +1,4 @@
-use Rattle.surf_model.proofs.Common.{◌≡◌, ◌<◌, inl, inr, ℕ, true, List, length, get_or, set, ap, sym, ◌∙◌, subst, arith, cases_lt, length-set}
-use Rattle.surf_model.specs.FaceLists.{next_corner}
-use Rattle.surf_model.specs.EdgeLists.{DartEdge, dart_edge_in}
-use Rattle.surf_model.specs.Links.{IsLinked}
-use Rattle.surf_model.specs.declared.edge_list.SideEntry.{SideEntry}
-use Rattle.surf_model.specs.declared.names.DartName.{DartName}
+use Rattle.surf_model.proofs.Common.{◌≡◌, ◌<◌, inl, inr, ℕ, true, List, length, get_or, set, ap, sym, ◌∙◌, subst, arith, cases_lt, length-set, DartEdge, dart_edge_in, next_corner, IsLinked, SideEntry, DartName}
 use Rattle.surf_model.proofs.LinkingLemmas.{link_to, linked_written, linked_still}
 use Rattle.surf_model.proofs.linking.link_edge.Goals as goal
 

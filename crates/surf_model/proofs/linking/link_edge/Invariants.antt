@@ -1,6 +1,4 @@
-use Rattle.surf_model.proofs.Common.{◌≡◌, ◌<◌, ◌≤◌, ℕ, length, get_or}
-use Rattle.surf_model.specs.EdgeLists.{dart_edge_in}
-use Rattle.surf_model.specs.Links.{IsLinked}
+use Rattle.surf_model.proofs.Common.{◌≡◌, ◌<◌, ◌≤◌, ℕ, length, get_or, dart_edge_in, IsLinked}
 use Rattle.surf_model.proofs.linking.link_edge.Given as goal
 
 abbrev pub invariant-loop-k : goal.invariant-loop-k

@@ -1,6 +1,4 @@
-use Rattle.surf_model.proofs.Common.{◌≡◌, ◌<◌, inl, inr, length, get_or, sym, ◌∙◌, subst, arith, cases_lt}
-use Rattle.surf_model.specs.EdgeLists.{dart_edge_in}
-use Rattle.surf_model.specs.Links.{IsLinked}
+use Rattle.surf_model.proofs.Common.{◌≡◌, ◌<◌, inl, inr, length, get_or, sym, ◌∙◌, subst, arith, cases_lt, dart_edge_in, IsLinked}
 use Rattle.surf_model.proofs.linking.link_sides.Goals as goal
 
 pub loop-edge-preserved : goal.loop-edge-preserved

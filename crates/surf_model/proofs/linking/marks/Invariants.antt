@@ -1,5 +1,4 @@
-use Rattle.surf_model.proofs.Common.{◌≡◌, ◌≤◌, ℕ, false, take, length, slice_index_or, list_any}
-use Rattle.surf_model.specs.Links.{is_end}
+use Rattle.surf_model.proofs.Common.{◌≡◌, ◌≤◌, ℕ, false, take, length, slice_index_or, list_any, is_end}
 use Rattle.surf_model.proofs.linking.marks.Given as goal
 
 abbrev pub invariant-loop-edge : goal.invariant-loop-edge

@@ -1,5 +1,4 @@
-use Rattle.surface_commands.proofs.Common.{err_no_fault, memory_no_fault, runs_faulty, runs_replied, yes_with, refl, ap, ◌∙◌}
-use Rattle.surface_commands.specs.Surface.{numbers_text}
+use Rattle.surface_commands.proofs.Common.{err_no_fault, memory_no_fault, runs_faulty, runs_replied, yes_with, refl, ap, ◌∙◌, numbers_text}
 use Rattle.surface_commands.proofs.Measuring.{few_stop, numbers_pass}
 use Rattle.surface_commands.proofs.surface.answer_surface.Goals as goal
 

@@ -1,5 +1,4 @@
-use Rattle.surface_commands.proofs.Common.{◌≡◌, ◌++◌, take, map}
-use Rattle.surface_commands.specs.Surface.{genus_line}
+use Rattle.surface_commands.proofs.Common.{◌≡◌, ◌++◌, take, map, genus_line}
 use Rattle.surface_commands.proofs.surface.put_genera.Given as goal
 
 abbrev pub invariant-loop-genus : goal.invariant-loop-genus

@@ -1,6 +1,5 @@
-use Rattle.surface_commands.proofs.Common.{tells_no_fault}
+use Rattle.surface_commands.proofs.Common.{tells_no_fault, components_line}
 use Rattle.surface_commands.proofs.Surfaces.{few_pass, many_stop}
-use Rattle.surface_commands.specs.SurfaceRefusals.{components_line}
 use Rattle.surface_commands.proofs.surface_input.few_components.Goals as goal
 
 pub returns-then-count-most-clause-end : goal.returns-then-count-most-clause-end

@@ -1,7 +1,4 @@
-use Rattle.tree_cotree.proofs.Common.{OrientedMesh, ◌≡◌, ◌/◌, ℕ, List, refl, length, ap, ◌∙◌, rules, length-replicate, replicate, count_below}
-use Rattle.tree_cotree.specs.declared.split.Kind.{Kind}
-use Rattle.tree_cotree.specs.declared.split.Kind.TheVariants.{Tree, Left}
-use Rattle.tree_cotree.specs.Searches.{has_kind}
+use Rattle.tree_cotree.proofs.Common.{OrientedMesh, ◌≡◌, ◌/◌, ℕ, List, refl, length, ap, ◌∙◌, rules, length-replicate, replicate, count_below, has_kind, Kind, Tree, Left}
 use Rattle.tree_cotree.proofs.ColouringLemmas.{none_before, none_between, vertices_hang, faces_hang, coloured}
 use Rattle.tree_cotree.proofs.ColourLemmas.{coloured_trees_are_of_a_split}
 use Rattle.tree_cotree.proofs.colouring.colour_edges.Goals as goal

@@ -1,6 +1,4 @@
-use Rattle.tree_cotree.proofs.Common.{OrientedMesh, ◌<◌, ◌≤◌, ℕ, List, length, ap, sym, subst, arith, Edge}
-use Rattle.tree_cotree.specs.declared.split.Kind.{Kind}
-use Rattle.tree_cotree.specs.Joinings.{IsTried, kind_over}
+use Rattle.tree_cotree.proofs.Common.{OrientedMesh, ◌<◌, ◌≤◌, ℕ, List, length, ap, sym, subst, arith, Edge, IsTried, kind_over, Kind}
 use Rattle.tree_cotree.proofs.ColouringLemmas.{IsSpanning, kind_not_left, spanning_none, spanning_early, spanning_next, spanning_all}
 use Rattle.tree_cotree.proofs.colouring.span.Goals.{then-begins_vertex, else-begins_vertex}
 use Rattle.tree_cotree.proofs.colouring.span.Goals as goal

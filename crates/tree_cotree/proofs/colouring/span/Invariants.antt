@@ -1,4 +1,4 @@
-use Rattle.tree_cotree.specs.Joinings.{kind_over}
+use Rattle.tree_cotree.proofs.Common.{kind_over}
 use Rattle.tree_cotree.proofs.ColouringLemmas.{IsSpanning}
 use Rattle.tree_cotree.proofs.colouring.span.Given as goal
 

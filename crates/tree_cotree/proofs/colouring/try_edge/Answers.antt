@@ -1,7 +1,4 @@
-use Rattle.tree_cotree.proofs.Common.{rotation_system, OrientedMesh, ◌≡◌, ◌<◌, List, length, refl, ap, sym, ◌∙◌, arith, set, both_ways, get_or_default}
-use Rattle.tree_cotree.specs.declared.split.Kind.{Kind}
-use Rattle.tree_cotree.specs.declared.split.Kind.TheVariants.{Tree, Left}
-use Rattle.tree_cotree.specs.Searches.{same_kind, has_kind}
+use Rattle.tree_cotree.proofs.Common.{rotation_system, OrientedMesh, ◌≡◌, ◌<◌, List, length, refl, ap, sym, ◌∙◌, arith, set, both_ways, get_or_default, same_kind, has_kind, Kind, Tree, Left}
 use Rattle.tree_cotree.proofs.JoiningLemmas.{ends_within}
 use Rattle.tree_cotree.proofs.ColouringLemmas.{has_nodes}
 use Rattle.tree_cotree.proofs.colouring.try_edge.Goals as goal

@@ -1,6 +1,4 @@
-use Rattle.tree_cotree.proofs.Common.{edge_of, OrientedMesh, Rotations, rotations_of, ◌≡◌, ◌<◌, ◌+◌, ℕ, List, length, ap, sym, ◌∙◌, subst, arith, set, length-set, Option, Some, None, FaceList}
-use Rattle.tree_cotree.specs.Searches.{kept_at}
-use Rattle.tree_cotree.specs.EdgeFaces.{AreBelowEdges}
+use Rattle.tree_cotree.proofs.Common.{edge_of, OrientedMesh, Rotations, rotations_of, ◌≡◌, ◌<◌, ◌+◌, ℕ, List, length, ap, sym, ◌∙◌, subst, arith, set, length-set, Option, Some, None, FaceList, AreBelowEdges, kept_at}
 use Rattle.tree_cotree.proofs.SearchLemmas.{kept_read}
 use Rattle.tree_cotree.proofs.BelowLemmas.{faces_skip, faces_more}
 use Rattle.tree_cotree.proofs.edge_faces.faces_below.Goals.{in-Some, in_default}

@@ -1,6 +1,4 @@
-use Rattle.tree_cotree.proofs.Common.{rotations_of, ◌≡◌, length}
-use Rattle.tree_cotree.specs.Searches.{kept_at}
-use Rattle.tree_cotree.specs.EdgeFaces.{AreBelowEdges}
+use Rattle.tree_cotree.proofs.Common.{rotations_of, ◌≡◌, length, AreBelowEdges, kept_at}
 use Rattle.tree_cotree.proofs.edge_faces.faces_below.Given as goal
 
 abbrev pub invariant-loop-face : goal.invariant-loop-face

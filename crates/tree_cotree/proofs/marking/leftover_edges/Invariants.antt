@@ -1,6 +1,4 @@
-use Rattle.tree_cotree.proofs.Common.{◌≡◌, ◌≤◌, count_below}
-use Rattle.tree_cotree.specs.Searches.{has_kind}
-use Rattle.tree_cotree.specs.declared.split.Kind.TheVariants.{Left}
+use Rattle.tree_cotree.proofs.Common.{◌≡◌, ◌≤◌, count_below, has_kind, Left}
 use Rattle.tree_cotree.proofs.marking.leftover_edges.Given as goal
 
 abbrev pub invariant-loop-edge : goal.invariant-loop-edge

@@ -1,6 +1,4 @@
-use Rattle.tree_cotree.proofs.Common.{edge_of, Rotations, rotations_of, ◌≡◌, ◌+◌, ◌<◌, ℕ, length, sym, ap, ◌∙◌, subst, arith, set, Some, None}
-use Rattle.tree_cotree.specs.Searches.{kept_at}
-use Rattle.tree_cotree.specs.Markings.{IsMarked}
+use Rattle.tree_cotree.proofs.Common.{edge_of, Rotations, rotations_of, ◌≡◌, ◌+◌, ◌<◌, ℕ, length, sym, ap, ◌∙◌, subst, arith, set, Some, None, IsMarked, kept_at}
 use Rattle.tree_cotree.proofs.SearchLemmas.{kept_read}
 use Rattle.tree_cotree.proofs.TreeLemmas.{marks_skip, marks_more}
 use Rattle.tree_cotree.proofs.marking.mark.Goals.{in-Some, in_default}

@@ -1,5 +1,4 @@
-use Rattle.tree_cotree.proofs.Common.{rotations_of}
-use Rattle.tree_cotree.specs.Markings.{IsMarked}
+use Rattle.tree_cotree.proofs.Common.{rotations_of, IsMarked}
 use Rattle.tree_cotree.proofs.marking.mark.Given as goal
 
 abbrev pub invariant-loop-node : goal.invariant-loop-node

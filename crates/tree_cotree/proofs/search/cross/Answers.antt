@@ -1,7 +1,4 @@
-use Rattle.tree_cotree.proofs.Common.{rotation_system, Rotations, ◌≡◌, ◌<◌, ℕ, true, List, [], ◌∷◌, ◌++◌, length, ap, sym, ◌∙◌, subst, rules, arith, set, append_assoc, DartName}
-use Rattle.tree_cotree.specs.RingViews.{dart_numbers}
-use Rattle.tree_cotree.specs.Graphs.{maps_of, node_in, crosses}
-use Rattle.tree_cotree.specs.Searches.{IsFound, IsOrder}
+use Rattle.tree_cotree.proofs.Common.{rotation_system, Rotations, ◌≡◌, ◌<◌, ℕ, true, List, [], ◌∷◌, ◌++◌, length, ap, sym, ◌∙◌, subst, rules, arith, set, append_assoc, DartName, maps_of, node_in, crosses, dart_numbers, IsFound, IsOrder}
 use Rattle.tree_cotree.proofs.SearchLemmas.{IsNewDart, root_found, kept_found, none_kept, order_pushed, found_pushed, added_pushed}
 use Rattle.tree_cotree.proofs.search.cross.Goals.{then-across-root-via-then-across-root, then-across-root-via-else-across-root+then-is_some}
 use Rattle.tree_cotree.proofs.search.cross.Goals as goal

@@ -1,8 +1,4 @@
-use Rattle.tree_cotree.proofs.Common.{Rotations, ◌≡◌, ◌≤◌, ℕ, List, length, sym, ap, subst, arith, length-map, length-append, DartName}
-use Rattle.tree_cotree.specs.RingViews.{dart_numbers}
-use Rattle.tree_cotree.specs.Waiting.{waiting_darts, IsTaken}
-use Rattle.tree_cotree.specs.Graphs.{maps_of, node_in, crosses}
-use Rattle.tree_cotree.specs.Searches.{AreBelow, IsSearched}
+use Rattle.tree_cotree.proofs.Common.{Rotations, ◌≡◌, ◌≤◌, ℕ, List, length, sym, ap, subst, arith, length-map, length-append, DartName, maps_of, node_in, crosses, dart_numbers, AreBelow, IsSearched, waiting_darts, IsTaken}
 use Rattle.tree_cotree.proofs.SearchLemmas.{order_few, rebound}
 use Rattle.tree_cotree.proofs.WaitingLemmas.{taken, none_waits, taken_longer, taken_dart, taken_found, underway_more, underway_done}
 use Rattle.tree_cotree.proofs.search.search_over.Goals as goal

@@ -1,7 +1,4 @@
-use Rattle.tree_cotree.proofs.Common.{◌+◌, ◌-◌, length}
-use Rattle.tree_cotree.specs.RingViews.{dart_numbers}
-use Rattle.tree_cotree.specs.Waiting.{waiting_darts}
-use Rattle.tree_cotree.specs.Graphs.{maps_of, node_in, crosses}
+use Rattle.tree_cotree.proofs.Common.{◌+◌, ◌-◌, length, maps_of, node_in, crosses, dart_numbers, waiting_darts}
 use Rattle.tree_cotree.proofs.WaitingLemmas.{IsUnderway}
 use Rattle.tree_cotree.proofs.search.search_over.Given as goal
 

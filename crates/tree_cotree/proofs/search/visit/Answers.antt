@@ -1,8 +1,4 @@
-use Rattle.tree_cotree.proofs.Common.{Rotations, ◌≡◌, ◌+◌, ◌≤◌, ℕ, List, length, sym, ◌∙◌, subst, arith, eqb-true}
-use Rattle.tree_cotree.specs.RingViews.{dart_numbers}
-use Rattle.tree_cotree.specs.Waiting.{waiting_darts}
-use Rattle.tree_cotree.specs.Graphs.{maps_of, node_in, turn_in, crosses}
-use Rattle.tree_cotree.specs.Searches.{AreBelow}
+use Rattle.tree_cotree.proofs.Common.{Rotations, ◌≡◌, ◌+◌, ◌≤◌, ℕ, List, length, sym, ◌∙◌, subst, arith, eqb-true, maps_of, node_in, turn_in, crosses, dart_numbers, AreBelow, waiting_darts}
 use Rattle.tree_cotree.proofs.SearchLemmas.{IsVisiting, turning, visit_start, visit_more, visit_within, visit_found, rebound, added_on, crossed_round, crossed_all}
 use Rattle.tree_cotree.proofs.search.visit.Goals as goal
 

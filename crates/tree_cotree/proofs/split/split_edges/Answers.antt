@@ -1,10 +1,4 @@
-use Rattle.tree_cotree.proofs.Common.{rotation_system, names_all, OrientedMesh, Rotations, rotations_of, NamesAll, ◌≡◌, ◌<◌, ◌/◌, ℕ, Bool, true, List, length, refl, sym, ap, ◌∙◌, subst, rules, arith, length-replicate, with_items_is, Option, replicate, FaceList, count_below}
-use Rattle.tree_cotree.specs.declared.split.Kind.{Kind}
-use Rattle.tree_cotree.specs.declared.split.Kind.TheVariants.{Tree, Left}
-use Rattle.tree_cotree.specs.Searches.{same_kind, has_kind, kept_at, IsSearched}
-use Rattle.tree_cotree.specs.Ways.{HasRoot, IsRooted}
-use Rattle.tree_cotree.specs.Markings.{AreApart}
-use Rattle.tree_cotree.specs.EdgeFaces.{AreBelowEdges}
+use Rattle.tree_cotree.proofs.Common.{rotation_system, names_all, OrientedMesh, Rotations, rotations_of, NamesAll, ◌≡◌, ◌<◌, ◌/◌, ℕ, Bool, true, List, length, refl, sym, ap, ◌∙◌, subst, rules, arith, length-replicate, with_items_is, Option, replicate, FaceList, count_below, AreBelowEdges, AreApart, same_kind, has_kind, kept_at, IsSearched, HasRoot, IsRooted, Kind, Tree, Left}
 use Rattle.tree_cotree.proofs.KindLemmas.{all_left}
 use Rattle.tree_cotree.proofs.TreeLemmas.{kept_apart}
 use Rattle.tree_cotree.proofs.TurningLemmas.{allow}

@@ -1,5 +1,4 @@
-use Rattle.tree_cotree.proofs.Common.{rotation_system, names_all, OrientedMesh, Rotations, rotations_of, ◌≡◌, ◌<◌, ℕ, List, [], length, ap, sym, ◌∙◌, subst, arith, rules, set, length-set, Option, Some, None}
-use Rattle.tree_cotree.specs.RingViews.{dart_numbers}
+use Rattle.tree_cotree.proofs.Common.{rotation_system, names_all, OrientedMesh, Rotations, rotations_of, ◌≡◌, ◌<◌, ℕ, List, [], length, ap, sym, ◌∙◌, subst, arith, rules, set, length-set, Option, Some, None, dart_numbers}
 use Rattle.tree_cotree.proofs.SearchLemmas.{numbers_push}
 use Rattle.tree_cotree.proofs.TurningLemmas.{IsPartlyTurned, turning_start, turning_more, turning_done, last_in}
 use Rattle.tree_cotree.proofs.turning.turn_round.Goals as goal

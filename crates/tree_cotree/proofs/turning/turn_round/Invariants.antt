@@ -1,5 +1,4 @@
-use Rattle.tree_cotree.proofs.Common.{rotations_of, length}
-use Rattle.tree_cotree.specs.RingViews.{dart_numbers}
+use Rattle.tree_cotree.proofs.Common.{rotations_of, length, dart_numbers}
 use Rattle.tree_cotree.proofs.TurningLemmas.{IsPartlyTurned}
 use Rattle.tree_cotree.proofs.turning.turn_round.Given as goal
 

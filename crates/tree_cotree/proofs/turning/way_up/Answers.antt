@@ -1,7 +1,4 @@
-use Rattle.tree_cotree.proofs.Common.{rotation_system, names_all, OrientedMesh, Rotations, rotations_of, ◌≡◌, ◌<◌, ℕ, List, length, ap, sym, ◌∙◌, subst, arith, length_push, length-map, Some, None, DartName}
-use Rattle.tree_cotree.specs.RingViews.{dart_numbers}
-use Rattle.tree_cotree.specs.Searches.{kept_at}
-use Rattle.tree_cotree.specs.Ways.{IsWay}
+use Rattle.tree_cotree.proofs.Common.{rotation_system, names_all, OrientedMesh, Rotations, rotations_of, ◌≡◌, ◌<◌, ℕ, List, length, ap, sym, ◌∙◌, subst, arith, length_push, length-map, Some, None, DartName, dart_numbers, kept_at, IsWay}
 use Rattle.tree_cotree.proofs.SearchLemmas.{numbers_push, kept_read}
 use Rattle.tree_cotree.proofs.TurningLemmas.{face_within, way_more, few_darts, ends_at_root}
 use Rattle.tree_cotree.proofs.turning.way_up.Goals as goal

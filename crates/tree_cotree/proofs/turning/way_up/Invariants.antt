@@ -1,6 +1,4 @@
-use Rattle.tree_cotree.proofs.Common.{rotations_of, ◌≡◌, ◌-◌, ◌<◌, ℕ, length}
-use Rattle.tree_cotree.specs.RingViews.{dart_numbers}
-use Rattle.tree_cotree.specs.Ways.{IsWay}
+use Rattle.tree_cotree.proofs.Common.{rotations_of, ◌≡◌, ◌-◌, ◌<◌, ℕ, length, dart_numbers, IsWay}
 use Rattle.tree_cotree.proofs.turning.way_up.Given as goal
 
 abbrev pub invariant-loop-dart : goal.invariant-loop-dart

@@ -1,5 +1,4 @@
-use Rattle.trial_commands.proofs.Common.{◌≡◌, true, false, sym, ◌∙◌, MOST_GENUS, LEAST_GRID, MOST_GRID}
-use Rattle.trial_commands.specs.Trial.{is_within}
+use Rattle.trial_commands.proofs.Common.{◌≡◌, true, false, sym, ◌∙◌, MOST_GENUS, LEAST_GRID, MOST_GRID, is_within}
 use Rattle.trial_commands.proofs.Trying.{genus_stops, grid_stops}
 use Rattle.trial_commands.proofs.trial.check_sizes.Goals as goal
 

@@ -1,5 +1,4 @@
-use Rattle.trial_commands.proofs.Common.{Ends, subst, ◌∙◌, FaceList}
-use Rattle.trial_commands.specs.Trial.{pairs_decided}
+use Rattle.trial_commands.proofs.Common.{Ends, subst, ◌∙◌, FaceList, pairs_decided}
 use Rattle.trial_commands.proofs.trial.decide_on.Goals as goal
 
 pub connected-requires-clause-signed : goal.connected-requires-clause-signed

@@ -1,6 +1,5 @@
-use Rattle.trial_commands.proofs.Common.{in_lines, ◌++◌, List, ℕ, ap, ◌∙◌, genus_line}
+use Rattle.trial_commands.proofs.Common.{in_lines, ◌++◌, List, ℕ, ap, ◌∙◌, genus_line, last_lines}
 use Rattle.std.specs.Prelude.{map}
-use Rattle.trial_commands.specs.Trial.{last_lines}
 use Rattle.trial_commands.proofs.trial.lines_of.Goals as goal
 
 pub returns : goal.returns

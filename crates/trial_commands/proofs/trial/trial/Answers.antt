@@ -1,5 +1,4 @@
-use Rattle.trial_commands.proofs.Common.{failed_end, yes_with, refl}
-use Rattle.trial_commands.specs.Trial.{trial_text}
+use Rattle.trial_commands.proofs.Common.{failed_end, yes_with, refl, trial_text}
 use Rattle.trial_commands.proofs.Trying.{surface_stops, few_stop, decisions_stop, trial_answered}
 use Rattle.trial_commands.proofs.trial.trial.Goals as goal
 

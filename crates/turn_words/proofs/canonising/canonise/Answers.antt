@@ -1,5 +1,4 @@
-use Rattle.turn_words.proofs.Common.{arith, rules, ◌≡◌, ◌<◌, All, sym, ◌∙◌}
-use Rattle.turn_words.specs.Canonical.{IsTurnWord}
+use Rattle.turn_words.proofs.Common.{arith, rules, ◌≡◌, ◌<◌, All, sym, ◌∙◌, IsTurnWord}
 use Rattle.turn_words.proofs.Unique.{ReadsTo, left, reads-more, reads-end, left-is-canonical, canonical-is-left, kept}
 use Rattle.turn_words.proofs.canonising.canonise.Goals as goal
 use Rattle.turn_words.proofs.canonising.canonise.Goals.{After-with_room}

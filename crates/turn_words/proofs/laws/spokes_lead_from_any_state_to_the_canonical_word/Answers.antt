@@ -1,5 +1,4 @@
-use Rattle.turn_words.proofs.Common.{length}
-use Rattle.turn_words.specs.Lemmas.FromEnd.{in-range-from}
+use Rattle.turn_words.proofs.Common.{length, in-range-from}
 use Rattle.turn_words.proofs.Spokes.{along, leads}
 use Rattle.turn_words.proofs.laws.spokes_lead_from_any_state_to_the_canonical_word.Goals as goal
 

@@ -1,8 +1,5 @@
-use Rattle.turn_words.proofs.Common.{ℕ, ◌<◌, ◌++◌, length, subst}
+use Rattle.turn_words.proofs.Common.{ℕ, ◌<◌, ◌++◌, length, subst, IsCanonicalOf, HyperState, empty_state, hyper_next, turn_word_of}
 use Rattle.std.proofs.lemmas.List.Elements.{All-append}
-use Rattle.turn_words.specs.Canonical.{IsCanonicalOf}
-use Rattle.turn_words.specs.HyperStates.{HyperState, empty_state, hyper_next}
-use Rattle.turn_words.specs.SpokePaths.{turn_word_of}
 use Rattle.turn_words.proofs.Led.{led-append}
 use Rattle.turn_words.proofs.Spokes.{canonical}
 use Rattle.turn_words.proofs.laws.spokes_lead_on_to_the_canonical_word.Goals as goal

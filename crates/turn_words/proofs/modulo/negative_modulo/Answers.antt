@@ -1,5 +1,4 @@
-use Rattle.turn_words.proofs.Common.{arith}
-use Rattle.turn_words.specs.Lemmas.Sums.{minus-cases}
+use Rattle.turn_words.proofs.Common.{arith, minus-cases}
 use Rattle.turn_words.proofs.modulo.negative_modulo.Goals as goal
 
 pub returns-then-a-eq0-clause-negative : goal.returns-then-a-eq0-clause-negative

@@ -1,5 +1,4 @@
-use Rattle.turn_words.proofs.Common.{arith}
-use Rattle.turn_words.specs.Lemmas.Sums.{add-cases}
+use Rattle.turn_words.proofs.Common.{arith, add-cases}
 use Rattle.turn_words.proofs.modulo.sum_modulo.Goals as goal
 
 pub returns-then-b-room-clause-sum : goal.returns-then-b-room-clause-sum

@@ -1,6 +1,4 @@
-use Rattle.turn_words.proofs.Common.{arith, ◌≡◌, ◌+◌, ◌-◌, ◌∙◌, ap₂}
-use Rattle.turn_words.specs.Recorded.{with_steps}
-use Rattle.turn_words.specs.Private.PutSteps.{pushes}
+use Rattle.turn_words.proofs.Common.{arith, ◌≡◌, ◌+◌, ◌-◌, ◌∙◌, ap₂, pushes, with_steps}
 use Rattle.turn_words.proofs.Telling.{tells-on, tells-still}
 use Rattle.turn_words.proofs.Rewrites.{pushes-next}
 use Rattle.turn_words.proofs.noting.note_pushes.Goals as goal

@@ -1,6 +1,4 @@
-use Rattle.turn_words.proofs.Common.{◌≡◌, ◌-◌}
-use Rattle.turn_words.specs.Recorded.{with_steps, TellsMore}
-use Rattle.turn_words.specs.Private.PutSteps.{pushes}
+use Rattle.turn_words.proofs.Common.{◌≡◌, ◌-◌, pushes, with_steps, TellsMore}
 use Rattle.turn_words.proofs.noting.note_pushes.Given as goal
 
 abbrev pub invariant-loop-k : goal.invariant-loop-k

@@ -1,9 +1,5 @@
-use Rattle.turn_words.proofs.Common.{arith, ◌≡◌, ◌∙◌, length, ap, sym, ◌++◌, reverse, replicate, length-reverse}
-use Rattle.turn_words.specs.Private.PutSteps.{close_steps, rewrite_steps, StoodIn}
-use Rattle.turn_words.specs.Private.StoredWords.{last_changed}
+use Rattle.turn_words.proofs.Common.{arith, ◌≡◌, ◌∙◌, length, ap, sym, ◌++◌, reverse, replicate, length-reverse, minus-one, IsCons, close_steps, rewrite_steps, StoodIn, last_changed}
 use Rattle.turn_words.specs.declared.put.Rewrite.TheVariants.{Close}
-use Rattle.turn_words.specs.Lemmas.Sums.{minus-one}
-use Rattle.turn_words.specs.Lemmas.WordEnds.{IsCons}
 use Rattle.turn_words.proofs.Rewrites.{before-below, open-ends, changed-some, close-written, close-noted}
 use Rattle.turn_words.proofs.put.close.Goals as goal
 use Rattle.turn_words.proofs.put.close.Goals.{After-pop}

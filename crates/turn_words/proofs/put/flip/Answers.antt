@@ -1,6 +1,4 @@
-use Rattle.turn_words.proofs.Common.{◌≡◌, ◌∙◌, ap, sym, subst, ◌++◌, reverse, replicate, length-reverse}
-use Rattle.turn_words.specs.Modulo.{minus}
-use Rattle.turn_words.specs.Private.StoredWords.{EndsOtherwise}
+use Rattle.turn_words.proofs.Common.{◌≡◌, ◌∙◌, ap, sym, subst, ◌++◌, reverse, replicate, length-reverse, minus, EndsOtherwise}
 use Rattle.turn_words.proofs.Rewrites.{behind-below, flip-written, flip-noted}
 use Rattle.turn_words.proofs.put.flip.Goals as goal
 

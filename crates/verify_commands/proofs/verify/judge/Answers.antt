@@ -1,7 +1,5 @@
-use Rattle.verify_commands.proofs.Common.{stops_first, judged_no_fault, only_self, only_then, reads_ended, reads_made, reads_stopped, reads_then, certificate_in, certificate_of, Stops, Certificate, Denial, MOST_BYTES, ◌≡◌, ◌<◌, ◌≤◌, ℕ, List, length, sym, ap, subst, ◌∙◌, err_from_is_err_and, Option, Ok, Err, Files, file_of, head_of_text, denial_left, Streamed, reader_at, IsIn, Belongs, IsAnswer, IsWithin, CertHead, Labels, StreamEnd}
+use Rattle.verify_commands.proofs.Common.{stops_first, judged_no_fault, only_self, only_then, reads_ended, reads_made, reads_stopped, reads_then, certificate_in, certificate_of, Stops, Certificate, Denial, MOST_BYTES, ◌≡◌, ◌<◌, ◌≤◌, ℕ, List, length, sym, ap, subst, ◌∙◌, err_from_is_err_and, Option, Ok, Err, Files, file_of, IsVerdictOnFile, judgement, head_of_text, denial_left, Streamed, reader_at, IsIn, Belongs, IsAnswer, IsWithin, CertHead, Labels, StreamEnd}
 use Rattle.labellings.specs.declared.denial.Denial as denials
-use Rattle.verify_commands.specs.Progress.{IsVerdictOnFile}
-use Rattle.verify_commands.specs.Verify.{judgement}
 use Rattle.verify_commands.proofs.Streaming.{at_told, certificate_passed, certificate_stopped, denial_right, denial_start, denial_wrong, head_answered, told}
 use Rattle.verify_commands.proofs.Verifying.{denial_judged, judged, moves_judged}
 use Rattle.verify_commands.proofs.verify.judge.Goals as goal

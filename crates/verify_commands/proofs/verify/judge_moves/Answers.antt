@@ -1,5 +1,4 @@
-use Rattle.verify_commands.proofs.Common.{only_then, reads_made, reads_stopped, certificate_of, Certificate, Moves, MOST_BYTES, ◌≡◌, ◌+◌, ◌<◌, ◌≤◌, ◌++◌, ℕ, List, [], ◌∷◌, length, refl, sym, ap, subst, ◌∙◌, append_assoc, append-nil, arith, err_from_is_err_and, Option, None, Result, Ok, Err, IfNone, Files, file_of, PeakedMoves, Move, count_in, next_answer, Streamed, reader_at, IsIn, Belongs, IsAnswer, IsWithin, after_move, StreamEnd}
-use Rattle.verify_commands.specs.Progress.{outlook, peak_in}
+use Rattle.verify_commands.proofs.Common.{only_then, reads_made, reads_stopped, certificate_of, Certificate, Moves, MOST_BYTES, ◌≡◌, ◌+◌, ◌<◌, ◌≤◌, ◌++◌, ℕ, List, [], ◌∷◌, length, refl, sym, ap, subst, ◌∙◌, append_assoc, append-nil, arith, err_from_is_err_and, Option, None, Result, Ok, Err, IfNone, Files, file_of, PeakedMoves, Move, outlook, peak_in, count_in, next_answer, Streamed, reader_at, IsIn, Belongs, IsAnswer, IsWithin, after_move, StreamEnd}
 use Rattle.verify_commands.proofs.Streaming.{AreFirst, at_told, certificate_passed, certificate_stopped, first_all, first_more, first_none, first_wrong, head_moves, told}
 use Rattle.verify_commands.proofs.verify.judge_moves.Goals as goal
 

@@ -1,5 +1,4 @@
-use Rattle.verify_commands.proofs.Common.{◌≡◌, ◌-◌, ◌≤◌, ◌++◌, List, IfSome, None, file_of, Move, count_in}
-use Rattle.verify_commands.specs.Progress.{outlook}
+use Rattle.verify_commands.proofs.Common.{◌≡◌, ◌-◌, ◌≤◌, ◌++◌, List, IfSome, None, file_of, Move, outlook, count_in}
 use Rattle.verify_commands.proofs.Streaming.{AreFirst}
 use Rattle.verify_commands.proofs.verify.judge_moves.Given as goal
 

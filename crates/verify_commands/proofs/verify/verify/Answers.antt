@@ -1,6 +1,5 @@
-use Rattle.verify_commands.proofs.Common.{only_then, runs_read, runs_stopped, Passes, pair_in, walk_at, Concludes, Stops, ℕ, List, subst, ◌∙◌, arith, Option, Files, AreWalkPair}
+use Rattle.verify_commands.proofs.Common.{only_then, runs_read, runs_stopped, Passes, pair_in, walk_at, Concludes, Stops, ℕ, List, subst, ◌∙◌, arith, Option, Files, AreWalkPair, judged_file}
 use Rattle.commands.proofs.Deciding.{pair_long, walks_of_pair, at_places}
-use Rattle.verify_commands.specs.Verify.{judged_file}
 use Rattle.verify_commands.proofs.Verifying.{concluded, walks_stop}
 use Rattle.verify_commands.proofs.verify.verify.Goals as goal
 use Rattle.verify_commands.proofs.verify.verify.Goals.{After-at-2}

@@ -1,5 +1,4 @@
-use Rattle.walk_files.proofs.Common.{[], ◌∷◌, sym, ap, ◌∙◌, arith, each_some}
-use Rattle.walk_files.specs.WalkTexts.{token_of}
+use Rattle.walk_files.proofs.Common.{[], ◌∷◌, sym, ap, ◌∙◌, arith, each_some, token_of}
 use Rattle.walk_files.proofs.TokenLemmas.{counted_first, counted_on, rest_of-number, rest_of-open, group_read}
 use Rattle.walk_files.proofs.counting.count_darts.Goals as goal
 

@@ -1,5 +1,4 @@
-use Rattle.walk_files.proofs.Common.{◌≡◌, length}
-use Rattle.walk_files.specs.LineReads.{IsCountedTo}
+use Rattle.walk_files.proofs.Common.{◌≡◌, length, IsCountedTo}
 use Rattle.walk_files.proofs.counting.count_darts.Given as goal
 
 -- the walk up to the vertex has so many darts

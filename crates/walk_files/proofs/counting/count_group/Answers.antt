@@ -1,7 +1,5 @@
-use Rattle.walk_files.proofs.Common.{[], ◌∷◌, ◌++◌, length, sym, ap, ◌∙◌, length-append, arith, le-leb, err_from_is_err_and, each_some}
+use Rattle.walk_files.proofs.Common.{[], ◌∷◌, ◌++◌, length, sym, ap, ◌∙◌, length-append, arith, le-leb, err_from_is_err_and, each_some, capped, token_of, times, read_tokens}
 use Rattle.std.proofs.Common.{Err}
-use Rattle.walk_files.specs.LineReads.{capped}
-use Rattle.walk_files.specs.WalkTexts.{token_of, times, read_tokens}
 use Rattle.walk_files.proofs.TokenLemmas.{closing, rest_of-inside, rest_of-close, closed_with, ends_at-last, length-times, capped-sum, capped-product}
 use Rattle.walk_files.proofs.counting.count_group.Goals as goal
 

@@ -1,7 +1,5 @@
-use Rattle.walk_files.proofs.Common.{◌≡◌, ℕ, ◌≤◌, List, length, Some}
+use Rattle.walk_files.proofs.Common.{◌≡◌, ℕ, ◌≤◌, List, length, Some, capped, rest_of, ends_at}
 use Rattle.std.specs.Prelude.{[]}
-use Rattle.walk_files.specs.LineReads.{capped, rest_of}
-use Rattle.walk_files.specs.WalkTexts.{ends_at}
 use Rattle.walk_files.proofs.counting.count_group.Given as goal
 
 -- the numbers of the group so far are so many, and end at the vertex or not

@@ -1,5 +1,4 @@
-use Rattle.walk_files.proofs.Common.{◌≡◌, ℕ, List, [], ◌∷◌, ◌++◌, inl, inr, refl, sym, ap, ◌∙◌, length, arith, rules, true, false, codes, Result, Ok, Err, MatchResult, OnOk, bytes_eq, number_of}
-use Rattle.walk_files.specs.declared.fault.CertFault.{CertFault}
+use Rattle.walk_files.proofs.Common.{◌≡◌, ℕ, List, [], ◌∷◌, ◌++◌, inl, inr, refl, sym, ap, ◌∙◌, length, arith, rules, true, false, codes, Result, Ok, Err, MatchResult, OnOk, bytes_eq, number_of, CertFault}
 use Rattle.walk_files.proofs.DenialLines.{IsBehind, behind_keyword, few-behind, so_far-face, so_far-places, so_far-no_places, length-each_some}
 use Rattle.walk_files.proofs.denial.read_labelling.Goals as goal
 use Rattle.walk_files.proofs.denial.read_labelling.Goals.{After-unwrap-keyword}

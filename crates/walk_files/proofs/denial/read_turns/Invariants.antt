@@ -1,5 +1,4 @@
-use Rattle.walk_files.proofs.Common.{◌≡◌, ◌+◌, length, before_some, each_some, number_of}
-use Rattle.walk_files.specs.NumberTexts.{entries_of}
+use Rattle.walk_files.proofs.Common.{◌≡◌, ◌+◌, length, before_some, each_some, number_of, entries_of}
 use Rattle.walk_files.proofs.denial.read_turns.Given as goal
 
 -- the entries so far and the words left are those of the line

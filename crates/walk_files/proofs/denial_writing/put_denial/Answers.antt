@@ -1,5 +1,4 @@
-use Rattle.walk_files.proofs.Common.{◌++◌, List, ℕ, err_from_is_err_and, on_ok, puts-then, puts-fails, puts-same, line_of}
-use Rattle.walk_files.specs.DenialTexts.{word_words, labelling_text}
+use Rattle.walk_files.proofs.Common.{◌++◌, List, ℕ, err_from_is_err_and, on_ok, puts-then, puts-fails, puts-same, line_of, word_words, labelling_text}
 use Rattle.walk_files.proofs.DenialParts.{denial_text-parts}
 use Rattle.walk_files.proofs.denial_writing.put_denial.Goals as goal
 

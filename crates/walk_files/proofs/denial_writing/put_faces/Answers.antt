@@ -1,5 +1,4 @@
-use Rattle.walk_files.proofs.Common.{FaceLabels, signs_of, subst, ◌∷◌, ap, ◌∙◌, map, arith, take_all, All-nil, err_from_is_err_and, All, decimal, puts-same, each-none, each-more, each-fails, each-all, is_flipped, line_of}
-use Rattle.walk_files.specs.DenialTexts.{sign_word, face_words, AreNumbers}
+use Rattle.walk_files.proofs.Common.{FaceLabels, signs_of, subst, ◌∷◌, ap, ◌∙◌, map, arith, take_all, All-nil, err_from_is_err_and, All, decimal, puts-same, each-none, each-more, each-fails, each-all, is_flipped, line_of, sign_word, face_words, AreNumbers}
 use Rattle.walk_files.proofs.DenialParts.{face_of_labelling}
 use Rattle.walk_files.proofs.ListLemmas.{all-next}
 use Rattle.walk_files.proofs.denial_writing.put_faces.Goals as goal

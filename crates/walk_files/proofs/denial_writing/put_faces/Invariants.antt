@@ -1,5 +1,4 @@
-use Rattle.walk_files.proofs.Common.{take, All, EachPut, line_of}
-use Rattle.walk_files.specs.DenialTexts.{face_words, AreNumbers}
+use Rattle.walk_files.proofs.Common.{take, All, EachPut, line_of, face_words, AreNumbers}
 use Rattle.walk_files.proofs.denial_writing.put_faces.Given as goal
 
 -- the lines of the faces so far were put

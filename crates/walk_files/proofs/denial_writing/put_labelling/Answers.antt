@@ -1,5 +1,4 @@
-use Rattle.walk_files.proofs.Common.{FaceLabels, ◌++◌, List, ℕ, ap, subst, arith, err_from_is_err_and, flat_map, on_ok, puts-then, puts-fails, puts-same, line_of}
-use Rattle.walk_files.specs.DenialTexts.{face_words, places_words, labels_head_words, AreNumbers}
+use Rattle.walk_files.proofs.Common.{FaceLabels, ◌++◌, List, ℕ, ap, subst, arith, err_from_is_err_and, flat_map, on_ok, puts-then, puts-fails, puts-same, line_of, face_words, places_words, labels_head_words, AreNumbers}
 use Rattle.walk_files.proofs.denial_writing.put_labelling.Goals as goal
 
 pub returns-in_err-put_line-clause-puts : goal.returns-in_err-put_line-clause-puts

@@ -1,5 +1,4 @@
-use Rattle.walk_files.proofs.Common.{◌≡◌, ◌+◌, false, sym, ap, ◌∙◌, arith, not, slice_index, is_some, option_map, is_edge, darts}
-use Rattle.walk_files.specs.declared.entries.EntryFault.TheVariants.{NoEdge}
+use Rattle.walk_files.proofs.Common.{◌≡◌, ◌+◌, false, sym, ap, ◌∙◌, arith, not, slice_index, is_some, option_map, is_edge, darts, NoEdge}
 use Rattle.walk_files.proofs.EntryLemmas.{first_below-some, first_below-none}
 use Rattle.walk_files.proofs.entries.check_edges.Goals as goal
 

@@ -1,5 +1,4 @@
-use Rattle.walk_files.proofs.Common.{◌≡◌, ℕ, ◌+◌, ◌<◌, true, false, length, sym, ap, ◌∙◌, below_more, arith, not, slice_index, option_map, is_used}
-use Rattle.walk_files.specs.declared.entries.EntryFault.TheVariants.{NoVertex}
+use Rattle.walk_files.proofs.Common.{◌≡◌, ℕ, ◌+◌, ◌<◌, true, false, length, sym, ap, ◌∙◌, below_more, arith, not, slice_index, option_map, is_used, NoVertex}
 use Rattle.walk_files.proofs.EntryLemmas.{first_below-some, first_below-none}
 use Rattle.walk_files.proofs.entries.check_vertices.Goals as goal
 

@@ -1,5 +1,4 @@
-use Rattle.walk_files.proofs.Common.{sym, ap, ◌∙◌, err_from_is_err_and, Some, result_err}
-use Rattle.walk_files.specs.Entries.{vertex_fault, edge_fault}
+use Rattle.walk_files.proofs.Common.{sym, ap, ◌∙◌, err_from_is_err_and, Some, result_err, vertex_fault, edge_fault}
 use Rattle.walk_files.proofs.EntryLemmas.{step_passed, step_failed, some_or, none_or}
 use Rattle.walk_files.proofs.entries.check_walks.Goals as goal
 

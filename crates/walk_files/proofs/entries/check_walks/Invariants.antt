@@ -1,5 +1,4 @@
-use Rattle.walk_files.proofs.Common.{◌≡◌, ◌+◌, drop, None, IsTableOf, FaceList}
-use Rattle.walk_files.specs.Entries.{vertex_fault, edge_fault, first_fault}
+use Rattle.walk_files.proofs.Common.{◌≡◌, ◌+◌, drop, None, IsTableOf, FaceList, vertex_fault, edge_fault, first_fault}
 use Rattle.walk_files.proofs.entries.check_walks.Given as goal
 
 -- the first fault is that of the walks that are left

@@ -1,5 +1,4 @@
-use Rattle.walk_files.proofs.Common.{◌≡◌, ◌+◌, ◌≤◌, ◌++◌, length, refl, sym, ap, ◌∙◌, append_assoc, length-append, arith}
-use Rattle.walk_files.specs.WalkTexts.{times}
+use Rattle.walk_files.proofs.Common.{◌≡◌, ◌+◌, ◌≤◌, ◌++◌, length, refl, sym, ap, ◌∙◌, append_assoc, length-append, arith, times}
 use Rattle.walk_files.proofs.TokenLemmas.{times-next, times-le}
 use Rattle.walk_files.proofs.groups.put_times.Goals as goal
 

@@ -1,5 +1,4 @@
-use Rattle.walk_files.proofs.Common.{◌≡◌, ◌++◌}
-use Rattle.walk_files.specs.WalkTexts.{times}
+use Rattle.walk_files.proofs.Common.{◌≡◌, ◌++◌, times}
 use Rattle.walk_files.proofs.groups.put_times.Given as goal
 
 abbrev pub invariant-loop : goal.invariant-loop

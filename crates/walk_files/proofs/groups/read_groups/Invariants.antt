@@ -1,7 +1,5 @@
-use Rattle.walk_files.proofs.Common.{◌≡◌, ◌≤◌, length, sum_by, darts}
+use Rattle.walk_files.proofs.Common.{◌≡◌, ◌≤◌, length, sum_by, darts, walks_behind, MOST_DARTS, MOST_LINES}
 use Rattle.std.specs.Prelude.{[]}
-use Rattle.walk_files.specs.WalkTexts.{walks_behind}
-use Rattle.walk_files.specs.declared.limits.TheConstants.{MOST_DARTS, MOST_LINES}
 use Rattle.walk_files.proofs.groups.read_groups.Given as goal
 
 -- the walks so far and the lines left are those of the text

@@ -1,5 +1,4 @@
-use Rattle.walk_files.proofs.Common.{◌≡◌, ◌≤◌, length, numbers, before_some, each_some, number_of}
-use Rattle.walk_files.specs.declared.limits.TheConstants.{MOST_WALK_VERTICES}
+use Rattle.walk_files.proofs.Common.{◌≡◌, ◌≤◌, length, numbers, before_some, each_some, number_of, MOST_WALK_VERTICES}
 use Rattle.walk_files.proofs.groups.read_vertices.Given as goal
 
 -- the vertices so far and the words left are those of the line

@@ -1,8 +1,6 @@
-use Rattle.walk_files.proofs.Common.{◌≡◌, ◌++◌, length, sym, ap, ◌∙◌, arith, None, Some, each_some}
+use Rattle.walk_files.proofs.Common.{◌≡◌, ◌++◌, length, sym, ap, ◌∙◌, arith, None, Some, each_some, rest_of, token_of, times, read_tokens}
 use Rattle.std.proofs.Common.{Err}
 use Rattle.std.specs.Prelude.{[]}
-use Rattle.walk_files.specs.LineReads.{rest_of}
-use Rattle.walk_files.specs.WalkTexts.{token_of, times, read_tokens}
 use Rattle.walk_files.proofs.TokenLemmas.{closing, rest_of-close, group_closed, room_left}
 use Rattle.walk_files.proofs.groups.write_group.Goals as goal
 

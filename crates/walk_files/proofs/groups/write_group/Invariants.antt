@@ -1,6 +1,5 @@
-use Rattle.walk_files.proofs.Common.{◌≡◌, ℕ, ◌≤◌, length, Some}
+use Rattle.walk_files.proofs.Common.{◌≡◌, ℕ, ◌≤◌, length, Some, rest_of}
 use Rattle.std.specs.Prelude.{[]}
-use Rattle.walk_files.specs.LineReads.{rest_of}
 use Rattle.walk_files.proofs.groups.write_group.Given as goal
 
 -- the numbers so far are those of the group

@@ -1,6 +1,5 @@
-use Rattle.walk_files.proofs.Common.{◌≡◌, [], ◌∷◌, inr, sym, ap, ◌∙◌, arith, err_from_is_err_and, None, Some, Ok}
+use Rattle.walk_files.proofs.Common.{◌≡◌, [], ◌∷◌, inr, sym, ap, ◌∙◌, arith, err_from_is_err_and, None, Some, Ok, rest_of, put_before, walk_on}
 use Rattle.std.proofs.Common.{Err}
-use Rattle.walk_files.specs.LineReads.{rest_of, put_before, walk_on}
 use Rattle.walk_files.proofs.TokenLemmas.{IsLeft, rest_of-number, rest_of-open, room_left, put_before-twice, group_read}
 use Rattle.walk_files.proofs.groups.write_walk.Goals as goal
 use Rattle.walk_files.proofs.groups.write_walk.Goals.{In-Open}

@@ -1,5 +1,4 @@
-use Rattle.walk_files.proofs.Common.{◌≡◌, ℕ, length, None}
-use Rattle.walk_files.specs.LineReads.{walk_on, put_before, rest_of}
+use Rattle.walk_files.proofs.Common.{◌≡◌, ℕ, length, None, walk_on, put_before, rest_of}
 use Rattle.walk_files.proofs.groups.write_walk.Given as goal
 
 -- the walk so far, and the words left behind a vertex, stand for that of the line

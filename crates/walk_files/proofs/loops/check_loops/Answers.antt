@@ -1,6 +1,4 @@
-use Rattle.walk_files.proofs.Common.{sym, ap, ◌∙◌, err_from_is_err_and, Some, result_err}
-use Rattle.walk_files.specs.declared.loops.LoopFault.TheVariants.{NotTwo}
-use Rattle.walk_files.specs.ClosedPairs.{of_entry, open_fault}
+use Rattle.walk_files.proofs.Common.{sym, ap, ◌∙◌, err_from_is_err_and, Some, result_err, of_entry, open_fault, NotTwo}
 use Rattle.walk_files.proofs.ClosedPairLemmas.{says_loops}
 use Rattle.walk_files.proofs.TwoWalkLemmas.{two_are, two_fault-entry, two_fault-both}
 use Rattle.walk_files.proofs.loops.check_loops.Goals as goal

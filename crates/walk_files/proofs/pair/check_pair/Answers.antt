@@ -1,6 +1,6 @@
-use Rattle.walk_files.proofs.Common.{sym, ap, ◌∙◌, err_from_is_err_and, Some, result_err}
+use Rattle.walk_files.proofs.Common.{sym, ap, ◌∙◌, err_from_is_err_and, Some, result_err, ends_fault}
+use Rattle.walk_files.specs.Pairs.{of_entry}
 use Rattle.walk_files.specs.declared.pair.PairFault.TheVariants.{NotTwo}
-use Rattle.walk_files.specs.Pairs.{of_entry, ends_fault}
 use Rattle.walk_files.proofs.PairLemmas.{says_pair}
 use Rattle.walk_files.proofs.TwoWalkLemmas.{two_are, two_fault-entry, two_fault-both}
 use Rattle.walk_files.proofs.pair.check_pair.Goals as goal

@@ -1,5 +1,4 @@
-use Rattle.walk_files.proofs.Common.{◌≡◌, ℕ, Bool, true, length, sym, ap, ◌∙◌, arith, err_from_is_err_and, Some, None, Ok, result_err}
-use Rattle.walk_files.specs.PairLists.{are_paired}
+use Rattle.walk_files.proofs.Common.{◌≡◌, ℕ, Bool, true, length, sym, ap, ◌∙◌, arith, err_from_is_err_and, Some, None, Ok, result_err, are_paired}
 use Rattle.walk_files.proofs.PairListLemmas.{pair_passed, pair_failed, pairs_left, entry_fails, ends_fail, says_pairs}
 use Rattle.walk_files.proofs.pairs.check_pairs.Goals as goal
 

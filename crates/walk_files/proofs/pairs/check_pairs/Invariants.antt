@@ -1,6 +1,4 @@
-use Rattle.walk_files.proofs.Common.{◌≡◌, ◌+◌, ◌*◌, drop, None, IsTableOf, FaceList}
-use Rattle.walk_files.specs.Entries.{walks_fault}
-use Rattle.walk_files.specs.PairLists.{in_pairs, pairs_ends_fault}
+use Rattle.walk_files.proofs.Common.{◌≡◌, ◌+◌, ◌*◌, drop, None, IsTableOf, FaceList, walks_fault, in_pairs, pairs_ends_fault}
 use Rattle.walk_files.proofs.pairs.check_pairs.Given as goal
 
 -- the first fault is that of the pairs that are left

@@ -1,6 +1,4 @@
-use Rattle.walk_files.proofs.Common.{◌<◌, ◌^◌, ℕ, List, length, sym, ap, ◌∙◌, subst, err_from_is_err_and, Ok, Err, file_of, full_lines, end_line, lines_left}
-use Rattle.walk_files.specs.Denials.{AreFew, denial_in, unlabelled}
-use Rattle.walk_files.specs.StreamEnds.{end_of_text}
+use Rattle.walk_files.proofs.Common.{◌<◌, ◌^◌, ℕ, List, length, sym, ap, ◌∙◌, subst, err_from_is_err_and, Ok, Err, file_of, full_lines, end_line, lines_left, AreFew, denial_in, unlabelled, end_of_text}
 use Rattle.walk_files.proofs.FewLemmas.{full_lines-few}
 use Rattle.walk_files.proofs.StreamDenials.{denial_answered, answers_denial, answers_wrong, end_of_text-no_want}
 use Rattle.walk_files.proofs.stream_denial.read_stream_denial.Goals as goal

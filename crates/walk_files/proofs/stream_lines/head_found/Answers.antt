@@ -1,5 +1,4 @@
-use Rattle.walk_files.proofs.Common.{List, ℕ, ap, ◌∙◌, words_here}
-use Rattle.walk_files.specs.Certificates.{head_in}
+use Rattle.walk_files.proofs.Common.{List, ℕ, ap, ◌∙◌, words_here, head_in}
 use Rattle.walk_files.proofs.StreamLemmas.{head_in-same}
 use Rattle.walk_files.proofs.stream_lines.head_found.Goals as goal
 

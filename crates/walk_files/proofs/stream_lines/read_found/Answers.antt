@@ -1,5 +1,4 @@
-use Rattle.walk_files.proofs.Common.{List, ℕ, ap, ◌∙◌, words_here}
-use Rattle.walk_files.specs.Readers.{next_on}
+use Rattle.walk_files.proofs.Common.{List, ℕ, ap, ◌∙◌, words_here, next_on}
 use Rattle.walk_files.proofs.StreamLemmas.{next_on-same}
 use Rattle.walk_files.proofs.stream_lines.read_found.Goals as goal
 

@@ -1,5 +1,4 @@
-use Rattle.walk_files.proofs.Common.{sym, ap, ◌∙◌, is_filled}
-use Rattle.walk_files.specs.WalkTexts.{has_header}
+use Rattle.walk_files.proofs.Common.{sym, ap, ◌∙◌, is_filled, has_header}
 use Rattle.walk_files.proofs.HeaderLemmas.{no_header, first_line}
 use Rattle.walk_files.proofs.walks.has_header.Goals as goal
 

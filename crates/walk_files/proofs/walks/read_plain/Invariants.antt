@@ -1,6 +1,4 @@
-use Rattle.walk_files.proofs.Common.{◌≡◌, ◌≤◌, length, enumerate_from, before_ok, each_ok, lines_left}
-use Rattle.walk_files.specs.NumberTexts.{plain_walks_of, walk_of, line_of_numbers}
-use Rattle.walk_files.specs.declared.limits.TheConstants.{MOST_WALK_VERTICES, MOST_LINES}
+use Rattle.walk_files.proofs.Common.{◌≡◌, ◌≤◌, length, enumerate_from, before_ok, each_ok, lines_left, plain_walks_of, walk_of, line_of_numbers, MOST_WALK_VERTICES, MOST_LINES}
 use Rattle.walk_files.proofs.walks.read_plain.Given as goal
 
 -- the walks so far and the lines left are those of the text

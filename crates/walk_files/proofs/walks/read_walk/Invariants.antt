@@ -1,5 +1,4 @@
-use Rattle.walk_files.proofs.Common.{◌≡◌, ◌+◌, length, before_some, each_some, number_of}
-use Rattle.walk_files.specs.declared.limits.TheConstants.{MOST_WALK_VERTICES}
+use Rattle.walk_files.proofs.Common.{◌≡◌, ◌+◌, length, before_some, each_some, number_of, MOST_WALK_VERTICES}
 use Rattle.walk_files.proofs.walks.read_walk.Given as goal
 
 -- the walk so far and the words left are those of the line

@@ -1,5 +1,4 @@
-use Rattle.walk_files.proofs.Common.{arith, refl, IfSome_then, Insert, Remove}
-use Rattle.walk_files.specs.Certificates.{spur_of, across_of}
+use Rattle.walk_files.proofs.Common.{arith, refl, IfSome_then, Insert, Remove, spur_of, across_of}
 use Rattle.walk_files.proofs.WholeLineLemmas.{move_first}
 use Rattle.walk_files.proofs.whole_lines.move_at.Goals as goal
 

@@ -1,6 +1,5 @@
-use Rattle.walk_files.proofs.Common.{rules, ◌≡◌, ◌++◌, [], ◌∷◌, ◌∙◌, before_ok-more, ok_first}
+use Rattle.walk_files.proofs.Common.{rules, ◌≡◌, ◌++◌, [], ◌∷◌, ◌∙◌, before_ok-more, ok_first, NumberLine}
 use Rattle.std.proofs.Common.{Ok}
-use Rattle.walk_files.specs.NumberLists.{NumberLine}
 use Rattle.walk_files.proofs.words.read_words.Goals as goal
 
 pub loop-lists-preserved : goal.loop-lists-preserved

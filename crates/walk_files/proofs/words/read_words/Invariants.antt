@@ -1,5 +1,4 @@
-use Rattle.walk_files.proofs.Common.{◌≡◌, [], before_ok}
-use Rattle.walk_files.specs.NumberTexts.{words_of}
+use Rattle.walk_files.proofs.Common.{◌≡◌, [], before_ok, words_of}
 use Rattle.walk_files.proofs.words.read_words.Given as goal
 
 -- the lists so far and the words left are those of the text

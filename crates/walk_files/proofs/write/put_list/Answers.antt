@@ -1,5 +1,4 @@
-use Rattle.walk_files.proofs.Common.{◌≡◌, ◌++◌, List, ℕ, ap, sym, ◌∙◌, subst, arith, take_all, All-nil, flat_map-map, err_from_is_err_and, All, only-none, gathers-none, gathers-put, puts-then, puts-same, each-none, each-more, each-stops, each-all, line_of}
-use Rattle.walk_files.specs.MoveTexts.{head_words, move_words, MoveFits}
+use Rattle.walk_files.proofs.Common.{◌≡◌, ◌++◌, List, ℕ, ap, sym, ◌∙◌, subst, arith, take_all, All-nil, flat_map-map, err_from_is_err_and, All, only-none, gathers-none, gathers-put, puts-then, puts-same, each-none, each-more, each-stops, each-all, line_of, head_words, move_words, MoveFits}
 use Rattle.walk_files.proofs.ListLemmas.{all-next}
 use Rattle.walk_files.proofs.MoveLines.{move_line}
 use Rattle.walk_files.proofs.write.put_list.Goals as goal

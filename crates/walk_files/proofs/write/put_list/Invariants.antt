@@ -1,5 +1,4 @@
-use Rattle.walk_files.proofs.Common.{take, All, EachPut}
-use Rattle.walk_files.specs.MoveTexts.{MoveFits}
+use Rattle.walk_files.proofs.Common.{take, All, EachPut, MoveFits}
 use Rattle.walk_files.proofs.MoveLines.{move_line}
 use Rattle.walk_files.proofs.write.put_list.Given as goal
 

@@ -1,4 +1,4 @@
-use Rattle.walk_translate.specs.DartSpokes.{AreSpokesBelow}
+use Rattle.walk_translate.proofs.Common.{AreSpokesBelow}
 use Rattle.walk_translate.proofs.dart_spokes.spokes_of_darts.Given as goal
 
 -- the spokes along the edges so far

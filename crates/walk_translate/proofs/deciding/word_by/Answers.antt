@@ -1,4 +1,4 @@
-use Rattle.walk_translate.specs.SurfaceLabels.{IsLabelledByCut}
+use Rattle.walk_translate.proofs.Common.{IsLabelledByCut}
 use Rattle.walk_translate.proofs.LabelLemmas.{cut_is_good}
 use Rattle.walk_translate.proofs.deciding.word_by.Goals as goal
 

@@ -1,5 +1,4 @@
-use Rattle.certify_commands.proofs.Common.{whole_sphere, IsComponentOf, surface_of, Component, Whole, Alone, IsShown, ◌≡◌, ℕ, true, get_or, ap, sym, subst, ◌∙◌, IfOk, FaceList, is_used, IsWalk}
-use Rattle.certify_commands.specs.Findings.{IsFinding, TellsOfSome}
+use Rattle.certify_commands.proofs.Common.{IsFinding, TellsOfSome, whole_sphere, IsComponentOf, surface_of, Component, Whole, Alone, IsShown, ◌≡◌, ℕ, true, get_or, ap, sym, subst, ◌∙◌, IfOk, FaceList, is_used, IsWalk}
 use Rattle.certify_commands.proofs.finding.Finding.for_mesh.Goals as goal
 
 pub returns-in-Whole : goal.returns-in-Whole

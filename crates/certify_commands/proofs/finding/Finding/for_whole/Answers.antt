@@ -1,6 +1,4 @@
-use Rattle.certify_commands.proofs.Common.{part_sphere, MOST_SHOWN_PEAK, MOST_SPHERE_MOVES, ◌≤◌, ℕ, List, length, get_or, sym, subst, arith, length-map, component_at, LiesOnSphere, PeakedMoves, LeadsAtPeak, renamed_move, renamed_moves}
-use Rattle.certify_commands.specs.Findings.{IsFinding, TellsOfSome}
-use Rattle.certify_commands.specs.declared.finding.Finding.TheVariants.{Moves, Words}
+use Rattle.certify_commands.proofs.Common.{IsFinding, TellsOfSome, Moves, Words, part_sphere, MOST_SHOWN_PEAK, MOST_SPHERE_MOVES, ◌≤◌, ℕ, List, length, get_or, sym, subst, arith, length-map, component_at, LiesOnSphere, PeakedMoves, LeadsAtPeak, renamed_move, renamed_moves}
 use Rattle.certify_commands.proofs.FoundLemmas.{good_there, names_of_moves, renamed_leads, signs_there, widened_holds}
 use Rattle.certify_commands.proofs.finding.Finding.for_whole.Goals as goal
 

@@ -1,5 +1,4 @@
-use Rattle.commands.proofs.Common.{sym, ◌∙◌, ap, option_map}
-use Rattle.commands.specs.Limits.{over_line}
+use Rattle.commands.proofs.Common.{over_line, sym, ◌∙◌, ap, option_map}
 use Rattle.commands.proofs.limits.Limits.check.Goals as goal
 
 pub returns-in-None : goal.returns-in-None

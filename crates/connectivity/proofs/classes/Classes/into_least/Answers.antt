@@ -1,5 +1,4 @@
-use Rattle.connectivity.proofs.Common.{◌≡◌, List, ℕ, length, sym, ap, ◌∙◌, subst, arith, with_items_is, with_items}
-use Rattle.connectivity.specs.Classes.{AreLeastMembers, roots_of}
+use Rattle.connectivity.proofs.Common.{AreLeastMembers, roots_of, ◌≡◌, List, ℕ, length, sym, ap, ◌∙◌, subst, arith, with_items_is, with_items}
 use Rattle.connectivity.proofs.Forests.{length-roots_of, roots_are_least}
 use Rattle.connectivity.proofs.classes.Classes.into_least.Goals as goal
 

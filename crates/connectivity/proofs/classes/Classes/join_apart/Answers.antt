@@ -1,5 +1,4 @@
-use Rattle.connectivity.proofs.Common.{◌≡◌, ◌<◌, List, ℕ, length, get_or, ap, sym, ◌∙◌, arith}
-use Rattle.connectivity.specs.Classes.{root_of, roots_of}
+use Rattle.connectivity.proofs.Common.{root_of, roots_of, ◌≡◌, ◌<◌, List, ℕ, length, get_or, ap, sym, ◌∙◌, arith}
 use Rattle.connectivity.proofs.Forests.{length-roots_of, get_or-roots_of}
 use Rattle.connectivity.proofs.classes.Classes.join_apart.Goals as goal
 

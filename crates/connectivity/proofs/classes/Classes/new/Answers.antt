@@ -1,5 +1,4 @@
-use Rattle.connectivity.proofs.Common.{◌≡◌, ◌++◌, ◌∷◌, [], List, ℕ, ap, subst, sym, ◌∙◌, arith, rules, range_with_len}
-use Rattle.connectivity.specs.Classes.{IsForest, roots_of}
+use Rattle.connectivity.proofs.Common.{IsForest, roots_of, ◌≡◌, ◌++◌, ◌∷◌, [], List, ℕ, ap, subst, sym, ◌∙◌, arith, rules, range_with_len}
 use Rattle.connectivity.proofs.Forests.{range_more, range_forest, roots_of-range}
 use Rattle.connectivity.proofs.classes.Classes.new.Goals as goal
 

@@ -1,5 +1,4 @@
-use Rattle.free_forms.proofs.Common.{◌≡◌, ℕ, ◌<◌, List, length, get_or, ap, sym, ◌∙◌, subst, inl, inr, arith, cases_eq, get_or_default, get_or_from_slice_get, edge_in, Side}
-use Rattle.free_forms.specs.Parents.{OpenView, Joins, IsParentEdge, parent_of}
+use Rattle.free_forms.proofs.Common.{OpenView, Joins, IsParentEdge, parent_of, ◌≡◌, ℕ, ◌<◌, List, length, get_or, ap, sym, ◌∙◌, subst, inl, inr, arith, cases_eq, get_or_default, get_or_from_slice_get, edge_in, Side}
 use Rattle.free_forms.proofs.ParentEdgeLemmas.{IsSideBetween, side_of_found, no_edge_no_parent, no_side_no_parent, is_parent}
 use Rattle.free_forms.proofs.open_mesh.OpenMesh.parent_between.Goals as goal
 use Rattle.free_forms.proofs.open_mesh.OpenMesh.parent_between.Goals.{After-side-side}

@@ -1,5 +1,4 @@
-use Rattle.surf_io.proofs.Common.{err_from_is_err_and, flat_map}
-use Rattle.surf_io.specs.Gathered.{spaced}
+use Rattle.surf_io.proofs.Common.{err_from_is_err_and, flat_map, spaced}
 use Rattle.surf_io.proofs.Gathering.{gathers-put, puts-then, puts-fails, puts-same, line_of-numbers}
 use Rattle.surf_io.proofs.piece.Piece.put_line.Goals as goal
 

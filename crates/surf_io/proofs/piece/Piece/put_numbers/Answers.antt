@@ -1,5 +1,4 @@
-use Rattle.surf_io.proofs.Common.{arith, slice_get-get_or, err_from_is_err_and}
-use Rattle.surf_io.specs.Gathered.{spaced}
+use Rattle.surf_io.proofs.Common.{arith, slice_get-get_or, err_from_is_err_and, spaced}
 use Rattle.surf_io.proofs.Gathering.{each-none, each-more, each-fails, each-all}
 use Rattle.surf_io.proofs.piece.Piece.put_numbers.Goals as goal
 

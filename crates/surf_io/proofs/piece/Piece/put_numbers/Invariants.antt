@@ -1,4 +1,4 @@
-use Rattle.surf_io.specs.Gathered.{spaced}
+use Rattle.surf_io.proofs.Common.{spaced}
 use Rattle.surf_io.proofs.Gathering.{EachPut}
 use Rattle.surf_io.proofs.piece.Piece.put_numbers.Given as goal
 

@@ -1,6 +1,4 @@
-use Rattle.surf_io.proofs.Common.{◌≡◌, ap, sym, ◌∙◌, map, ◌-◌, length, min, Some, string_bytes, slice_cmp, nat_list_cmp_total, get, find, get-from_entries, nat_cmp, deque_iter_rest}
-use Rattle.surf_io.specs.Files.{GivesFrom}
-use Rattle.surf_io.specs.Stored.{entry_of}
+use Rattle.surf_io.proofs.Common.{◌≡◌, ap, sym, ◌∙◌, map, ◌-◌, length, min, Some, string_bytes, slice_cmp, nat_list_cmp_total, get, find, get-from_entries, nat_cmp, deque_iter_rest, GivesFrom, entry_of}
 use Rattle.surf_io.proofs.Stored.{find-here, find-past, IsSomeAnd-found}
 use Rattle.surf_io.proofs.stored_files.StoredFiles.read.Goals as goal
 use Rattle.surf_io.proofs.stored_files.StoredFiles.read.Goals.{After-deref}

@@ -1,6 +1,5 @@
-use Rattle.surf_io.proofs.Common.{◌≡◌, map, slice_cmp, nat_cmp, deque_iter_rest}
+use Rattle.surf_io.proofs.Common.{◌≡◌, map, slice_cmp, nat_cmp, deque_iter_rest, entry_of}
 use Rattle.std.specs.FinMap as finite
-use Rattle.surf_io.specs.Stored.{entry_of}
 use Rattle.surf_io.proofs.stored_files.StoredFiles.read.Given as goal
 
 abbrev pub invariant-loop-file : goal.invariant-loop-file

@@ -1,5 +1,4 @@
-use Rattle.surf_model.proofs.Common.{◌≡◌, ◌+◌, ◌∷◌, List, ℕ, get_or, sym, ap, ◌∙◌, arith}
-use Rattle.surf_model.specs.declared.names.DartName.{DartName}
+use Rattle.surf_model.proofs.Common.{◌≡◌, ◌+◌, ◌∷◌, List, ℕ, get_or, sym, ap, ◌∙◌, arith, DartName}
 use Rattle.surf_model.proofs.EdgeListLemmas.{lies_as_edge}
 use Rattle.surf_model.proofs.edge_list.EdgeList.dart.Goals as goal
 

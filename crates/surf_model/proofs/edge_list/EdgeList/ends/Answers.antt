@@ -1,5 +1,4 @@
-use Rattle.surf_model.proofs.Common.{sym, ap, ◌∙◌, arith}
-use Rattle.surf_model.specs.declared.edge_list.EdgeEnds.{EdgeEnds}
+use Rattle.surf_model.proofs.Common.{sym, ap, ◌∙◌, arith, EdgeEnds}
 use Rattle.surf_model.proofs.EdgeListLemmas.{lies_as_edge}
 use Rattle.surf_model.proofs.edge_list.EdgeList.ends.Goals as goal
 

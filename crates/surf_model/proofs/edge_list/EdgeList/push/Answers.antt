@@ -1,11 +1,7 @@
-use Rattle.surf_model.proofs.Common.{◌≡◌, ◌+◌, ◌≤◌, ◌∷◌, [], ◌++◌, List, length, map, ap, ◌∙◌, arith, rules, length-append, length-map}
-use Rattle.surf_model.specs.EdgeLists.{DartEdge, dart_of}
-use Rattle.surf_model.specs.declared.edge_list.SideEntry.{SideEntry}
-use Rattle.surf_model.specs.declared.names.DartName.{DartName}
+use Rattle.surf_model.proofs.Common.{◌≡◌, ◌+◌, ◌≤◌, ◌∷◌, [], ◌++◌, List, length, map, ap, ◌∙◌, arith, rules, length-append, length-map, DartEdge, dart_of, SideEntry, MOST_SIDES, DartName}
 use Rattle.surf_model.proofs.EdgeListLemmas.{edge_list-push, stored-push, dart_count-edges}
 use Rattle.surf_model.proofs.edge_list.EdgeList.push.Goals as goal
 use Rattle.surf_model.proofs.edge_list.EdgeList.push.Goals.{After-len}
-use Rattle.surf_model.specs.declared.limits.TheConstants.{MOST_SIDES}
 
 -- the sides of the new edge end behind those that there were
 end : (c : After-len) → c.len.result ≡ length c.self.inside.darts.items + length c.args.sides.now

@@ -1,5 +1,4 @@
-use Rattle.surf_model.proofs.Common.{◌≡◌, ◌+◌, ◌∷◌, List, ℕ, length, get_or, ap, ◌∙◌, arith, get_or_read}
-use Rattle.surf_model.specs.EdgeLists.{dart_edge_in}
+use Rattle.surf_model.proofs.Common.{◌≡◌, ◌+◌, ◌∷◌, List, ℕ, length, get_or, ap, ◌∙◌, arith, get_or_read, dart_edge_in}
 use Rattle.surf_model.proofs.EdgeListLemmas.{lies_as_edge}
 use Rattle.surf_model.proofs.edge_list.EdgeList.sides.Goals as goal
 use Rattle.surf_model.proofs.edge_list.EdgeList.sides.Goals.{After-start_of}

@@ -1,7 +1,5 @@
-use Rattle.surf_model.proofs.Common.{◌+◌, ◌<◌, length, get_or, sym, ap, ◌∙◌, arith, get_or-map}
+use Rattle.surf_model.proofs.Common.{◌+◌, ◌<◌, length, get_or, sym, ap, ◌∙◌, arith, get_or-map, numbers, VertexName}
 use Rattle.surf_model.proofs.StoredLemmas.{lies_at}
-use Rattle.surf_model.specs.Vertices.{numbers}
-use Rattle.surf_model.specs.declared.names.VertexName.{VertexName}
 use Rattle.surf_model.proofs.faces.Faces.corner.Goals as goal
 
 -- The corner's place is within the face, and so within all corners.

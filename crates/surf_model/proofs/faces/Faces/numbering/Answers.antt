@@ -1,6 +1,4 @@
-use Rattle.surf_model.proofs.Common.{sym, subst, Ok, Err, Result, IfOk}
-use Rattle.surf_model.specs.FaceLists.{IsFaceList}
-use Rattle.surf_model.specs.StoredEdges.{IsNumbering}
+use Rattle.surf_model.proofs.Common.{sym, subst, Ok, Err, Result, IfOk, IsFaceList, IsNumbering}
 use Rattle.surf_model.proofs.StoredLemmas.{numbering}
 use Rattle.surf_model.proofs.faces.Faces.numbering.Goals as goal
 

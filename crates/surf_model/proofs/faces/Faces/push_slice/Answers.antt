@@ -1,11 +1,7 @@
-use Rattle.surf_model.proofs.Common.{◌≡◌, ◌+◌, ◌≤◌, ◌∷◌, [], ◌++◌, length, sym, ap, ◌∙◌, subst, arith, rules}
-use Rattle.surf_model.specs.FaceLists.{FaceList, total_sides, IsFace}
-use Rattle.surf_model.specs.Parts.{last_end}
-use Rattle.surf_model.specs.Vertices.{numbers}
+use Rattle.surf_model.proofs.Common.{◌≡◌, ◌+◌, ◌≤◌, ◌∷◌, [], ◌++◌, length, sym, ap, ◌∙◌, subst, arith, rules, FaceList, total_sides, IsFace, last_end, numbers, MOST_SIDES}
 use Rattle.surf_model.proofs.PartsLemmas.{EndsRise-last}
 use Rattle.surf_model.proofs.StoredLemmas.{IsStored-push, stored_mesh-push, total_sides-seen}
 use Rattle.surf_model.proofs.faces.Faces.push_slice.Goals as goal
-use Rattle.surf_model.specs.declared.limits.TheConstants.{MOST_SIDES}
 
 pub push-requires-clause-room : goal.push-requires-clause-room
 push-requires-clause-room c =

@@ -1,6 +1,4 @@
-use Rattle.surf_model.proofs.Common.{◌-◌, List, get_or, take, drop, sym, ap, ◌∙◌, arith}
-use Rattle.surf_model.specs.Vertices.{numbers}
-use Rattle.surf_model.specs.declared.names.VertexName.{VertexName}
+use Rattle.surf_model.proofs.Common.{◌-◌, List, get_or, take, drop, sym, ap, ◌∙◌, arith, numbers, VertexName}
 use Rattle.surf_model.proofs.StoredLemmas.{lies_at, numbers-part}
 use Rattle.surf_model.proofs.faces.Faces.ring.Goals as goal
 

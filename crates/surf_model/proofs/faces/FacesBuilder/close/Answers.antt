@@ -1,5 +1,4 @@
-use Rattle.surf_model.proofs.Common.{◌+◌, ◌-◌, ◌≡◌, length, arith}
-use Rattle.surf_model.specs.Parts.{last_end}
+use Rattle.surf_model.proofs.Common.{◌+◌, ◌-◌, ◌≡◌, length, arith, last_end}
 use Rattle.surf_model.proofs.StoredLemmas.{total_sides-pending, length-pending, close_face}
 use Rattle.surf_model.proofs.faces.FacesBuilder.close.Goals as goal
 

@@ -1,5 +1,4 @@
-use Rattle.surf_model.proofs.Common.{◌≡◌, ◌<◌, List, ℕ, length, get_or, subst, sym, arith, get_or_read}
-use Rattle.surf_model.specs.Parts.{last_end}
+use Rattle.surf_model.proofs.Common.{◌≡◌, ◌<◌, List, ℕ, length, get_or, subst, sym, arith, get_or_read, last_end}
 use Rattle.surf_model.proofs.PartsLemmas.{IsPartWithin, part_within}
 use Rattle.surf_model.proofs.listed_parts.ListedParts.end.Goals as goal
 

@@ -1,5 +1,4 @@
-use Rattle.surf_model.proofs.Common.{◌≡◌, ◌+◌, ◌∷◌, [], ◌++◌, List, ℕ, length, sym, ap, ◌∙◌, arith, rules}
-use Rattle.surf_model.specs.Parts.{last_end}
+use Rattle.surf_model.proofs.Common.{◌≡◌, ◌+◌, ◌∷◌, [], ◌++◌, List, ℕ, length, sym, ap, ◌∙◌, arith, rules, last_end}
 use Rattle.surf_model.proofs.PartsLemmas.{part_list-push}
 use Rattle.surf_model.proofs.listed_parts.ListedParts.push.Goals as goal
 

@@ -1,5 +1,4 @@
-use Rattle.surf_model.proofs.Common.{◌≡◌, ◌+◌, ◌-◌, ◌*◌, ◌≤◌, ◌∷◌, ℕ, get_or, sym, ap, ◌∙◌, arith}
-use Rattle.surf_model.specs.Parts.{joined_ends}
+use Rattle.surf_model.proofs.Common.{◌≡◌, ◌+◌, ◌-◌, ◌*◌, ◌≤◌, ◌∷◌, ℕ, get_or, sym, ap, ◌∙◌, arith, joined_ends}
 use Rattle.surf_model.proofs.JoinedPartsLemmas.{times_rises, start-first, end-first, start-listed, end-listed, last_end-joined, listed_below}
 use Rattle.surf_model.proofs.parts.Parts.end.Goals as goal
 

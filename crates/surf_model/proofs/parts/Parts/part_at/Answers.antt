@@ -1,6 +1,5 @@
-use Rattle.surf_model.proofs.Common.{◌+◌, ◌*◌, ◌/◌, ◌<◌, ℕ, zero, suc, sym, subst, arith}
+use Rattle.surf_model.proofs.Common.{◌+◌, ◌*◌, ◌/◌, ◌<◌, ℕ, zero, suc, sym, subst, arith, IsInPart, last_end}
 use Rattle.std.proofs.Math.Nat.{mul-div-le, lt-mul-div-succ}
-use Rattle.surf_model.specs.Parts.{IsInPart, last_end}
 use Rattle.surf_model.proofs.JoinedPartsLemmas.{last_end-joined, in_first, in_listed}
 use Rattle.surf_model.proofs.parts.Parts.part_at.Goals as goal
 

@@ -1,10 +1,8 @@
-use Rattle.surf_model.proofs.Common.{◌≡◌, ◌⊎◌, inl, inr, ◌+◌, ◌≤◌, [], ◌∷◌, ◌++◌, ℕ, sym, ap, ◌∙◌, subst, arith, length-append, eqb-true}
-use Rattle.surf_model.specs.Parts.{last_end, joined_ends}
+use Rattle.surf_model.proofs.Common.{◌≡◌, ◌⊎◌, inl, inr, ◌+◌, ◌≤◌, [], ◌∷◌, ◌++◌, ℕ, sym, ap, ◌∙◌, subst, arith, length-append, eqb-true, last_end, joined_ends, MOST_SIDES}
 use Rattle.surf_model.proofs.PartsLemmas.{last_end-push}
 use Rattle.surf_model.proofs.JoinedPartsLemmas.{last_end-joined, joined-push, equal-push}
 use Rattle.surf_model.proofs.parts.Parts.push.Goals as goal
 use Rattle.surf_model.proofs.parts.Parts.push.Goals.{then-self-eq0, else-self-eq0}
-use Rattle.surf_model.specs.declared.limits.TheConstants.{MOST_SIDES}
 
 pub push-requires-clause-room : goal.push-requires-clause-room
 push-requires-clause-room c =

@@ -1,5 +1,4 @@
-use Rattle.surf_model.proofs.Common.{◌+◌, ◌*◌, ap, sym, ◌∙◌}
-use Rattle.surf_model.specs.Parts.{last_end}
+use Rattle.surf_model.proofs.Common.{◌+◌, ◌*◌, ap, sym, ◌∙◌, last_end}
 use Rattle.surf_model.proofs.JoinedPartsLemmas.{last_end-joined}
 use Rattle.surf_model.proofs.parts.Parts.total.Goals as goal
 

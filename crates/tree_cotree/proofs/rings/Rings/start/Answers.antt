@@ -1,5 +1,4 @@
-use Rattle.tree_cotree.proofs.Common.{darts_of, next_of, twin_of, ◌≡◌, ◌+◌, ◌<◌, ℕ, length, get_or, ap, ◌∙◌, subst, arith, rules, length_push}
-use Rattle.tree_cotree.specs.RingViews.{dart_numbers}
+use Rattle.tree_cotree.proofs.Common.{darts_of, next_of, twin_of, ◌≡◌, ◌+◌, ◌<◌, ℕ, length, get_or, ap, ◌∙◌, subst, arith, rules, length_push, dart_numbers}
 use Rattle.tree_cotree.proofs.RingLemmas.{turns_more, empty_rings}
 use Rattle.tree_cotree.proofs.rings.Rings.start.Goals as goal
 

@@ -1,5 +1,4 @@
-use Rattle.tree_cotree.proofs.Common.{next_of, twin_of, ◌≡◌, ◌<◌, ℕ, length, get_or}
-use Rattle.tree_cotree.specs.RingViews.{dart_numbers}
+use Rattle.tree_cotree.proofs.Common.{next_of, twin_of, ◌≡◌, ◌<◌, ℕ, length, get_or, dart_numbers}
 use Rattle.tree_cotree.proofs.rings.Rings.start.Given as goal
 
 abbrev pub invariant-loop-dart : goal.invariant-loop-dart

@@ -1,5 +1,4 @@
-use Rattle.tree_cotree.proofs.Common.{OrientedMesh, ◌≡◌, Bool, false, not, List, get_or, ap, sym, subst, arith, set, get_or_read}
-use Rattle.tree_cotree.specs.RingViews.{RingView, AreRingsOf, ChangesByOne}
+use Rattle.tree_cotree.proofs.Common.{OrientedMesh, ◌≡◌, Bool, false, not, List, get_or, ap, sym, subst, arith, set, get_or_read, RingView, AreRingsOf, ChangesByOne}
 use Rattle.tree_cotree.proofs.RingLemmas.{IsSwapped, stored_rings, stored_swap, swapped_rings, swapped_count}
 use Rattle.tree_cotree.proofs.rings.Rings.swap.Goals as goal
 

@@ -1,6 +1,4 @@
-use Rattle.tree_cotree.proofs.Common.{rotation_system, Rotations, rotations_of, ◌≡◌, ℕ, ap, sym, ◌∙◌, subst}
-use Rattle.tree_cotree.specs.Searches.{node_of}
-use Rattle.tree_cotree.specs.declared.search.Nodes.{Nodes}
+use Rattle.tree_cotree.proofs.Common.{rotation_system, Rotations, rotations_of, ◌≡◌, ℕ, ap, sym, ◌∙◌, subst, node_of, Nodes}
 use Rattle.tree_cotree.proofs.search.Graph.node_across.Goals as goal
 
 pub returns-in-Vertices : goal.returns-in-Vertices

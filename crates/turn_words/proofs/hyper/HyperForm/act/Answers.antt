@@ -1,9 +1,4 @@
-use Rattle.turn_words.proofs.Common.{arith, ◌≡◌, ◌∙◌, ap, ap₂, sym, length, reverse}
-use Rattle.turn_words.specs.Modulo.{add, minus}
-use Rattle.turn_words.specs.PutTurns.{put}
-use Rattle.turn_words.specs.Recorded.{with_steps}
-use Rattle.turn_words.specs.Private.PutSteps.{put_steps, rewrite_steps}
-use Rattle.turn_words.specs.HyperStates.{HyperView, turn_to, value_at}
+use Rattle.turn_words.proofs.Common.{arith, ◌≡◌, ◌∙◌, ap, ap₂, sym, length, reverse, HyperView, turn_to, value_at, add, minus, put_steps, rewrite_steps, put, with_steps}
 use Rattle.turn_words.proofs.Acts.{notes-put, change-below, belongs-next}
 use Rattle.turn_words.proofs.hyper.HyperForm.act.Goals as goal
 use Rattle.turn_words.proofs.hyper.HyperForm.act.Goals.{After-sum_modulo-turn, After-put_uncounted-put}

@@ -1,5 +1,4 @@
-use Rattle.turn_words.proofs.Common.{◌+◌, ◌∙◌, ap, sym, subst, ◌++◌, replicate}
-use Rattle.turn_words.specs.Runs.{AreApart}
+use Rattle.turn_words.proofs.Common.{◌+◌, ◌∙◌, ap, sym, subst, ◌++◌, replicate, AreApart}
 use Rattle.turn_words.proofs.RunLists.{apart-push, written-joined}
 use Rattle.turn_words.proofs.run_stack.RunStack.join.Goals as goal
 

@@ -1,4 +1,4 @@
-use Rattle.turn_words.specs.Runs.{AreFilled}
+use Rattle.turn_words.proofs.Common.{AreFilled}
 use Rattle.turn_words.proofs.RunLists.{popped-filled}
 use Rattle.turn_words.proofs.run_stack.RunStack.pop.Goals as goal
 

@@ -1,5 +1,4 @@
-use Rattle.turn_words.proofs.Common.{arith, subst}
-use Rattle.turn_words.specs.Runs.{AreApart}
+use Rattle.turn_words.proofs.Common.{arith, subst, AreApart}
 use Rattle.turn_words.proofs.RunLists.{apart-front, apart-less, written-less, written-last}
 use Rattle.turn_words.proofs.run_stack.RunStack.pop_one.Goals as goal
 

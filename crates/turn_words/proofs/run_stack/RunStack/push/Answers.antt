@@ -1,4 +1,4 @@
-use Rattle.turn_words.specs.Runs.{AreFilled}
+use Rattle.turn_words.proofs.Common.{AreFilled}
 use Rattle.turn_words.proofs.RunLists.{filled-push}
 use Rattle.turn_words.proofs.run_stack.RunStack.push.Goals as goal
 

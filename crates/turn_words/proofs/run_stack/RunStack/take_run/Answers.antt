@@ -1,7 +1,5 @@
-use Rattle.turn_words.proofs.Common.{arith, ◌≡◌, ◌∙◌, ℕ, ap, sym, subst, ◌++◌, replicate, same_from_push}
+use Rattle.turn_words.proofs.Common.{arith, ◌≡◌, ◌∙◌, ℕ, ap, sym, subst, ◌++◌, replicate, same_from_push, TopDiffers, written, AreFilled, AreApart}
 use Rattle.std.proofs.lemmas.Grind.{common_steps}
-use Rattle.turn_words.specs.Runs.{written, AreFilled, AreApart}
-use Rattle.turn_words.specs.Private.StoredWords.{TopDiffers}
 use Rattle.turn_words.proofs.RunLists.{filled-front, apart-front, top-differs, written-push}
 use Rattle.turn_words.proofs.run_stack.RunStack.take_run.Goals as goal
 

@@ -1,5 +1,4 @@
-use Rattle.turn_words.proofs.Common.{arith, ◌-◌, ◌<◌, ◌∙◌, sym, ap, length, take}
-use Rattle.turn_words.specs.Runs.{RunStackView}
+use Rattle.turn_words.proofs.Common.{arith, ◌-◌, ◌<◌, ◌∙◌, sym, ap, length, take, RunStackView}
 use Rattle.turn_words.proofs.RunLists.{last-run}
 use Rattle.turn_words.proofs.run_stack.RunStack.top.Goals as goal
 

@@ -1,5 +1,4 @@
-use Rattle.turn_words.proofs.Common.{arith, ◌≡◌, ◌≢◌, ◌-◌, ◌∙◌, ap, sym, subst, ◌∷◌, ◌++◌, reverse, replicate}
-use Rattle.turn_words.specs.Private.StoredWords.{RunWordView, word_of, EndsBelow, last_changed}
+use Rattle.turn_words.proofs.Common.{arith, ◌≡◌, ◌≢◌, ◌-◌, ◌∙◌, ap, sym, subst, ◌∷◌, ◌++◌, reverse, replicate, RunWordView, word_of, EndsBelow, last_changed}
 use Rattle.turn_words.proofs.RunLists.{back}
 use Rattle.turn_words.proofs.RunWords.{last-of, changed-inside, changed-alone, under-short, under-apart, add-differs}
 use Rattle.turn_words.proofs.run_word.RunWord.change_last.Goals as goal

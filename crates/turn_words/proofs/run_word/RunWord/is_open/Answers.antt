@@ -1,6 +1,4 @@
-use Rattle.turn_words.proofs.Common.{arith, ◌≡◌, ◌≢◌, ◌<◌, ◌-◌, ◌∙◌, ℕ, ap, sym, eqb, reverse, length, get_or, List, lt-leb}
-use Rattle.turn_words.specs.PutTurns.{is_open}
-use Rattle.turn_words.specs.Private.StoredWords.{RunWordView, word_of}
+use Rattle.turn_words.proofs.Common.{arith, ◌≡◌, ◌≢◌, ◌<◌, ◌-◌, ◌∙◌, ℕ, ap, sym, eqb, reverse, length, get_or, List, lt-leb, RunWordView, word_of, is_open}
 use Rattle.turn_words.proofs.RunWords.{open-at-one, open-at-none, open-at-start, open-at-two}
 use Rattle.turn_words.proofs.run_word.RunWord.is_open.Goals as goal
 

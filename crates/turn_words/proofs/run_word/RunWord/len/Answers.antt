@@ -1,5 +1,4 @@
-use Rattle.turn_words.proofs.Common.{arith, ap, length}
-use Rattle.turn_words.specs.Private.StoredWords.{RunWordView}
+use Rattle.turn_words.proofs.Common.{arith, ap, length, RunWordView}
 use Rattle.turn_words.proofs.RunWords.{runs-few, word-length}
 use Rattle.turn_words.proofs.run_word.RunWord.len.Goals as goal
 

@@ -1,6 +1,5 @@
-use Rattle.turn_words.proofs.Common.{◌≡◌, ◌⊎◌, ◌∙◌, ap, sym, inl, inr, eqb-true}
+use Rattle.turn_words.proofs.Common.{◌≡◌, ◌⊎◌, ◌∙◌, ap, sym, inl, inr, eqb-true, RunWordView, word_of}
 use Rattle.std.proofs.lemmas.Slice.Eq.{slice_eq-Decides}
-use Rattle.turn_words.specs.Private.StoredWords.{RunWordView, word_of}
 use Rattle.turn_words.proofs.RunWords.{pair-decides, same-words, same-runs}
 use Rattle.turn_words.proofs.run_word.RunWord.same.Goals as goal
 use Rattle.turn_words.proofs.run_word.RunWord.same.Goals.{then-self-other+then-self-eq0, then-self-other+else-self-eq0, else-self-other}

@@ -1,5 +1,4 @@
-use Rattle.turn_words.proofs.Common.{arith, ◌<◌, ◌-◌, ap, sym, subst, length}
-use Rattle.turn_words.specs.Private.StoredWords.{RunWordView, EndsOtherwise}
+use Rattle.turn_words.proofs.Common.{arith, ◌<◌, ◌-◌, ap, sym, subst, length, RunWordView, EndsOtherwise}
 use Rattle.turn_words.proofs.RunLists.{ends-otherwise}
 use Rattle.turn_words.proofs.RunWords.{reverse-some, taken-off, word-length}
 use Rattle.turn_words.proofs.run_word.RunWord.take_run.Goals as goal

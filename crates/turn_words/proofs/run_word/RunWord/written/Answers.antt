@@ -1,5 +1,4 @@
-use Rattle.turn_words.proofs.Common.{arith, ◌≡◌, ◌<◌, ◌+◌, ◌∙◌, ℕ, ap, sym, subst, ◌++◌, length, take, get_or, replicate, append_assoc, List, vec_len, vec_capacity}
-use Rattle.turn_words.specs.Runs.{written, AreFilled}
+use Rattle.turn_words.proofs.Common.{arith, ◌≡◌, ◌<◌, ◌+◌, ◌∙◌, ℕ, ap, sym, subst, ◌++◌, length, take, get_or, replicate, append_assoc, List, vec_len, vec_capacity, written, AreFilled}
 use Rattle.turn_words.proofs.RunWords.{filled-at, length-written, written-next, written-within}
 use Rattle.turn_words.proofs.run_word.RunWord.written.Goals as goal
 

@@ -1,5 +1,4 @@
-use Rattle.turn_words.proofs.Common.{◌≡◌, ◌+◌, ◌++◌, length, take, vec_len, vec_capacity}
-use Rattle.turn_words.specs.Runs.{written}
+use Rattle.turn_words.proofs.Common.{◌≡◌, ◌+◌, ◌++◌, length, take, vec_len, vec_capacity, written}
 use Rattle.turn_words.proofs.run_word.RunWord.written.Given as goal
 
 abbrev pub invariant-loop-value : goal.invariant-loop-value

@@ -1,5 +1,4 @@
-use Rattle.walk_files.proofs.Common.{◌≡◌, ◌++◌, ap, rules, drop-append-le}
-use Rattle.walk_files.specs.NumberLists.{PendingLists}
+use Rattle.walk_files.proofs.Common.{◌≡◌, ◌++◌, ap, rules, drop-append-le, PendingLists}
 use Rattle.walk_files.proofs.ListLemmas.{stored_lists-append}
 use Rattle.walk_files.proofs.number_lines.LinesBuilder.extend.Goals as goal
 

@@ -1,7 +1,4 @@
-use Rattle.walk_files.proofs.Common.{◌≡◌, ◌<◌, ◌^◌, false, List, ℕ, length, drop, sym, ap, ◌∙◌, subst, full_lines}
-use Rattle.walk_files.specs.Certificates.{behind_head}
-use Rattle.walk_files.specs.Denials.{AreFew}
-use Rattle.walk_files.specs.Readers.{Certificate}
+use Rattle.walk_files.proofs.Common.{◌≡◌, ◌<◌, ◌^◌, false, List, ℕ, length, drop, sym, ap, ◌∙◌, subst, full_lines, behind_head, AreFew, Certificate}
 use Rattle.walk_files.proofs.FewLemmas.{full_lines-few, few-drop, few-behind_head}
 use Rattle.walk_files.proofs.reader.CertReader.denial.Goals as goal
 

@@ -1,6 +1,4 @@
-use Rattle.walk_files.proofs.Common.{◌≡◌, ◌+◌, ◌<◌, drop, refl, ap, ◌∙◌, drop-drop, arith, rules, Ok, Some, full_lines, lines_left}
-use Rattle.walk_files.specs.Certificates.{behind_head}
-use Rattle.walk_files.specs.Readers.{Certificate, next_answer, after_answer}
+use Rattle.walk_files.proofs.Common.{◌≡◌, ◌+◌, ◌<◌, drop, refl, ap, ◌∙◌, drop-drop, arith, rules, Ok, Some, full_lines, lines_left, behind_head, Certificate, next_answer, after_answer}
 use Rattle.walk_files.proofs.ReaderLemmas.{left_after}
 use Rattle.walk_files.proofs.reader.CertReader.next_move.Goals as goal
 

@@ -1,9 +1,6 @@
-use Rattle.walk_files.proofs.Common.{Reads, ◌≡◌, ◌-◌, ℕ, List, true, sym, ap, subst, ◌∙◌, Some, None, Result, Ok, Err, IfSome, OnOk, file_of, Move}
+use Rattle.walk_files.proofs.Common.{Reads, ◌≡◌, ◌-◌, ℕ, List, true, sym, ap, subst, ◌∙◌, Some, None, Result, Ok, Err, IfSome, OnOk, file_of, Move, count_in, Streamed, streams_list, after_move, StreamEnd}
 use Rattle.std.proofs.Common.{Option}
-use Rattle.walk_files.specs.declared.stream_end.StreamEnd.{StreamEnd}
 use Rattle.walk_files.specs.declared.stream.CertStream.TheInside.{Inside}
-use Rattle.walk_files.specs.Readers.{count_in}
-use Rattle.walk_files.specs.Streams.{Streamed, streams_list, after_move}
 use Rattle.walk_files.proofs.StreamLemmas.{ReadsNext, LeavesLines, Answers, gives_answer}
 use Rattle.walk_files.proofs.stream.CertStream.next_move.Goals as goal
 use Rattle.walk_files.proofs.stream.CertStream.next_move.Goals.{After-read_next_move}

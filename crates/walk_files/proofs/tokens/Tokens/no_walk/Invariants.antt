@@ -1,5 +1,4 @@
-use Rattle.walk_files.proofs.Common.{◌≡◌, length, is_some, each_some}
-use Rattle.walk_files.specs.WalkTexts.{token_of}
+use Rattle.walk_files.proofs.Common.{◌≡◌, length, is_some, each_some, token_of}
 use Rattle.walk_files.proofs.tokens.Tokens.no_walk.Given as goal
 
 -- the words so far are tokens

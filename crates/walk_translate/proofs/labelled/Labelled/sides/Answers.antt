@@ -1,6 +1,4 @@
-use Rattle.walk_translate.proofs.Common.{subst}
-use Rattle.walk_translate.specs.Found.{DoDecide}
-use Rattle.walk_translate.specs.LabelledSurfaces.{IsWordUnder, LabelledView}
+use Rattle.walk_translate.proofs.Common.{subst, DoDecide, IsWordUnder, LabelledView}
 use Rattle.walk_translate.proofs.DecidingLemmas.{under_decide}
 use Rattle.walk_translate.proofs.labelled.Labelled.sides.Goals as goal
 
