@@ -1,10 +1,11 @@
 -- The loops of spokes, as walks without spurs.
-use Rattle.move_lifting.proofs.Common.{names_all, darts_of, origin_of, OrientedMesh, IsOrientedSurface, before, behind, home_and_there, there_and_home, value, spoke, root_is, up_is, loop_list, side_in, spoke_list, path_list, backward_is, free_equality, way_end, spoke_product, up, up_path, tree_ways, walk_way, other_way, IsWay, HasWays, loop_mul, loop_inv, loop_one, back, back_back, back-append, way_home, way_on, way_walk, PolygonView, IsCutFrom, side_at, AreWaysUp, backward, by_loop, dart_loop, last_side, spoke_loop, path_loop, ◌≡◌, ◌⊎◌, inl, inr, ℕ, suc, ◌+◌, ◌-◌, ◌<◌, Bool, true, false, List, [], ◌∷◌, ◌++◌, length, drop, get_or, refl, ap, sym, ◌∙◌, subst, arith, append_assoc, length-append, cases_lt, both_ways, drop_more, get_or_append_left, get_or-append-add, get_or_past, IsTrue, Some, if◌then◌else◌, list_keeps_walk, list_keeps_ends, FaceList, is_used, AreFreelyEqual, HasNoSpur, apply_all, IsWalk, Move, SplitView, IsSplit}
+use Rattle.move_lifting.proofs.Common.{names_all, darts_of, origin_of, OrientedMesh, IsOrientedSurface, before, behind, home_and_there, there_and_home, value, spoke, root_is, up_is, loop_list, side_in, spoke_list, path_list, backward_is, free_equality, way_end, spoke_product, up, up_path, tree_ways, walk_way, other_way, IsWay, HasWays, loop_mul, loop_inv, loop_one, back, back_back, back-append, way_home, way_on, way_walk, PolygonView, side_at, AreWaysUp, backward, by_loop, dart_loop, last_side, spoke_loop, path_loop, ◌≡◌, ◌⊎◌, inl, inr, ℕ, suc, ◌+◌, ◌-◌, ◌<◌, Bool, true, false, List, [], ◌∷◌, ◌++◌, length, drop, get_or, refl, ap, sym, ◌∙◌, subst, arith, append_assoc, length-append, cases_lt, both_ways, drop_more, get_or_append_left, get_or-append-add, get_or_past, IsTrue, Some, if◌then◌else◌, list_keeps_walk, list_keeps_ends, FaceList, is_used, AreFreelyEqual, HasNoSpur, apply_all, IsWalk, Move, SplitView, IsSplit}
 use Rattle.move_lifting.specs.SpokeWalks.{IsSpokeWalk, AreSpokeWalks, HasWalk}
 use Rattle.move_lifting.specs.Tracks.{last_of}
 use Rattle.move_lifting.proofs.BackLemmas.{way_of}
 use Rattle.move_lifting.proofs.ListLemmas.{one_no_spur}
 use Rattle.move_lifting.proofs.TreeUpLemmas.{own_ways}
+use Rattle.move_lifting.specs.Cuts.{IsCutSurface}
 
 -- the walk is a way from u to v
 pub record GoesFrom (mesh : FaceList) (u v : ℕ) (walk : List ℕ) : Type 0 where
@@ -32,8 +33,7 @@ free_way mesh u v rest (w ∷ others) h free =
 
 -- ways up are ways
 pub has_ways : (s : OrientedMesh) (split : SplitView) → IsOrientedSurface s → (t : IsSplit s split) → (ways : ℕ → List ℕ)
-    → AreWaysUp s split t.parents.root ways
-    → HasWays s.mesh t.parents.root ways
+    → AreWaysUp s split t.parents.root ways → HasWays s.mesh t.parents.root ways
 has_ways s split o t ways h = record {
   root_used = t.parents.root_used;
   way = λ v used. subst (IsWay s.mesh v t.parents.root) (sym (up_is s split o t ways h v used)) ((tree_ways s split o t).way v used);
@@ -41,26 +41,9 @@ has_ways s split o t ways h = record {
 
 -- the loops of darts, spokes and paths are ways
 pub dart_loop_way : (s : OrientedMesh) (split : SplitView) → IsOrientedSurface s → (t : IsSplit s split) → (ways : ℕ → List ℕ)
-    → AreWaysUp s split t.parents.root ways
-    → (d : ℕ) → d < darts_of s → IsWay s.mesh t.parents.root t.parents.root (dart_loop s ways d)
+    → AreWaysUp s split t.parents.root ways → (d : ℕ) → d < darts_of s → IsWay s.mesh t.parents.root t.parents.root (dart_loop s ways d)
 dart_loop_way s split o t ways h d l =
     subst (IsWay s.mesh t.parents.root t.parents.root) (sym (loop_list s split o t ways h d l)) (value s split o t d).is_way
-
-pub spoke_way : (s : OrientedMesh) (split : SplitView) → IsOrientedSurface s → (t : IsSplit s split) → (polygon : PolygonView)
-    → IsCutFrom s split polygon
-    → 0 < polygon.degree → (ways : ℕ → List ℕ) → AreWaysUp s split t.parents.root ways → (i : ℕ)
-    → IsWay s.mesh t.parents.root t.parents.root (spoke_loop s polygon t.parents.root ways i)
-spoke_way s split o t polygon c some ways h i =
-    subst (IsWay s.mesh t.parents.root t.parents.root) (sym (spoke_list s split o t polygon c some ways h i))
-    (spoke s split o t polygon i).is_way
-
-pub path_way : (s : OrientedMesh) (split : SplitView) → IsOrientedSurface s → (t : IsSplit s split) → (polygon : PolygonView)
-    → IsCutFrom s split polygon
-    → 0 < polygon.degree → (ways : ℕ → List ℕ) → AreWaysUp s split t.parents.root ways → (along : Bool) (path : List ℕ)
-    → IsWay s.mesh t.parents.root t.parents.root (path_loop s polygon t.parents.root ways along path)
-path_way s split o t polygon c some ways h along path =
-    subst (IsWay s.mesh t.parents.root t.parents.root) (sym (path_list s split o t polygon c some ways h along path))
-    (spoke_product loop_mul loop_inv (loop_one s.mesh t.parents.root t.parents.root_used) (spoke s split o t polygon) along path).is_way
 
 -- the loop of a way back is one
 pub home_way : (mesh : FaceList) (root : ℕ) (loop : List ℕ) → IsWay mesh root root loop → IsWay mesh root root (backward root loop)
@@ -137,106 +120,6 @@ back_by_loop mesh root ways w y used loop h =
     ∙ ap (λ (k : List ℕ). (ways y ++ k) ++ down) (back_back mesh root root loop h) ∙ append_assoc (ways y) loop down
     ∙ ap (λ (k : List ℕ). ways y ++ (loop ++ k)) (sym (backward_is y (ways y)))
 
--- where the last side starts is used
-pub last_used : (s : OrientedMesh) (split : SplitView) → IsOrientedSurface s → (polygon : PolygonView) → IsCutFrom s split polygon
-    → 0 < polygon.degree → IsTrue (is_used s.mesh (origin_of s (last_side polygon)))
-last_used s split o polygon c some =
-    (names_all s o).vertex_used (last_side polygon) (side_in s split polygon c some (polygon.degree - 1))
-
--- what is told of the walk of a spoke
-pub spoke_walk : (s : OrientedMesh) (split : SplitView) → IsOrientedSurface s → (t : IsSplit s split) → (polygon : PolygonView)
-    → IsCutFrom s split polygon
-    → 0 < polygon.degree → (i : ℕ) (walk : List ℕ) → IsSpokeWalk s split polygon i walk
-    → GoesFrom s.mesh (origin_of s (last_side polygon)) (origin_of s (last_side polygon)) walk
-spoke_walk s split o t polygon c some i walk is =
-    let root : ℕ = t.parents.root in
-    let y : ℕ = origin_of s (last_side polygon) in
-    let ups : ℕ → List ℕ = up s split t in
-    let own : AreWaysUp s split root ups = λ v used. up_path s split t v used in
-    let loop : List ℕ = backward root (spoke_loop s polygon root ups i) in
-    free_way s.mesh y y (ups y ++ (loop ++ backward y (ups y))) walk
-    (closed_way s.mesh root ups (has_ways s split o t ups own) y (last_used s split o polygon c some) loop
-    (home_way s.mesh root (spoke_loop s polygon root ups i) (spoke_way s split o t polygon c some ups own i)))
-    (is.freely root ups own)
-
-pub spoke_some : (s : OrientedMesh) (split : SplitView) → IsOrientedSurface s → (t : IsSplit s split) → (polygon : PolygonView)
-    → IsCutFrom s split polygon
-    → 0 < polygon.degree → (i : ℕ) (walk : List ℕ) → IsSpokeWalk s split polygon i walk → 0 < length walk
-spoke_some s split o t polygon c some i walk is =
-    omega (arith, ap (λ (l : List ℕ). length l) (spoke_walk s split o t polygon c some i walk is).walk_is)
-
--- the walk of the first spoke
-pub first_spoke : (s : OrientedMesh) (split : SplitView) → IsOrientedSurface s → (t : IsSplit s split) → (polygon : PolygonView)
-    → IsCutFrom s split polygon → 0 < polygon.degree → (walk : List ℕ) → walk ≡ origin_of s (last_side polygon) ∷ []
-    → IsSpokeWalk s split polygon 0 walk
-first_spoke s split o t polygon c some walk is = record {
-  no_spur = subst HasNoSpur (sym is) (one_no_spur (origin_of s (last_side polygon)));
-  freely = λ root ways h.
-      let y : ℕ = origin_of s (last_side polygon) in
-      let own : AreWaysUp s split t.parents.root ways = own_ways s split o t root ways h in
-      subst (AreFreelyEqual s.mesh (by_loop ways y y [])) (sym is)
-      (no_loop s.mesh t.parents.root ways (has_ways s split o t ways own) y (last_used s split o polygon c some));
-}
-
--- the walk of the spoke after another
-pub spoke_after : (s : OrientedMesh) (split : SplitView) → IsOrientedSurface s → (t : IsSplit s split) → (polygon : PolygonView)
-    → IsCutFrom s split polygon
-    → 0 < polygon.degree → (i d y : ℕ) (walk next : List ℕ) → d ≡ side_at polygon i → y ≡ origin_of s (last_side polygon)
-    → IsSpokeWalk s split polygon i walk → HasNoSpur next
-    → ((root : ℕ) (ways : ℕ → List ℕ) → AreWaysUp s split root ways
-    → AreFreelyEqual s.mesh (walk ++ (ways y ++ (dart_loop s ways d ++ backward y (ways y)))) next)
-    → IsSpokeWalk s split polygon (suc i) next
-spoke_after s split o t polygon c some i d y walk next side y_is is no_spur free = record { no_spur = no_spur; freely = at_any }
-  where
-    -- the loop backward goes on by that of the side
-    turned : (ways : ℕ → List ℕ) → AreWaysUp s split t.parents.root ways
-        → backward t.parents.root (spoke_loop s polygon t.parents.root ways (suc i))
-        ≡ backward t.parents.root (spoke_loop s polygon t.parents.root ways i) ++ dart_loop s ways d
-    turned ways h =
-        let root : ℕ = t.parents.root in
-        let loop : List ℕ = spoke_loop s polygon root ways i in
-        let dart : List ℕ = dart_loop s ways (side_at polygon i) in
-        let dart_way : IsWay s.mesh root root dart =
-        dart_loop_way s split o t ways h (side_at polygon i) (side_in s split polygon c some i) in
-        backward_is root (backward root dart ++ loop) ∙ ap (λ (k : List ℕ). back root (k ++ loop)) (backward_is root dart)
-        ∙ back-append root (back root dart) loop root s.mesh (way_home s.mesh root root dart dart_way)
-        ∙ ap (λ (k : List ℕ). back root loop ++ k) (back_back s.mesh root root dart dart_way)
-        ∙ ap (λ (k : List ℕ). k ++ dart) (sym (backward_is root loop))
-        ∙ ap (λ (x : ℕ). backward root loop ++ dart_loop s ways x) (sym side)
-
-    at_root : (ways : ℕ → List ℕ) → AreWaysUp s split t.parents.root ways
-        → AreFreelyEqual s.mesh (by_loop ways y y (backward t.parents.root (spoke_loop s polygon t.parents.root ways (suc i)))) next
-    at_root ways h =
-        let f = free_equality s.mesh in
-        let root : ℕ = t.parents.root in
-        let w : HasWays s.mesh root ways = has_ways s split o t ways h in
-        let used : IsTrue (is_used s.mesh y) =
-        subst (λ (x : ℕ). IsTrue (is_used s.mesh x)) (sym y_is) (last_used s split o polygon c some) in
-        let known : GoesFrom s.mesh y y walk =
-        subst (λ (x : ℕ). GoesFrom s.mesh x x walk) (sym y_is) (spoke_walk s split o t polygon c some i walk is) in
-        let loop : List ℕ = spoke_loop s polygon root ways i in
-        let dart : List ℕ = dart_loop s ways d in
-        let more : List ℕ = ways y ++ (dart ++ backward y (ways y)) in
-        let begun : AreFreelyEqual s.mesh (by_loop ways y y (backward root loop)) (y ∷ known.rest) =
-        subst (AreFreelyEqual s.mesh (by_loop ways y y (backward root loop))) known.walk_is
-        (subst (λ (x : ℕ). AreFreelyEqual s.mesh (by_loop ways x x (backward root loop)) walk) (sym y_is) (is.freely root ways h)) in
-        let both : AreFreelyEqual s.mesh (by_loop ways y y (backward root loop ++ dart)) (y ∷ (known.rest ++ more)) =
-        joined_loops s.mesh root ways w y used (backward root loop) dart known.rest more
-        (home_way s.mesh root loop (spoke_way s split o t polygon c some ways h i)) known.way begun
-        (f.itself (by_loop ways y y dart)) in
-        subst (λ (k : List ℕ). AreFreelyEqual s.mesh (by_loop ways y y k) next) (sym (turned ways h))
-        (f.on (by_loop ways y y (backward root loop ++ dart)) (y ∷ (known.rest ++ more)) next both
-        (subst (λ (k : List ℕ). AreFreelyEqual s.mesh (k ++ more) next) known.walk_is (free root ways h)))
-
-    at_any : (root : ℕ) (ways : ℕ → List ℕ) → AreWaysUp s split root ways
-        → AreFreelyEqual s.mesh
-        (by_loop ways (origin_of s (last_side polygon)) (origin_of s (last_side polygon))
-        (backward root (spoke_loop s polygon root ways (suc i)))) next
-    at_any root ways h =
-        subst (λ (x : ℕ). AreFreelyEqual s.mesh (by_loop ways x x (backward root (spoke_loop s polygon root ways (suc i)))) next) y_is
-        (subst (λ (r : ℕ). AreFreelyEqual s.mesh (by_loop ways y y (backward r (spoke_loop s polygon r ways (suc i)))) next)
-        (root_is s split o t root ways h) (at_root ways (own_ways s split o t root ways h)))
-
 -- So many walks, each that of its spoke if it was made, and those that are named were made.
 pub record AreMade (s : OrientedMesh) (split : SplitView) (polygon : PolygonView) (named : List Bool) (n : ℕ) (walks : List (List ℕ))
     (walk : List ℕ) : Type 0 where
@@ -258,8 +141,7 @@ none_made s split polygon named walks walk is own = record {
 pub one_made : (s : OrientedMesh) (split : SplitView) (polygon : PolygonView) (named : List Bool) (n : ℕ) (walks more : List (List ℕ))
     (walk kept : List ℕ) → 0 < length walk
     → AreMade s split polygon named n walks walk → more ≡ walks ++ kept ∷ []
-    → (kept ≡ walk) ⊎ ((kept ≡ []) × (get_or named n false ≡ false))
-    → (length more ≡ n + 1) × AreSpokeWalks s split polygon more
+    → (kept ≡ walk) ⊎ ((kept ≡ []) × (get_or named n false ≡ false)) → (length more ≡ n + 1) × AreSpokeWalks s split polygon more
     × ((i : ℕ) → i < n + 1 → get_or named i false ≡ true → HasWalk more i)
 one_made s split polygon named n walks more walk kept some all is which = (count, each, made)
   where
@@ -317,30 +199,6 @@ which_kept : (is_named : Bool) (walk : List ℕ)
 which_kept true walk = inl refl
 which_kept false walk = inr (refl, refl)
 
--- and the walk of the next spoke is at hand
-pub made_more : (s : OrientedMesh) (split : SplitView) → IsOrientedSurface s → (t : IsSplit s split) → (polygon : PolygonView)
-    → IsCutFrom s split polygon
-    → 0 < polygon.degree → (named : List Bool) (n d y : ℕ) (walks more : List (List ℕ)) (walk next : List ℕ) (is_named : Bool)
-    → d ≡ side_at polygon n → y ≡ origin_of s (last_side polygon) → is_named ≡ get_or named n false
-    → AreMade s split polygon named n walks walk → more ≡ walks ++ (if is_named then walk else []) ∷ [] → HasNoSpur next
-    → ((root : ℕ) (ways : ℕ → List ℕ) → AreWaysUp s split root ways
-    → AreFreelyEqual s.mesh (walk ++ (ways y ++ (dart_loop s ways d ++ backward y (ways y)))) next)
-    → AreMade s split polygon named (n + 1) more next
-made_more s split o t polygon c some named n d y walks more walk next is_named side y_is marked all is no_spur free =
-    let kept : List ℕ = if is_named then walk else [] in
-    let which : (kept ≡ walk) ⊎ ((kept ≡ []) × (get_or named n false ≡ false)) =
-    subst (λ (b : Bool). (kept ≡ walk) ⊎ ((kept ≡ []) × (b ≡ false))) marked (which_kept is_named walk) in
-    let one = one_made s split polygon named n walks more walk kept (spoke_some s split o t polygon c some n walk all.own) all is which in
-    let own : IsSpokeWalk s split polygon (suc n) next =
-    spoke_after s split o t polygon c some n d y walk next side y_is all.own no_spur free in
-    let count : suc n ≡ n + 1 = omega arith in
-    record {
-      count = one.0;
-      each = one.1;
-      made = one.2;
-      own = subst (λ (k : ℕ). IsSpokeWalk s split polygon k next) count own;
-    }
-
 -- a spoke that has a walk is one of those that there are
 pub walk_within : (walks : List (List ℕ)) (i : ℕ) → HasWalk walks i → i < length walks
 walk_within walks i has = elim (cases_lt i (length walks)) [
@@ -351,19 +209,19 @@ walk_within walks i has = elim (cases_lt i (length walks)) [
 ]
 
 -- where a way ends
-pub goes_end : (mesh : FaceList) (u v : ℕ) (walk : List ℕ) → GoesFrom mesh u v walk → last_of walk ≡ v
-goes_end mesh u v walk g =
+pub goes_end : {mesh : FaceList} {u v : ℕ} {walk : List ℕ} → GoesFrom mesh u v walk → last_of walk ≡ v
+goes_end {mesh} {u} {v} g =
     ap last_of g.walk_is ∙ sym (way_end mesh u (last_of (u ∷ g.rest)) g.rest (way_of mesh u g.rest (way_walk mesh u v g.rest g.way)))
     ∙ way_end mesh u v g.rest g.way
 
-pub goes_start : (mesh : FaceList) (u v : ℕ) (walk : List ℕ) → GoesFrom mesh u v walk → get_or walk 0 0 ≡ u
-goes_start mesh u v walk g = ap (λ (l : List ℕ). get_or l 0 0) g.walk_is
+pub goes_start : {mesh : FaceList} {u v : ℕ} {walk : List ℕ} → GoesFrom mesh u v walk → get_or walk 0 0 ≡ u
+goes_start g = ap (λ (l : List ℕ). get_or l 0 0) g.walk_is
 
-pub goes_some : (mesh : FaceList) (u v : ℕ) (walk : List ℕ) → GoesFrom mesh u v walk → 0 < length walk
-goes_some mesh u v walk g = omega (arith, ap (λ (l : List ℕ). length l) g.walk_is)
+pub goes_some : {mesh : FaceList} {u v : ℕ} {walk : List ℕ} → GoesFrom mesh u v walk → 0 < length walk
+goes_some g = omega (arith, ap (λ (l : List ℕ). length l) g.walk_is)
 
-pub goes_walk : (mesh : FaceList) (u v : ℕ) (walk : List ℕ) → GoesFrom mesh u v walk → IsWalk mesh walk
-goes_walk mesh u v walk g = subst (IsWalk mesh) (sym g.walk_is) (way_walk mesh u v g.rest g.way)
+pub goes_walk : {mesh : FaceList} {u v : ℕ} {walk : List ℕ} → GoesFrom mesh u v walk → IsWalk mesh walk
+goes_walk {mesh} {u} {v} g = subst (IsWalk mesh) (sym g.walk_is) (way_walk mesh u v g.rest g.way)
 
 -- a walk, from its first entry to its last
 pub walk_goes : (mesh : FaceList) (walk : List ℕ) → IsWalk mesh walk → GoesFrom mesh (get_or walk 0 0) (last_of walk) walk
@@ -378,8 +236,7 @@ walk_goes mesh walk w =
 
 -- where moves lead from a single vertex
 pub turn_goes_home : (mesh : FaceList) (y : ℕ) (walk : List ℕ) (moves : List Move) → IsTrue (is_used mesh y)
-    → apply_all mesh (y ∷ []) moves ≡ Some walk
-    → GoesFrom mesh y y walk
+    → apply_all mesh (y ∷ []) moves ≡ Some walk → GoesFrom mesh y y walk
 turn_goes_home mesh y walk moves used leads =
     let one : IsWalk mesh (y ∷ []) = way_walk mesh y y [] (refl, used) in
     let ends = list_keeps_ends mesh moves (y ∷ []) walk one.starts leads in
@@ -387,3 +244,129 @@ turn_goes_home mesh y walk moves used leads =
     walk_goes mesh walk (list_keeps_walk mesh moves (y ∷ []) walk one leads) in
     subst (λ (x : ℕ). GoesFrom mesh y x walk) (sym ends.ends) (subst (λ (x : ℕ). GoesFrom mesh x (last_of walk) walk) (sym ends.starts)
     here)
+
+module _ {s : OrientedMesh} {split : SplitView} {polygon : PolygonView} (is_cut : IsCutSurface s split polygon) where
+  open is_cut use {valid as o, tree as t, cut as c, some}
+
+  pub spoke_way : (ways : ℕ → List ℕ) → AreWaysUp s split t.parents.root ways → (i : ℕ)
+      → IsWay s.mesh t.parents.root t.parents.root (spoke_loop s polygon t.parents.root ways i)
+  spoke_way ways h i =
+      subst (IsWay s.mesh t.parents.root t.parents.root) (sym (spoke_list s split o t polygon c some ways h i))
+      (spoke s split o t polygon i).is_way
+
+  pub path_way : (ways : ℕ → List ℕ) → AreWaysUp s split t.parents.root ways → (along : Bool) (path : List ℕ)
+      → IsWay s.mesh t.parents.root t.parents.root (path_loop s polygon t.parents.root ways along path)
+  path_way ways h along path =
+      subst (IsWay s.mesh t.parents.root t.parents.root) (sym (path_list s split o t polygon c some ways h along path))
+      (spoke_product loop_mul loop_inv (loop_one s.mesh t.parents.root t.parents.root_used) (spoke s split o t polygon) along path).is_way
+
+  -- where the last side starts is used
+  pub last_used : IsTrue (is_used s.mesh (origin_of s (last_side polygon)))
+  last_used =
+      (names_all s o).vertex_used (last_side polygon) (side_in s split polygon c some (polygon.degree - 1))
+
+  -- what is told of the walk of a spoke
+  pub spoke_walk : {i : ℕ} {walk : List ℕ} → IsSpokeWalk s split polygon i walk
+      → GoesFrom s.mesh (origin_of s (last_side polygon)) (origin_of s (last_side polygon)) walk
+  spoke_walk {i} {walk} is =
+      let root : ℕ = t.parents.root in
+      let y : ℕ = origin_of s (last_side polygon) in
+      let ups : ℕ → List ℕ = up s split t in
+      let own : AreWaysUp s split root ups = λ v used. up_path s split t v used in
+      let loop : List ℕ = backward root (spoke_loop s polygon root ups i) in
+      free_way s.mesh y y (ups y ++ (loop ++ backward y (ups y))) walk
+      (closed_way s.mesh root ups (has_ways s split o t ups own) y last_used loop
+      (home_way s.mesh root (spoke_loop s polygon root ups i) (spoke_way ups own i)))
+      (is.freely root ups own)
+
+  pub spoke_some : {i : ℕ} {walk : List ℕ} → IsSpokeWalk s split polygon i walk → 0 < length walk
+  spoke_some is =
+      omega (arith, ap (λ (l : List ℕ). length l) (spoke_walk is).walk_is)
+
+  -- the walk of the first spoke
+  pub first_spoke : (walk : List ℕ) → walk ≡ origin_of s (last_side polygon) ∷ [] → IsSpokeWalk s split polygon 0 walk
+  first_spoke walk is = record {
+    no_spur = subst HasNoSpur (sym is) (one_no_spur (origin_of s (last_side polygon)));
+    freely = λ root ways h.
+        let y : ℕ = origin_of s (last_side polygon) in
+        let own : AreWaysUp s split t.parents.root ways = own_ways o t root ways h in
+        subst (AreFreelyEqual s.mesh (by_loop ways y y [])) (sym is)
+        (no_loop s.mesh t.parents.root ways (has_ways s split o t ways own) y last_used);
+  }
+
+  -- the walk of the spoke after another
+  pub spoke_after : (i d y : ℕ) (walk next : List ℕ) → d ≡ side_at polygon i → y ≡ origin_of s (last_side polygon)
+      → IsSpokeWalk s split polygon i walk → HasNoSpur next → ((root : ℕ) (ways : ℕ → List ℕ) → AreWaysUp s split root ways
+      → AreFreelyEqual s.mesh (walk ++ (ways y ++ (dart_loop s ways d ++ backward y (ways y)))) next)
+      → IsSpokeWalk s split polygon (suc i) next
+  spoke_after i d y walk next side y_is is no_spur free = record { no_spur = no_spur; freely = at_any }
+    where
+      -- the loop backward goes on by that of the side
+      turned : (ways : ℕ → List ℕ) → AreWaysUp s split t.parents.root ways
+          → backward t.parents.root (spoke_loop s polygon t.parents.root ways (suc i))
+          ≡ backward t.parents.root (spoke_loop s polygon t.parents.root ways i) ++ dart_loop s ways d
+      turned ways h =
+          let root : ℕ = t.parents.root in
+          let loop : List ℕ = spoke_loop s polygon root ways i in
+          let dart : List ℕ = dart_loop s ways (side_at polygon i) in
+          let dart_way : IsWay s.mesh root root dart =
+          dart_loop_way s split o t ways h (side_at polygon i) (side_in s split polygon c some i) in
+          backward_is root (backward root dart ++ loop) ∙ ap (λ (k : List ℕ). back root (k ++ loop)) (backward_is root dart)
+          ∙ back-append root (back root dart) loop root s.mesh (way_home s.mesh root root dart dart_way)
+          ∙ ap (λ (k : List ℕ). back root loop ++ k) (back_back s.mesh root root dart dart_way)
+          ∙ ap (λ (k : List ℕ). k ++ dart) (sym (backward_is root loop))
+          ∙ ap (λ (x : ℕ). backward root loop ++ dart_loop s ways x) (sym side)
+
+      at_root : (ways : ℕ → List ℕ) → AreWaysUp s split t.parents.root ways
+          → AreFreelyEqual s.mesh (by_loop ways y y (backward t.parents.root (spoke_loop s polygon t.parents.root ways (suc i)))) next
+      at_root ways h =
+          let f = free_equality s.mesh in
+          let root : ℕ = t.parents.root in
+          let w : HasWays s.mesh root ways = has_ways s split o t ways h in
+          let used : IsTrue (is_used s.mesh y) =
+          subst (λ (x : ℕ). IsTrue (is_used s.mesh x)) (sym y_is) last_used in
+          let known : GoesFrom s.mesh y y walk =
+          subst (λ (x : ℕ). GoesFrom s.mesh x x walk) (sym y_is) (spoke_walk is) in
+          let loop : List ℕ = spoke_loop s polygon root ways i in
+          let dart : List ℕ = dart_loop s ways d in
+          let more : List ℕ = ways y ++ (dart ++ backward y (ways y)) in
+          let begun : AreFreelyEqual s.mesh (by_loop ways y y (backward root loop)) (y ∷ known.rest) =
+          subst (AreFreelyEqual s.mesh (by_loop ways y y (backward root loop))) known.walk_is
+          (subst (λ (x : ℕ). AreFreelyEqual s.mesh (by_loop ways x x (backward root loop)) walk) (sym y_is) (is.freely root ways h)) in
+          let both : AreFreelyEqual s.mesh (by_loop ways y y (backward root loop ++ dart)) (y ∷ (known.rest ++ more)) =
+          joined_loops s.mesh root ways w y used (backward root loop) dart known.rest more
+          (home_way s.mesh root loop (spoke_way ways h i)) known.way begun
+          (f.itself (by_loop ways y y dart)) in
+          subst (λ (k : List ℕ). AreFreelyEqual s.mesh (by_loop ways y y k) next) (sym (turned ways h))
+          (f.on (by_loop ways y y (backward root loop ++ dart)) (y ∷ (known.rest ++ more)) next both
+          (subst (λ (k : List ℕ). AreFreelyEqual s.mesh (k ++ more) next) known.walk_is (free root ways h)))
+
+      at_any : (root : ℕ) (ways : ℕ → List ℕ) → AreWaysUp s split root ways → AreFreelyEqual s.mesh
+          (by_loop ways (origin_of s (last_side polygon)) (origin_of s (last_side polygon))
+          (backward root (spoke_loop s polygon root ways (suc i)))) next
+      at_any root ways h =
+          subst (λ (x : ℕ). AreFreelyEqual s.mesh (by_loop ways x x (backward root (spoke_loop s polygon root ways (suc i)))) next) y_is
+          (subst (λ (r : ℕ). AreFreelyEqual s.mesh (by_loop ways y y (backward r (spoke_loop s polygon r ways (suc i)))) next)
+          (root_is s split o t root ways h) (at_root ways (own_ways o t root ways h)))
+
+  -- and the walk of the next spoke is at hand
+  pub made_more : (named : List Bool) (n d y : ℕ) (walks more : List (List ℕ)) (walk next : List ℕ) (is_named : Bool)
+      → d ≡ side_at polygon n → y ≡ origin_of s (last_side polygon) → is_named ≡ get_or named n false
+      → AreMade s split polygon named n walks walk → more ≡ walks ++ (if is_named then walk else []) ∷ [] → HasNoSpur next
+      → ((root : ℕ) (ways : ℕ → List ℕ) → AreWaysUp s split root ways
+      → AreFreelyEqual s.mesh (walk ++ (ways y ++ (dart_loop s ways d ++ backward y (ways y)))) next)
+      → AreMade s split polygon named (n + 1) more next
+  made_more named n d y walks more walk next is_named side y_is marked all is no_spur free =
+      let kept : List ℕ = if is_named then walk else [] in
+      let which : (kept ≡ walk) ⊎ ((kept ≡ []) × (get_or named n false ≡ false)) =
+      subst (λ (b : Bool). (kept ≡ walk) ⊎ ((kept ≡ []) × (b ≡ false))) marked (which_kept is_named walk) in
+      let one = one_made s split polygon named n walks more walk kept (spoke_some all.own) all is which in
+      let own : IsSpokeWalk s split polygon (suc n) next =
+      spoke_after n d y walk next side y_is all.own no_spur free in
+      let count : suc n ≡ n + 1 = omega arith in
+      record {
+        count = one.0;
+        each = one.1;
+        made = one.2;
+        own = subst (λ (k : ℕ). IsSpokeWalk s split polygon k next) count own;
+      }

@@ -77,10 +77,10 @@ no_spur_round b d e clean other apart k l same =
 pub back_and_on : List ℕ → List ℕ → ℕ → List ℕ
 back_and_on approach walk n = last_of approach ∷ (backward (last_of (take n approach)) (drop n approach) ++ drop n walk)
 
-pub back-long : (approach walk : List ℕ) (n : ℕ) → BeginAlike approach walk n
+pub back-long : {approach walk : List ℕ} {n : ℕ} → BeginAlike approach walk n
     → length (back_and_on approach walk n) ≡ 1 + (length approach - n) + (length walk - n)
 unfolding back_and_on
-back-long approach walk n a =
+back-long {approach} {walk} {n} a =
     let home : List ℕ = backward (last_of (take n approach)) (drop n approach) in
     omega (
       arith,
@@ -101,10 +101,10 @@ parts approach n some le rest =
     ∙ append_assoc (take (length laid - 1) laid) (last_of laid ∷ []) rest
     ∙ ap (λ (m : ℕ). take m laid ++ (last_of laid ∷ rest)) at
 
-pub back_no_spur : (approach walk : List ℕ) (n : ℕ) → BeginAlike approach walk n → HasNoSpur approach → HasNoSpur walk
+pub back_no_spur : {approach walk : List ℕ} {n : ℕ} → BeginAlike approach walk n → HasNoSpur approach → HasNoSpur walk
     → (n < length approach → n < length walk → get_or approach n 0 ≢ get_or walk n 0) → HasNoSpur (back_and_on approach walk n)
 unfolding back_and_on
-back_no_spur approach walk n a clean other apart =
+back_no_spur {approach} {walk} {n} a clean other apart =
     let b : ℕ = last_of (take n approach) in
     let d : List ℕ = drop n approach in
     let e : List ℕ = drop n walk in
@@ -128,10 +128,10 @@ back_no_spur approach walk n a clean other apart =
     apart in_approach in_walk (sym (read approach in_approach) ∙ same ∙ read walk in_walk)))
 
 -- up to spurs it is the way back along the whole approach and on along the whole walk
-pub back_freely : (mesh : FaceList) (approach walk : List ℕ) (n : ℕ) → IsWalk mesh approach → BeginAlike approach walk n
+pub back_freely : (mesh : FaceList) {approach walk : List ℕ} {n : ℕ} → IsWalk mesh approach → BeginAlike approach walk n
     → AreFreelyEqual mesh (last_of approach ∷ (backward (get_or walk 0 0) (drop 1 approach) ++ drop 1 walk)) (back_and_on approach walk n)
 unfolding back_and_on
-back_freely mesh approach walk n w a =
+back_freely mesh {approach} {walk} {n} w a =
     let x : ℕ = get_or walk 0 0 in
     let y : ℕ = last_of approach in
     let c : List ℕ = drop 1 (take n approach) in
@@ -182,8 +182,8 @@ turn_rises approach walk turn whole n behind around most moves peak old there tu
     some is last =
     record {
       back = back_and_on approach walk n;
-      no_spur = back_no_spur approach walk n a clean other apart;
-      freely = λ mesh w. back_freely mesh approach walk n w a;
+      no_spur = back_no_spur a clean other apart;
+      freely = λ mesh w. back_freely mesh w a;
       peak =
           let long : length whole + 1 ≡ length approach + (length turn + ((length approach - n) + (length walk - n))) =
           ap (λ (l : List ℕ). length l + 1) is ∙ length-turned_whole approach turn walk n some in
@@ -191,5 +191,5 @@ turn_rises approach walk turn whole n behind around most moves peak old there tu
             | inl has ↦ omega (arith, more has, low)
             | inr hasnt ↦ (let nothing : moves ≡ 0 = omega (arith, hasnt) in omega (arith, none nothing))
           ] in
-          omega (arith, a.some, a.in_approach, a.in_walk, back-long approach walk n a, long, rises, first, counted, few, some, last);
+          omega (arith, a.some, a.in_approach, a.in_walk, back-long a, long, rises, first, counted, few, some, last);
     }

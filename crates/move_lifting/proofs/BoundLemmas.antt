@@ -1,10 +1,10 @@
 -- How long a walk gets on the way off the cotree, and how great the peak, in numbers of darts.
 use Rattle.move_lifting.proofs.Common.{dart_between, darts_of, OrientedMesh, IsOrientedSurface, ◌≡◌, ℕ, ◌+◌, ◌*◌, ◌-◌, ◌<◌, ◌≤◌, max, List, [], ◌∷◌, length, sym, ap, subst, arith, mul-le-mul_left, mul-le-mul_right, get_or-le-sum_by, PeakedMoves, IsWalk, darts, SplitView, IsSplit}
 use Rattle.std.proofs.lemmas.Nat.{mul-le}
-use Rattle.move_lifting.specs.Loads.{load_of, AreWeights, StaysWithin}
+use Rattle.move_lifting.specs.Loads.{load_of, AreWeights, IsLedOn}
 use Rattle.move_lifting.specs.declared.expanding.TheConstants.{MOST_LIFTED_SIDES, MOST_LIFTED_DARTS, MOST_LOW_PEAK, MOST_SHORT_MOVES}
-use Rattle.move_lifting.proofs.ExpandLemmas.{IsRest, rest_of_step}
-use Rattle.move_lifting.proofs.RestLemmas.{pair_weight, pair_positive, pair_most, rest_falls}
+use Rattle.move_lifting.proofs.ExpandLemmas.{IsRest, rest_of_step, below_falls}
+use Rattle.move_lifting.proofs.RestLemmas.{pair_weight, pair_positive, pair_most}
 use Rattle.move_lifting.proofs.WithinLemmas.{darts_weigh, load_most}
 
 -- a dart weighs as many darts as hang below its edge
@@ -13,11 +13,8 @@ pub are_weights : (s : OrientedMesh) (split : SplitView) → IsOrientedSurface s
 are_weights s split o t = record {
   some = pair_positive s split t;
   falls = λ u v step under.
-      let around : IsRest s.mesh step u v = rest_of_step s split o.faces u v step under in
-      let fall =
-      rest_falls s split o t step.face.0 step.corner step.forward u v under.dart under.is_step.face under.is_step.corner under.starts
-      under.ends under.from under.below in
-      omega (arith, fall, ap (load_of (pair_weight s split t)) around.turned);
+      let around : IsRest s.mesh step u v = rest_of_step o.faces under in
+      omega (arith, below_falls o t under, ap (load_of (pair_weight s split t)) around.turned);
 }
 
 -- a walk weighs no more than all darts for each of its own
@@ -38,24 +35,22 @@ pub record IsShort (most behind : ℕ) (next : List ℕ) (list more : PeakedMove
   pub peak : more.peak ≤ max list.peak (most + behind)
   pub moves : length more.moves ≤ length list.moves + most
 
-pub short_within : (s : OrientedMesh) (split : SplitView) → IsOrientedSurface s → (t : IsSplit s split)
-    → (behind most : ℕ) (walk next : List ℕ) (list more : PeakedMoves)
-    → load_of (pair_weight s split t) walk ≤ most → StaysWithin s split behind walk list next more → IsShort most behind next list more
-short_within s split o t behind most walk next list more light stays =
+pub short_within : {s : OrientedMesh} {split : SplitView} {behind : ℕ} {walk next : List ℕ} {list more : PeakedMoves}
+    → IsOrientedSurface s → (t : IsSplit s split) → (most : ℕ)
+    → load_of (pair_weight s split t) walk ≤ most → IsLedOn s split behind walk list next more → IsShort most behind next list more
+short_within {s} {split} {next = next} o t most light led =
     let weight : ℕ → ℕ → ℕ = pair_weight s split t in
-    let told = stays weight (are_weights s split o t) in
+    let told = led.within weight (are_weights s split o t) in
     record {
       long = omega (arith, light, told.0, darts_weigh weight (pair_positive s split t) next);
       peak = omega (arith, light, told.1);
       moves = omega (arith, light, told.2);
     }
 
-pub short_walk : (s : OrientedMesh) (split : SplitView) → IsOrientedSurface s → IsSplit s split
-    → (behind : ℕ) (walk next : List ℕ) (list more : PeakedMoves)
-    → IsWalk s.mesh walk → StaysWithin s split behind walk list next more
+pub short_walk : {s : OrientedMesh} {split : SplitView} {behind : ℕ} {walk next : List ℕ} {list more : PeakedMoves}
+    → IsOrientedSurface s → IsSplit s split → IsWalk s.mesh walk → IsLedOn s split behind walk list next more
     → IsShort (darts walk * darts_of s) behind next list more
-short_walk s split o t behind walk next list more w stays =
-    short_within s split o t behind (darts walk * darts_of s) walk next list more (walk_most s split o t walk w) stays
+short_walk {s} {split} {walk = walk} o t w led = short_within o t (darts walk * darts_of s) (walk_most s split o t walk w) led
 
 -- a surface has a face, and so three darts
 pub three_darts : (s : OrientedMesh) → IsOrientedSurface s → 3 ≤ darts_of s

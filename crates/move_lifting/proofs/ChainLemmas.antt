@@ -1,9 +1,9 @@
 -- A walk as the list of a chain that is alone in its pool.
-use Rattle.move_lifting.proofs.Common.{Chains, under, IsUnder, IsEdit, IsAlike, list_of, cells_of, cells_in, inserted, cut, spliced, ◌≡◌, ◌≢◌, inl, inr, refl, ℕ, zero, suc, ◌+◌, ◌<◌, ◌≤◌, ◌^◌, max, List, [], ◌∷◌, ◌++◌, length, take, drop, set, is_some, ap, sym, ◌∙◌, subst, arith, append_assoc, length-append, cases_eq, length-take-le, length-drop, get_or-set_other, Result, Ok, Err, OnOk, OnErr, true≢false}
+use Rattle.move_lifting.proofs.Common.{Chains, under, IsUnder, IsEdit, IsAlike, list_of, cells_of, cells_in, inserted, cut, spliced, ◌≡◌, ◌≢◌, inl, inr, refl, ℕ, zero, suc, ◌+◌, ◌<◌, ◌≤◌, ◌^◌, max, List, [], ◌∷◌, ◌++◌, length, take, drop, set, is_some, ap, sym, ◌∙◌, subst, arith, append_assoc, length-append, Option, cases_eq, length-take-le, length-drop, get_or-set_other, Result, Ok, Err, OnOk, OnErr, true≢false}
 use Rattle.chain_pool.proofs.Lists.{list_under-is, list_is, edit_twice}
 use Rattle.chain_pool.proofs.Lookups.{cells_in-edit, cells_in-alike}
 use Rattle.chain_pool.specs.declared.cells.CellName.{CellName}
-use Rattle.std.proofs.Common.{Option, Some, None}
+use Rattle.std.proofs.Common.{Some, None}
 use Rattle.move_lifting.specs.PooledWalks.{IsAlone, IsPushed}
 
 pub live_from : (lists : List (Option (List ℕ))) (name : ℕ) (list : List ℕ) → under lists name ≡ Some list → IsUnder lists name
@@ -84,9 +84,9 @@ reserved_fits (Ok x) entries more spare new given refused room fits = omega (ari
 reserved_fits (Err y) entries more spare new given refused room fits = omega (arith, refused, fits)
 
 -- some entries, and then others
-pub pushed_both : (old mid new : Chains) (chain : CellName) (first second : List ℕ) → IsPushed old mid chain first
+pub pushed_both : {old mid new : Chains} {chain : CellName} {first second : List ℕ} → IsPushed old mid chain first
     → IsPushed mid new chain second → IsPushed old new chain (first ++ second)
-pushed_both old mid new chain first second one two =
+pushed_both {old} {mid} {new} {chain} {first} {second} one two =
     let list : List ℕ = list_of old chain.0 in
     let now : list_of mid chain.0 ≡ list ++ first = list_under-is mid.lists chain.0 (list ++ first) one.list.here in
     let whole : list_of mid chain.0 ++ second ≡ list ++ (first ++ second) =
@@ -98,9 +98,9 @@ pushed_both old mid new chain first second one two =
       spare = omega (arith, one.spare, two.spare, length-append first second);
     }
 
-pub alone_pushed : (old new : Chains) (chain : CellName) (more : List ℕ) → IsAlone old chain → IsPushed old new chain more
+pub alone_pushed : {old new : Chains} {chain : CellName} {more : List ℕ} → IsAlone old chain → IsPushed old new chain more
     → IsAlone new chain
-alone_pushed old new chain more was_alone pushed =
+alone_pushed {old} {new} {chain} {more} was_alone pushed =
     let long = length-append (list_of old chain.0) more in
     alone_on old new chain (list_of old chain.0 ++ more) was_alone pushed.list (omega (arith, long, was_alone.starts))
     (omega (arith, long, pushed.spare))

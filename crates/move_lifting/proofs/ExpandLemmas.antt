@@ -1,21 +1,16 @@
 -- A walk that is led off the cotree, step by step: what holds on the way.
 use Rattle.move_lifting.proofs.Common.{one_more, leads_nowhere, last_entry, dart_between, darts_of, edge_of, OrientedMesh, IsOrientedSurface, rotations_of, IsDartFrom, IsOffCotree, ◌≡◌, inl, inr, ℕ, suc, ◌+◌, ◌-◌, ◌<◌, ◌≤◌, Bool, true, false, not, max, List, [], ◌∷◌, ◌++◌, length, take, drop, get_or, refl, ap, sym, ◌∙◌, subst, arith, append_assoc, length-append, cases_lt, map-append, length-map, drop_more, drop_all, length-drop, append-nil, reverse-append, length-reverse, get_or-map, get_or-append-add, get_or_append_left, Some, reverse, Linked, together, round_linked, by_replacing, length-corners_from, corner_after, corners_before, last_corner, FaceList, face_at, next_corner, corners_from, is_edge, IsFaceList, IsFace, HasNoSpur, PeakedMoves, apply, numbers, IsWalk, darts, Across, VertexName, SplitView, IsSplit, in_cotree}
-use Rattle.move_lifting.specs.Lifts.{LeadsAtPeak, MoreRemove, MoreLeaveCotree}
-use Rattle.move_lifting.specs.Loads.{load_of, StaysWithin}
+use Rattle.move_lifting.specs.Lifts.{LeadsAtPeak}
+use Rattle.move_lifting.specs.Loads.{load_of, StaysWithin, IsLedOn}
 use Rattle.move_lifting.specs.Tracks.{TrackView, GoesOn, GrowsOrShrinks, last_of}
 use Rattle.move_lifting.specs.Crossings.{beyond, IsFaceBelow, IsCrossed}
 use Rattle.move_lifting.specs.declared.crossing.FaceStep.{FaceStep}
-use Rattle.move_lifting.proofs.LeavingLemmas.{none_leave, leave_on, removed_leave, crossed_leaves}
+use Rattle.move_lifting.proofs.LeavingLemmas.{crossed_leaves}
 use Rattle.move_lifting.proofs.ListLemmas.{read_on, one_no_spur}
 use Rattle.move_lifting.proofs.RoundLemmas.{before-from, rest_turned, rest_ends}
 use Rattle.move_lifting.proofs.RestLemmas.{load, load-join, load_long, pair_weight, pair_positive, pair_most, rest_falls}
-use Rattle.move_lifting.proofs.WithinLemmas.{load-joined, darts_weigh, within_itself, within_on, within_put, within_behind}
-
--- the last entry of a walk that is put on
-pub last-push : (front : List ℕ) (v : ℕ) → last_of (front ++ v ∷ []) ≡ v
-last-push front v =
-    let at : length (front ++ v ∷ []) - 1 ≡ length front + 0 = omega (arith, length-append front (v ∷ [])) in
-    ap (λ (n : ℕ). get_or (front ++ v ∷ []) n 0) at ∙ get_or-append-add front (v ∷ []) 0 0
+use Rattle.move_lifting.proofs.WithinLemmas.{load-joined, darts_weigh}
+use Rattle.move_lifting.proofs.LedLemmas.{last-behind, last-push, led_after, led_behind, led_itself}
 
 -- keeping off the cotree: a part in front does, and one more dart that is not of the cotree
 pub avoids_front : (s : OrientedMesh) (split : SplitView) (front rest : List ℕ) → IsOffCotree s split (front ++ rest)
@@ -58,10 +53,7 @@ pub record IsUnderWay (s : OrientedMesh) (split : SplitView) (behind to : ℕ) (
   pub linked : Linked s.mesh (last_of track.walk ∷ reverse pending)
   pub falls : (t : IsSplit s split) → load s split t (last_of track.walk ∷ reverse pending) + steps ≤ darts_of s
   pub long : length track.walk ≤ length begun.walk + steps
-  pub goes : GoesOn s.mesh behind (begun.walk ++ to ∷ []) begun.list (track.walk ++ reverse pending) track.list
-  pub within : StaysWithin s split behind (begun.walk ++ to ∷ []) begun.list (track.walk ++ reverse pending) track.list
-  pub ends : last_of (last_of track.walk ∷ reverse pending) ≡ to
-  pub leaves : MoreLeaveCotree s split begun.list.moves track.list.moves
+  pub led : IsLedOn s split behind (begun.walk ++ to ∷ []) begun.list (track.walk ++ reverse pending) track.list
 
 -- at the start, with cells in reserve
 pub under_way : (s : OrientedMesh) (split : SplitView) → IsOrientedSurface s → (behind to spare : ℕ) (begun track : TrackView)
@@ -81,85 +73,51 @@ under_way s split o behind to spare begun track pending same is some no_spur off
       linked = (edge, tt);
       falls = λ t. omega (arith, pair_most s split t (last_of begun.walk) to darts_there);
       long = omega arith;
-      goes = λ first rest l h. h;
-      within = within_itself s split behind (begun.walk ++ to ∷ []) begun.list;
-      ends = refl;
-      leaves = none_leave s split begun.list.moves;
+      led = led_itself behind (begun.walk ++ to ∷ []) begun.list (omega (arith, some, length-append begun.walk (to ∷ [])));
     }))
 
 -- a vertex is taken from what is pending
 pub reverse-push : (pending : List ℕ) (v : ℕ) → reverse (pending ++ v ∷ []) ≡ v ∷ reverse pending
 reverse-push pending v = reverse-append pending (v ∷ [])
 
--- the next vertex of what is pending is put on the track
-pub putting_goes : (mesh : FaceList) (behind : ℕ) (begun : List ℕ) (list : PeakedMoves) (track new : TrackView) (pending rest : List ℕ)
-    (v after : ℕ)
-    → pending ≡ rest ++ v ∷ [] → after ≡ length rest + behind
-    → GoesOn mesh behind begun list (track.walk ++ reverse pending) track.list
-    → GoesOn mesh after (track.walk ++ v ∷ []) track.list new.walk new.list
-    → GoesOn mesh behind begun list (new.walk ++ reverse rest) new.list
-putting_goes mesh behind begun list track new pending rest v after popped counted before goes first others l h =
-    let turned : reverse pending ≡ v ∷ reverse rest = ap (λ (x : List ℕ). reverse x) popped ∙ reverse-push rest v in
-    let there : LeadsAtPeak mesh first track.list (track.walk ++ reverse pending ++ others) = before first others l h in
-    let shape_is : track.walk ++ reverse pending ++ others ≡ track.walk ++ v ∷ [] ++ (reverse rest ++ others) =
-    ap (λ (x : List ℕ). track.walk ++ x ++ others) turned ∙ simp append_assoc in
-    let count : length (reverse rest ++ others) ≡ after =
-    length-append (reverse rest) others ∙ omega (arith, length-reverse rest, l, counted) in
-    subst (LeadsAtPeak mesh first new.list) (sym (append_assoc new.walk (reverse rest) others))
-    (goes first (reverse rest ++ others) count (subst (LeadsAtPeak mesh first track.list) shape_is there))
+-- what is left to come, where its next vertex is v
+pub rest_turned_to : {s : OrientedMesh} {split : SplitView} {behind to : ℕ} {begun track : TrackView} {pending : List ℕ} {steps : ℕ}
+    (rest : List ℕ) (v : ℕ) → IsUnderWay s split behind to begun track pending steps → pending ≡ rest ++ v ∷ []
+    → Linked s.mesh (last_of track.walk ∷ v ∷ reverse rest)
+    × ((t : IsSplit s split) → load s split t (last_of track.walk ∷ v ∷ reverse rest) + steps ≤ darts_of s)
+    × IsLedOn s split behind (begun.walk ++ to ∷ []) begun.list (track.walk ++ v ∷ reverse rest) track.list
+rest_turned_to {s} {split} {behind} {to} {begun} {track} {pending} {steps} rest v on popped =
+    let turned : reverse pending ≡ v ∷ reverse rest = ap (λ (l : List ℕ). reverse l) popped ∙ reverse-push rest v in
+    let u : ℕ = last_of track.walk in (
+      subst (λ (l : List ℕ). Linked s.mesh (u ∷ l)) turned on.linked,
+      λ t. subst (λ (l : List ℕ). load s split t (u ∷ l) + steps ≤ darts_of s) turned (on.falls t),
+      subst (λ (l : List ℕ). IsLedOn s split behind (begun.walk ++ to ∷ []) begun.list (track.walk ++ l) track.list) turned on.led,
+    )
 
 -- a step that keeps off the cotree: the vertex is put on the track
-pub put_on_way : (s : OrientedMesh) (split : SplitView) (behind to : ℕ) (begun track new : TrackView) (pending rest : List ℕ)
-    (v steps after : ℕ)
+pub put_on_way : {s : OrientedMesh} {split : SplitView} {behind to : ℕ} {begun track : TrackView} {pending : List ℕ} {steps : ℕ}
+    (new : TrackView) (rest : List ℕ) (v after : ℕ)
     → IsUnderWay s split behind to begun track pending steps → pending ≡ rest ++ v ∷ [] → after ≡ length rest + behind
     → ((d : ℕ) → IsDartFrom (rotations_of s) (last_of track.walk) v d → in_cotree split (edge_of s d) ≡ false)
-    → ((mesh : FaceList) → GoesOn mesh after (track.walk ++ v ∷ []) track.list new.walk new.list) → HasNoSpur new.walk
-    → length new.walk ≤ length track.walk + 1 → last_of new.walk ≡ v → GrowsOrShrinks track.walk new.walk v → 0 < length new.walk
-    → MoreRemove track.list.moves new.list.moves → new.list.peak ≤ max track.list.peak (length track.walk + after)
-    → length new.list.moves + length new.walk ≤ length track.list.moves + length track.walk + 1
+    → IsLedOn s split after (track.walk ++ v ∷ []) track.list new.walk new.list → HasNoSpur new.walk
+    → length new.walk ≤ length track.walk + 1 → GrowsOrShrinks track.walk new.walk v
     → IsUnderWay s split behind to begun new rest (steps + 1)
-put_on_way s split behind to begun track new pending rest v steps after on popped counted off goes no_spur long last shape some more peak
-    count =
-    let turned : reverse pending ≡ v ∷ reverse rest = ap (λ (l : List ℕ). reverse l) popped ∙ reverse-push rest v in
-    let u : ℕ = last_of track.walk in
-    let linked : Linked s.mesh (u ∷ v ∷ reverse rest) = subst (λ (l : List ℕ). Linked s.mesh (u ∷ l)) turned on.linked in
+put_on_way {s} {split} {behind} {track = track} {steps = steps} new rest v after on popped counted off put no_spur long shape =
+    let last : last_of new.walk ≡ v = put.last ∙ last-push track.walk v in
+    let turned = rest_turned_to rest v on popped in
     record {
-      some = some;
+      some = put.some;
       no_spur = no_spur;
       off_cotree = elim shape [
         | inl grown ↦ subst (IsOffCotree s split) (sym grown) (avoids_on s split track.walk v on.some on.off_cotree off)
         | inr shrunk ↦ avoids_front s split new.walk (shrunk.0 ∷ []) (subst (IsOffCotree s split) shrunk.1 on.off_cotree)
       ];
-      linked = subst (λ (x : ℕ). Linked s.mesh (x ∷ reverse rest)) (sym last) linked.1;
-      falls = λ t.
-          let before : load s split t (u ∷ v ∷ reverse rest) + steps ≤ darts_of s =
-          subst (λ (l : List ℕ). load s split t (u ∷ l) + steps ≤ darts_of s) turned (on.falls t) in
-          subst (λ (x : ℕ). load s split t (x ∷ reverse rest) + (steps + 1) ≤ darts_of s) (sym last)
-          (omega (arith, before, pair_positive s split t u v));
+      linked = subst (λ (x : ℕ). Linked s.mesh (x ∷ reverse rest)) (sym last) turned.0.1;
+      falls = λ t. subst (λ (x : ℕ). load s split t (x ∷ reverse rest) + (steps + 1) ≤ darts_of s) (sym last)
+          (omega (arith, turned.1 t, pair_positive s split t (last_of track.walk) v));
       long = omega (arith, long, on.long);
-      goes = putting_goes s.mesh behind (begun.walk ++ to ∷ []) begun.list track new pending rest v after popped counted on.goes
-          (goes s.mesh);
-      within = within_on s split behind (begun.walk ++ to ∷ []) (track.walk ++ v ∷ reverse rest) (new.walk ++ reverse rest) begun.list
-          track.list new.list
-          (subst (λ (l : List ℕ). StaysWithin s split behind (begun.walk ++ to ∷ []) begun.list (track.walk ++ l) track.list) turned
-          on.within)
-          (within_behind s split after behind v track.walk new.walk (reverse rest) track.list new.list some last
-          (omega (arith, counted, length-reverse rest)) (within_put s split after v track new shape some count peak));
-      ends = subst (λ (x : ℕ). last_of (x ∷ reverse rest) ≡ to) (sym last) (last_below u v (reverse rest)
-          ∙ subst (λ (l : List ℕ). last_of (u ∷ l) ≡ to) turned on.ends);
-      leaves = leave_on s split begun.list.moves track.list.moves new.list.moves on.leaves
-          (removed_leave s split track.list.moves new.list.moves more);
+      led = led_after turned.2 (led_behind behind track.walk v (reverse rest) put (omega (arith, counted, length-reverse rest)));
     }
-  where
-    last_below : (u v : ℕ) (rest : List ℕ) → last_of (v ∷ rest) ≡ last_of (u ∷ v ∷ rest)
-    last_below u v rest =
-        let at : length (u ∷ v ∷ rest) - 1 ≡ suc (length (v ∷ rest) - 1) = omega arith in
-        sym (ap (λ (n : ℕ). get_or (u ∷ v ∷ rest) n 0) at)
-
-pub last-behind : (front rest : List ℕ) (x : ℕ) → last_of (front ++ x ∷ rest) ≡ last_of (x ∷ rest)
-last-behind front rest x =
-    let at : length (front ++ x ∷ rest) - 1 ≡ length front + (length (x ∷ rest) - 1) = omega (arith, length-append front (x ∷ rest)) in
-    ap (λ (n : ℕ). get_or (front ++ x ∷ rest) n 0) at ∙ get_or-append-add front (x ∷ rest) (length (x ∷ rest) - 1) 0
 
 -- round a face the other way, from the start of a step to its end
 pub record IsRest (mesh : FaceList) (step : FaceStep) (u v : ℕ) : Type 0 where
@@ -170,9 +128,9 @@ pub record IsRest (mesh : FaceList) (step : FaceStep) (u v : ℕ) : Type 0 where
       (beyond mesh step)
   pub long : length (beyond mesh step) + 1 ≡ length (face_at mesh step.face.0)
 
-pub rest_of_step : (s : OrientedMesh) (split : SplitView) → IsFaceList s.mesh → (u v : ℕ) (step : FaceStep) → IsFaceBelow s split u v step
+pub rest_of_step : {s : OrientedMesh} {split : SplitView} → IsFaceList s.mesh → {u v : ℕ} {step : FaceStep} → IsFaceBelow s split u v step
     → IsRest s.mesh step u v
-rest_of_step s split valid u v step under =
+rest_of_step {s} valid {u} {v} {step} under =
     let ring : List ℕ = face_at s.mesh step.face.0 in
     let m : ℕ = length ring in
     let b : Bool = step.forward in
@@ -196,13 +154,22 @@ rest_of_step s split valid u v step under =
       long = omega (arith, ap (λ (l : List ℕ). length l) beyond_is, length-corners_from ring b (next_corner b m c) k);
     }
 
+-- it weighs less than the edge
+pub below_falls : {s : OrientedMesh} {split : SplitView} → IsOrientedSurface s → (t : IsSplit s split) → {u v : ℕ} {step : FaceStep}
+    → IsFaceBelow s split u v step
+    → load s split t (corners_from (face_at s.mesh step.face.0) (not step.forward) step.corner (length (face_at s.mesh step.face.0) - 1))
+    + 1 ≤ pair_weight s split t u v
+below_falls o t {u} {v} {step} under =
+    rest_falls o t step.face.0 step.corner step.forward u v under.dart under.is_step.face under.is_step.corner under.starts
+    under.ends under.from under.below
+
 -- the move across the face
-pub face_crossed : (s : OrientedMesh) (split : SplitView) (u v : ℕ) (step : FaceStep) (front behind : List ℕ) → IsFaceBelow s split u v step
+pub face_crossed : {s : OrientedMesh} {split : SplitView} {u v : ℕ} {step : FaceStep} (front behind : List ℕ) → IsFaceBelow s split u v step
     → 3 ≤ length (face_at s.mesh step.face.0)
     → apply s.mesh (front ++ u ∷ v ∷ behind) (Across (length front) step.face step.corner step.forward 1)
     ≡ Some (front ++ corners_from (face_at s.mesh step.face.0) (not step.forward) step.corner (length (face_at s.mesh step.face.0) - 1)
     ++ behind)
-face_crossed s split u v step front behind under big =
+face_crossed {s} {u} {v} {step} front behind under big =
     let ring : List ℕ = face_at s.mesh step.face.0 in
     let other : List ℕ = corners_from ring (not step.forward) step.corner (length ring - 1) in
     let some : 0 < length (front ++ u ∷ v ∷ behind) = rw length-append (omega arith) in
@@ -225,141 +192,138 @@ face_crossed s split u v step front behind under big =
       );
     })
 
-regroup : (front back rest others : List ℕ) (u : ℕ) → front ++ (u ∷ back) ++ (rest ++ others) ≡ front ++ u ∷ [] ++ (back ++ rest) ++ others
-regroup front back rest others u = simp append_assoc
-
-pub crossing_goes : (s : OrientedMesh) (split : SplitView) → IsFaceList s.mesh
-    → (behind : ℕ) (begun : List ℕ) (list : PeakedMoves) (track new : TrackView) (rest left : List ℕ) (v : ℕ) (step : FaceStep)
-    → 0 < length track.walk → GoesOn s.mesh behind begun list (track.walk ++ v ∷ reverse rest) track.list
-    → IsFaceBelow s split (last_of track.walk) v step → IsCrossed s.mesh step behind track rest new left
-    → GoesOn s.mesh behind begun list (new.walk ++ reverse left) new.list
-crossing_goes s split valid behind begun list track new rest left v step some goes under crossed first others l h =
-    let u : ℕ = last_of track.walk in
-    let ring : List ℕ = face_at s.mesh step.face.0 in
-    let round : List ℕ = corners_from ring (not step.forward) step.corner (length ring - 1) in
-    let around : IsRest s.mesh step u v = rest_of_step s split valid u v step under in
-    let big : 3 ≤ length ring = (valid.faces step.face.0 [] under.is_step.face).polygon in
-    let walk : List ℕ = track.walk in
-    let front : List ℕ = take (length walk - 1) walk in
-    let walk_is : walk ≡ front ++ u ∷ [] = last_entry walk some in
-    let front_long : length front ≡ darts walk =
-    omega (arith, ap (λ (x : List ℕ). length x) walk_is, length-append front (u ∷ []), some) in
-    let there : LeadsAtPeak s.mesh first track.list (walk ++ v ∷ reverse rest ++ others) = goes first others l h in
-    let from : walk ++ v ∷ reverse rest ++ others ≡ front ++ u ∷ v ∷ (reverse rest ++ others) =
-    ap (λ (x : List ℕ). x ++ (v ∷ reverse rest) ++ others) walk_is ∙ simp append_assoc in
-    let left_is : reverse left ≡ reverse (beyond s.mesh step) ++ reverse rest =
-    ap (λ (x : List ℕ). reverse x) crossed.comes ∙ reverse-append rest (beyond s.mesh step) in
-    let end : List ℕ = front ++ round ++ (reverse rest ++ others) in
-    let to_is : end ≡ new.walk ++ reverse left ++ others =
-    ap (λ (x : List ℕ). front ++ x ++ (reverse rest ++ others)) around.turned
-    ∙ regroup front (reverse (beyond s.mesh step)) (reverse rest) others u
-    ∙ ap (λ (x : List ℕ). x ++ (reverse (beyond s.mesh step) ++ reverse rest) ++ others) (sym (crossed.walk ∙ walk_is))
-    ∙ ap (λ (x : List ℕ). new.walk ++ x ++ others) (sym left_is) in
-    let count : darts end ≡ darts walk + (length left + behind) =
-    omega (
-      arith,
-      length-append (front ++ round) (reverse rest ++ others),
-      length-append front round,
-      length-append (reverse rest) others,
-      length-reverse rest,
-      length-corners_from ring (not step.forward) step.corner (length ring - 1),
-      ap (λ (x : List ℕ). length x) crossed.comes,
-      length-append rest (beyond s.mesh step),
-      around.long,
-    ) in
-    let noted : new.list ≡ record {
-      moves = track.list.moves ++ Across (length front) step.face step.corner step.forward 1 ∷ [];
-      peak = max track.list.peak (darts end);
-    } =
-    subst (λ (n : ℕ). new.list ≡ record {
-      moves = track.list.moves ++ Across (length front) step.face step.corner step.forward 1 ∷ [];
-      peak = max track.list.peak n;
-    }) (sym count)
-    (subst (λ (n : ℕ). new.list ≡ record {
-      moves = track.list.moves ++ Across n step.face step.corner step.forward 1 ∷ [];
-      peak = max track.list.peak (darts walk + (length left + behind));
-    })
-    (sym front_long) crossed.list) in
-    subst (LeadsAtPeak s.mesh first new.list) to_is
-    (one_more s.mesh first (front ++ u ∷ v ∷ (reverse rest ++ others)) end (Across (length front) step.face step.corner step.forward 1)
-    track.list new.list
-    (subst (LeadsAtPeak s.mesh first track.list) from there) (face_crossed s split u v step front (reverse rest ++ others) under big) noted)
-
--- what stands there weighs less then, and is as long as the move notes
-pub crossing_within : (s : OrientedMesh) (split : SplitView) → IsFaceList s.mesh → (behind : ℕ) (track new : TrackView) (rest left : List ℕ)
-    (v : ℕ) (step : FaceStep)
+-- what stands there then: it weighs less, and is as long as the move notes
+pub crossed_led : {s : OrientedMesh} {split : SplitView} → IsFaceList s.mesh → {behind : ℕ} {track new : TrackView} {rest left : List ℕ}
+    {step : FaceStep} (v : ℕ)
     → 0 < length track.walk → IsFaceBelow s split (last_of track.walk) v step → IsCrossed s.mesh step behind track rest new left
-    → StaysWithin s split behind (track.walk ++ v ∷ reverse rest) track.list (new.walk ++ reverse left) new.list
-crossing_within s split valid behind track new rest left v step some under crossed weight are =
-    let u : ℕ = last_of track.walk in
-    let front : List ℕ = take (length track.walk - 1) track.walk in
-    let round : List ℕ = reverse (beyond s.mesh step) in
-    let around : IsRest s.mesh step u v = rest_of_step s split valid u v step under in
-    let walk_is : track.walk ≡ front ++ u ∷ [] = last_entry track.walk some in
-    let left_is : reverse left ≡ round ++ reverse rest =
-    ap (λ (x : List ℕ). reverse x) crossed.comes ∙ reverse-append rest (beyond s.mesh step) in
-    let from : track.walk ++ v ∷ reverse rest ≡ front ++ u ∷ v ∷ reverse rest =
-    ap (λ (l : List ℕ). l ++ v ∷ reverse rest) walk_is ∙ append_assoc front (u ∷ []) (v ∷ reverse rest) in
-    let to : new.walk ++ reverse left ≡ front ++ u ∷ (round ++ reverse rest) =
-    ap (λ (l : List ℕ). l ++ reverse left) (crossed.walk ∙ walk_is) ∙ append_assoc front (u ∷ []) (reverse left)
-    ∙ ap (λ (l : List ℕ). front ++ u ∷ l) left_is in
-    let ends : u ∷ round ≡ around.front ++ v ∷ [] = sym around.turned ∙ around.ends in
-    let inside : u ∷ (round ++ reverse rest) ≡ around.front ++ v ∷ reverse rest =
-    ap (λ (l : List ℕ). l ++ reverse rest) ends ∙ append_assoc around.front (v ∷ []) (reverse rest) in
-    let falls : load_of weight (u ∷ round) < weight u v = are.falls u v step under in
-    let before = load-joined weight front (v ∷ reverse rest) u in
-    let after = load-joined weight front (round ++ reverse rest) u in
-    let joined = load-joined weight around.front (reverse rest) v in
-    let less : load_of weight (new.walk ++ reverse left) + 1 ≤ load_of weight (track.walk ++ v ∷ reverse rest) =
-    omega (
-      arith,
-      falls,
-      before,
-      after,
-      joined,
-      ap (load_of weight) from,
-      ap (load_of weight) to,
-      ap (load_of weight) ends,
-      ap (load_of weight) inside,
-    ) in (
-      omega (arith, less),
-      omega (
-        arith,
-        less,
-        some,
-        darts_weigh weight are.some (new.walk ++ reverse left),
-        length-append new.walk (reverse left),
-        length-reverse left,
-        ap (λ (l : List ℕ). length l) crossed.walk,
-        ap (λ (l : PeakedMoves). l.peak) crossed.list,
-      ),
-      omega (
-        arith,
-        less,
-        ap (λ (l : PeakedMoves). length l.moves) crossed.list,
-        length-append track.list.moves (Across (darts track.walk) step.face step.corner step.forward 1 ∷ []),
-      ),
-    )
+    → IsLedOn s split behind (track.walk ++ v ∷ reverse rest) track.list (new.walk ++ reverse left) new.list
+crossed_led {s} {split} valid {behind} {track} {new} {rest} {left} {step} v some under crossed = record {
+  some = omega (arith, some, ap (λ (l : List ℕ). length l) crossed.walk, length-append new.walk (reverse left));
+  last = ap last_of (to ∙ ap (λ (l : List ℕ). front ++ l) inside ∙ sym (append_assoc front around.front (v ∷ reverse rest)))
+      ∙ last-behind (front ++ around.front) (reverse rest) v ∙ sym (last-behind track.walk (reverse rest) v);
+  goes = goes;
+  leaves = crossed_leaves under crossed;
+  within = within;
+}
+  where
+    u : ℕ
+    u = last_of track.walk
+
+    front : List ℕ
+    front = take (length track.walk - 1) track.walk
+
+    back : List ℕ
+    back = reverse (beyond s.mesh step)
+
+    around : IsRest s.mesh step u v
+    around = rest_of_step valid under
+
+    walk_is : track.walk ≡ front ++ u ∷ []
+    walk_is = last_entry track.walk some
+
+    left_is : reverse left ≡ back ++ reverse rest
+    left_is = ap (λ (x : List ℕ). reverse x) crossed.comes ∙ reverse-append rest (beyond s.mesh step)
+
+    from : track.walk ++ v ∷ reverse rest ≡ front ++ u ∷ v ∷ reverse rest
+    from = ap (λ (l : List ℕ). l ++ v ∷ reverse rest) walk_is ∙ append_assoc front (u ∷ []) (v ∷ reverse rest)
+
+    to : new.walk ++ reverse left ≡ front ++ u ∷ (back ++ reverse rest)
+    to =
+        ap (λ (l : List ℕ). l ++ reverse left) (crossed.walk ∙ walk_is) ∙ append_assoc front (u ∷ []) (reverse left)
+        ∙ ap (λ (l : List ℕ). front ++ u ∷ l) left_is
+
+    ends : u ∷ back ≡ around.front ++ v ∷ []
+    ends = sym around.turned ∙ around.ends
+
+    inside : u ∷ (back ++ reverse rest) ≡ around.front ++ v ∷ reverse rest
+    inside = ap (λ (l : List ℕ). l ++ reverse rest) ends ∙ append_assoc around.front (v ∷ []) (reverse rest)
+
+    goes : GoesOn s.mesh behind (track.walk ++ v ∷ reverse rest) track.list (new.walk ++ reverse left) new.list
+    goes first others l h =
+        let ring : List ℕ = face_at s.mesh step.face.0 in
+        let round : List ℕ = corners_from ring (not step.forward) step.corner (length ring - 1) in
+        let big : 3 ≤ length ring = (valid.faces step.face.0 [] under.is_step.face).polygon in
+        let noted : ℕ → ℕ → PeakedMoves = λ n darts_then. record {
+          moves = track.list.moves ++ Across n step.face step.corner step.forward 1 ∷ [];
+          peak = max track.list.peak darts_then;
+        } in
+        let end : List ℕ = front ++ round ++ (reverse rest ++ others) in
+        let end_is : end ≡ new.walk ++ reverse left ++ others =
+        ap (λ (x : List ℕ). front ++ x ++ (reverse rest ++ others)) around.turned ∙ regroup front back (reverse rest) others u
+        ∙ ap (λ (x : List ℕ). x ++ others) (sym to) in
+        let start : track.walk ++ v ∷ reverse rest ++ others ≡ front ++ u ∷ v ∷ (reverse rest ++ others) =
+        ap (λ (x : List ℕ). x ++ others) from ∙ append_assoc front (u ∷ v ∷ reverse rest) others in
+        let front_long : darts track.walk ≡ length front =
+        omega (arith, ap (λ (x : List ℕ). length x) walk_is, length-append front (u ∷ []), some) in
+        let count : darts track.walk + (length left + behind) ≡ darts end =
+        omega (
+          arith,
+          ap (λ (x : List ℕ). length x) end_is,
+          length-append (new.walk ++ reverse left) others,
+          length-append new.walk (reverse left),
+          length-reverse left,
+          ap (λ (x : List ℕ). length x) crossed.walk,
+          some,
+          l,
+        ) in
+        subst (LeadsAtPeak s.mesh first new.list) end_is
+        (one_more s.mesh first (front ++ u ∷ v ∷ (reverse rest ++ others)) end (Across (length front) step.face step.corner step.forward 1)
+        track.list new.list (subst (LeadsAtPeak s.mesh first track.list) start h)
+        (face_crossed front (reverse rest ++ others) under big)
+        (crossed.list ∙ ap (λ (n : ℕ). noted n (darts track.walk + (length left + behind))) front_long ∙ ap (noted (length front)) count))
+      where
+        regroup : (front back rest others : List ℕ) (u : ℕ)
+            → front ++ (u ∷ back) ++ (rest ++ others) ≡ front ++ u ∷ (back ++ rest) ++ others
+        regroup front back rest others u = simp append_assoc
+
+    within : StaysWithin s split behind (track.walk ++ v ∷ reverse rest) track.list (new.walk ++ reverse left) new.list
+    within weight are =
+        let less : load_of weight (new.walk ++ reverse left) + 1 ≤ load_of weight (track.walk ++ v ∷ reverse rest) =
+        omega (
+          arith,
+          are.falls u v step under,
+          load-joined weight front (v ∷ reverse rest) u,
+          load-joined weight front (back ++ reverse rest) u,
+          load-joined weight around.front (reverse rest) v,
+          ap (load_of weight) from,
+          ap (load_of weight) to,
+          ap (load_of weight) ends,
+          ap (load_of weight) inside,
+        ) in (
+          omega (arith, less),
+          omega (
+            arith,
+            less,
+            some,
+            darts_weigh weight are.some (new.walk ++ reverse left),
+            length-append new.walk (reverse left),
+            length-reverse left,
+            ap (λ (l : List ℕ). length l) crossed.walk,
+            ap (λ (l : PeakedMoves). l.peak) crossed.list,
+          ),
+          omega (
+            arith,
+            less,
+            ap (λ (l : PeakedMoves). length l.moves) crossed.list,
+            length-append track.list.moves (Across (darts track.walk) step.face step.corner step.forward 1 ∷ []),
+          ),
+        )
 
 -- a step across the face below an edge
-pub cross_on_way : (s : OrientedMesh) (split : SplitView) → IsOrientedSurface s
-    → (behind to : ℕ) (begun track new : TrackView) (pending rest left : List ℕ) (v steps : ℕ) (step : FaceStep)
+pub cross_on_way : {s : OrientedMesh} {split : SplitView} → IsOrientedSurface s
+    → {behind to : ℕ} {begun track new : TrackView} {pending left : List ℕ} {steps : ℕ} {step : FaceStep} (rest : List ℕ) (v : ℕ)
     → IsUnderWay s split behind to begun track pending steps → pending ≡ rest ++ v ∷ [] → IsFaceBelow s split (last_of track.walk) v step
     → IsCrossed s.mesh step behind track rest new left
     → IsUnderWay s split behind to begun new left (steps + 1)
-cross_on_way s split o behind to begun track new pending rest left v steps step on popped under crossed =
+cross_on_way {s} {split} o {track = track} {new} {left = left} {steps} {step} rest v on popped under crossed =
     let u : ℕ = last_of track.walk in
     let ring : List ℕ = face_at s.mesh step.face.0 in
-    let round : List ℕ = corners_from ring (not step.forward) step.corner (length ring - 1) in
-    let around : IsRest s.mesh step u v = rest_of_step s split o.faces u v step under in
-    let turned : reverse pending ≡ v ∷ reverse rest = ap (λ (x : List ℕ). reverse x) popped ∙ reverse-push rest v in
-    let left_is : reverse left ≡ reverse (beyond s.mesh step) ++ reverse rest =
-    ap (λ (x : List ℕ). reverse x) crossed.comes ∙ reverse-append rest (beyond s.mesh step) in
+    let around : IsRest s.mesh step u v = rest_of_step o.faces under in
+    let turned = rest_turned_to rest v on popped in
     let whole : u ∷ reverse left ≡ around.front ++ v ∷ reverse rest =
-    ap (λ (x : List ℕ). u ∷ x) left_is ∙ ap (λ (x : List ℕ). x ++ reverse rest) (sym around.turned ∙ around.ends)
-    ∙ append_assoc around.front (v ∷ []) (reverse rest) in
+    ap (λ (x : List ℕ). u ∷ reverse x) crossed.comes ∙ ap (λ (x : List ℕ). u ∷ x) (reverse-append rest (beyond s.mesh step))
+    ∙ ap (λ (x : List ℕ). x ++ reverse rest) (sym around.turned ∙ around.ends) ∙ append_assoc around.front (v ∷ []) (reverse rest) in
     let same_end : last_of new.walk ≡ u = ap last_of crossed.walk in
-    let linked : Linked s.mesh (u ∷ v ∷ reverse rest) = subst (λ (l : List ℕ). Linked s.mesh (u ∷ l)) turned on.linked in
     let round_is_linked : Linked s.mesh (around.front ++ v ∷ []) =
     subst (Linked s.mesh) around.ends (round_linked s.mesh step.face.0 (not step.forward) step.corner (length ring - 1) under.is_step.face
     under.is_step.corner) in
@@ -368,61 +332,34 @@ cross_on_way s split o behind to begun track new pending rest left v steps step 
       no_spur = subst HasNoSpur (sym crossed.walk) on.no_spur;
       off_cotree = subst (IsOffCotree s split) (sym crossed.walk) on.off_cotree;
       linked = subst (λ (x : ℕ). Linked s.mesh (x ∷ reverse left)) (sym same_end)
-          (subst (Linked s.mesh) (sym whole) (together s.mesh v around.front (reverse rest) round_is_linked linked.1));
-      falls = λ t.
-          let before : load s split t (u ∷ v ∷ reverse rest) + steps ≤ darts_of s =
-          subst (λ (l : List ℕ). load s split t (u ∷ l) + steps ≤ darts_of s) turned (on.falls t) in
-          let fall : load s split t round + 1 ≤ pair_weight s split t u v =
-          rest_falls s split o t step.face.0 step.corner step.forward u v under.dart under.is_step.face under.is_step.corner under.starts
-          under.ends under.from under.below in
-          let joined : load s split t (around.front ++ v ∷ reverse rest) ≡ load s split t (around.front ++ v ∷ []) + load s split t
-          (v ∷ reverse rest) =
-          load-join s split t around.front (reverse rest) v in
-          let first_part : load s split t (around.front ++ v ∷ []) ≡ load s split t round = ap (load s split t) (sym around.ends) in
-          let all : load s split t (u ∷ reverse left) ≡ load s split t (around.front ++ v ∷ reverse rest) = ap (load s split t) whole in
-          subst (λ (x : ℕ). load s split t (x ∷ reverse left) + (steps + 1) ≤ darts_of s) (sym same_end)
-          (omega (arith, before, fall, joined, first_part, all));
+          (subst (Linked s.mesh) (sym whole) (together s.mesh v around.front (reverse rest) round_is_linked turned.0.1));
+      falls = λ t. subst (λ (x : ℕ). load s split t (x ∷ reverse left) + (steps + 1) ≤ darts_of s) (sym same_end)
+          (omega (
+            arith,
+            turned.1 t,
+            below_falls o t under,
+            load-join s split t around.front (reverse rest) v,
+            ap (load s split t) around.ends,
+            ap (load s split t) whole,
+          ));
       long = omega (arith, on.long, ap (λ (l : List ℕ). length l) crossed.walk);
-      goes = crossing_goes s split o.faces behind (begun.walk ++ to ∷ []) begun.list track new rest left v step on.some
-          (subst (λ (l : List ℕ). GoesOn s.mesh behind (begun.walk ++ to ∷ []) begun.list (track.walk ++ l) track.list) turned on.goes)
-          under crossed;
-      within = within_on s split behind (begun.walk ++ to ∷ []) (track.walk ++ v ∷ reverse rest) (new.walk ++ reverse left) begun.list
-          track.list new.list
-          (subst (λ (l : List ℕ). StaysWithin s split behind (begun.walk ++ to ∷ []) begun.list (track.walk ++ l) track.list) turned
-          on.within)
-          (crossing_within s split o.faces behind track new rest left v step on.some under crossed);
-      ends = subst (λ (x : ℕ). last_of (x ∷ reverse left) ≡ to) (sym same_end)
-          (ap last_of whole ∙ last-behind around.front (reverse rest) v ∙ sym (last-behind (u ∷ []) (reverse rest) v)
-          ∙ subst (λ (l : List ℕ). last_of (u ∷ l) ≡ to) turned on.ends);
-      leaves = leave_on s split begun.list.moves track.list.moves new.list.moves on.leaves
-          (crossed_leaves s split u v behind step track new rest left under crossed);
+      led = led_after turned.2 (crossed_led o.faces v on.some under crossed);
     }
 
 -- after as many steps as there are darts nothing is pending
-pub all_come : (s : OrientedMesh) (split : SplitView) → IsSplit s split
-    → (behind to : ℕ) (begun track : TrackView) (pending : List ℕ) (steps : ℕ)
+pub all_come : {s : OrientedMesh} {split : SplitView} → IsSplit s split
+    → {behind to : ℕ} {begun track : TrackView} {pending : List ℕ} {steps : ℕ}
     → IsUnderWay s split behind to begun track pending steps → darts_of s ≤ steps → length pending ≡ 0
-all_come s split t behind to begun track pending steps on done =
+all_come {s} {split} t {track = track} {pending} on done =
     omega (arith, on.falls t, load_long s split t (last_of track.walk ∷ reverse pending), length-reverse pending)
 
 -- where nothing is pending, the walk is led on
-pub led_on : (s : OrientedMesh) (split : SplitView) (behind to : ℕ) (begun track : TrackView) (pending : List ℕ) (steps : ℕ)
+pub all_led : {s : OrientedMesh} {split : SplitView} {behind to : ℕ} {begun track : TrackView} {pending : List ℕ} {steps : ℕ}
     → IsUnderWay s split behind to begun track pending steps → pending ≡ []
-    → GoesOn s.mesh behind (begun.walk ++ to ∷ []) begun.list track.walk track.list × (last_of track.walk ≡ to)
-led_on s split behind to begun track pending steps on none =
-    let goes : GoesOn s.mesh behind (begun.walk ++ to ∷ []) begun.list (track.walk ++ []) track.list =
-    subst (λ (l : List ℕ). GoesOn s.mesh behind (begun.walk ++ to ∷ []) begun.list (track.walk ++ reverse l) track.list) none on.goes in
-    let ends : last_of (last_of track.walk ∷ []) ≡ to =
-    subst (λ (l : List ℕ). last_of (last_of track.walk ∷ reverse l) ≡ to) none on.ends in
-    (subst (λ (l : List ℕ). GoesOn s.mesh behind (begun.walk ++ to ∷ []) begun.list l track.list) (append-nil track.walk) goes, ends)
-
-pub led_within : (s : OrientedMesh) (split : SplitView) (behind to : ℕ) (begun track : TrackView) (pending : List ℕ) (steps : ℕ)
-    → IsUnderWay s split behind to begun track pending steps → pending ≡ []
-    → StaysWithin s split behind (begun.walk ++ to ∷ []) begun.list track.walk track.list
-led_within s split behind to begun track pending steps on none =
-    subst (λ (l : List ℕ). StaysWithin s split behind (begun.walk ++ to ∷ []) begun.list l track.list) (append-nil track.walk)
-    (subst (λ (l : List ℕ). StaysWithin s split behind (begun.walk ++ to ∷ []) begun.list (track.walk ++ reverse l) track.list) none
-    on.within)
+    → IsLedOn s split behind (begun.walk ++ to ∷ []) begun.list track.walk track.list
+all_led {s} {split} {behind} {to} {begun} {track} on none =
+    subst (λ (l : List ℕ). IsLedOn s split behind (begun.walk ++ to ∷ []) begun.list l track.list) (append-nil track.walk)
+    (subst (λ (l : List ℕ). IsLedOn s split behind (begun.walk ++ to ∷ []) begun.list (track.walk ++ reverse l) track.list) none on.led)
 
 pub one_pending : (xs ys : List VertexName) (v : VertexName) → xs ≡ ys ++ v ∷ [] → numbers xs ≡ numbers ys ++ v.0 ∷ []
 one_pending xs ys v is = ap numbers is ∙ map-append (λ (x : VertexName). x.0) ys (v ∷ [])
@@ -439,48 +376,32 @@ edge_to mesh names walk n later within none =
     ap (λ (k : ℕ). get_or (numbers names) k 0) (omega arith) ∙ get_or-map (λ (x : VertexName). x.0) names n none 0 within in
     ap (is_edge mesh (get_or (numbers names) (n - 1) 0)) (sym next) ∙ walk.edges (n - 1) before
 
--- the next vertex is reached along an edge
-pub next_edge : (s : OrientedMesh) (split : SplitView) (behind to : ℕ) (begun track : TrackView) (pending rest : List ℕ) (v steps : ℕ)
-    → IsUnderWay s split behind to begun track pending steps → pending ≡ rest ++ v ∷ [] → is_edge s.mesh (last_of track.walk) v ≡ true
-next_edge s split behind to begun track pending rest v steps on popped =
-    (subst (λ (l : List ℕ). Linked s.mesh (last_of track.walk ∷ l)) (ap (λ (l : List ℕ). reverse l) popped ∙ reverse-push rest v)
-    on.linked).0
-
 -- there is room for a step along the edge, and for one across a face
-pub room_along : (s : OrientedMesh) (split : SplitView) → IsSplit s split
-    → (behind to : ℕ) (begun track : TrackView) (pending rest : List ℕ) (v steps : ℕ)
+pub room_along : {s : OrientedMesh} {split : SplitView} → IsSplit s split
+    → {behind to : ℕ} {begun track : TrackView} {pending : List ℕ} {steps : ℕ} (rest : List ℕ) (v : ℕ)
     → IsUnderWay s split behind to begun track pending steps → pending ≡ rest ++ v ∷ []
     → length track.walk + length rest + 1 ≤ length begun.walk + darts_of s
-room_along s split t behind to begun track pending rest v steps on popped =
+room_along {s} {split} t {track = track} rest v on popped =
     omega (
       arith,
       on.long,
-      on.falls t,
-      load_long s split t (last_of track.walk ∷ reverse pending),
-      length-reverse pending,
-      ap (λ (l : List ℕ). length l) popped,
-      length-append rest (v ∷ []),
+      (rest_turned_to rest v on popped).1 t,
+      load_long s split t (last_of track.walk ∷ v ∷ reverse rest),
+      length-reverse rest,
     )
 
-pub room_across : (s : OrientedMesh) (split : SplitView) → IsOrientedSurface s → IsSplit s split
-    → (behind to : ℕ) (begun track : TrackView) (pending rest : List ℕ) (v steps : ℕ) (step : FaceStep)
+pub room_across : {s : OrientedMesh} {split : SplitView} → IsOrientedSurface s → (t : IsSplit s split)
+    → {behind to : ℕ} {begun track : TrackView} {pending : List ℕ} {steps : ℕ} {step : FaceStep} (rest : List ℕ) (v : ℕ)
     → IsUnderWay s split behind to begun track pending steps → pending ≡ rest ++ v ∷ [] → IsFaceBelow s split (last_of track.walk) v step
     → length track.walk + length rest + length (face_at s.mesh step.face.0) ≤ length begun.walk + darts_of s
-room_across s split o t behind to begun track pending rest v steps step on popped under =
-    let u : ℕ = last_of track.walk in
+room_across {s} {split} o t {track = track} {step = step} rest v on popped under =
     let ring : List ℕ = face_at s.mesh step.face.0 in
     let round : List ℕ = corners_from ring (not step.forward) step.corner (length ring - 1) in
-    let before : load s split t (u ∷ v ∷ reverse rest) + steps ≤ darts_of s =
-    subst (λ (l : List ℕ). load s split t (u ∷ l) + steps ≤ darts_of s) (ap (λ (l : List ℕ). reverse l) popped ∙ reverse-push rest v)
-    (on.falls t) in
-    let fall : load s split t round + 1 ≤ pair_weight s split t u v =
-    rest_falls s split o t step.face.0 step.corner step.forward u v under.dart under.is_step.face under.is_step.corner under.starts
-    under.ends under.from under.below in
     omega (
       arith,
       on.long,
-      before,
-      fall,
+      (rest_turned_to rest v on popped).1 t,
+      below_falls o t under,
       under.is_step.corner,
       load_long s split t (v ∷ reverse rest),
       length-reverse rest,
@@ -494,9 +415,7 @@ pub record IsLedSoFar (s : OrientedMesh) (split : SplitView) (behind : ℕ) (wal
   pub some : 0 < length track.walk
   pub no_spur : HasNoSpur track.walk
   pub last : last_of track.walk ≡ get_or walk (n - 1) 0
-  pub goes : GoesOn s.mesh behind walk begun (track.walk ++ drop n walk) track.list
-  pub within : StaysWithin s split behind walk begun (track.walk ++ drop n walk) track.list
-  pub leaves : MoreLeaveCotree s split begun.moves track.list.moves
+  pub led : IsLedOn s split behind walk begun (track.walk ++ drop n walk) track.list
 
 pub led_first : (s : OrientedMesh) (split : SplitView) (behind : ℕ) (walk : List ℕ) (begun : PeakedMoves) (track : TrackView) (v spare : ℕ)
     → 0 < length walk
@@ -508,63 +427,38 @@ led_first s split behind walk begun track v spare some is start =
       some = omega arith;
       no_spur = one_no_spur v;
       last = sym is;
-      goes = λ first rest l h. subst (λ (w : List ℕ). LeadsAtPeak s.mesh first begun (w ++ rest)) whole h;
-      within = subst (λ (w : List ℕ). StaysWithin s split behind walk begun w begun) whole (within_itself s split behind walk begun);
-      leaves = none_leave s split begun.moves;
+      led = subst (λ (w : List ℕ). IsLedOn s split behind walk begun w begun) whole (led_itself behind walk begun some);
     })
 
-pub led_more : (s : OrientedMesh) (split : SplitView) (behind : ℕ) (walk : List ℕ) (begun : PeakedMoves) (track new : TrackView)
-    (n v after : ℕ)
+pub led_more : {s : OrientedMesh} {split : SplitView} {behind : ℕ} {walk : List ℕ} {begun : PeakedMoves} {track : TrackView} {n : ℕ}
+    (new : TrackView) (v after : ℕ)
     → IsLedSoFar s split behind walk begun track n → n < length walk → get_or walk n 0 ≡ v → after ≡ length walk - n - 1 + behind
-    → GoesOn s.mesh after (track.walk ++ v ∷ []) track.list new.walk new.list → 0 < length new.walk → HasNoSpur new.walk
-    → last_of new.walk ≡ v → MoreLeaveCotree s split track.list.moves new.list.moves
-    → StaysWithin s split after (track.walk ++ v ∷ []) track.list new.walk new.list → IsLedSoFar s split behind walk begun new (n + 1)
-led_more s split behind walk begun track new n v after led l is counted goes some no_spur last more within =
+    → IsLedOn s split after (track.walk ++ v ∷ []) track.list new.walk new.list → HasNoSpur new.walk
+    → IsLedSoFar s split behind walk begun new (n + 1)
+led_more {s} {split} {behind} {walk} {begun} {track} {n} new v after so_far l is counted led no_spur =
     let place : n + 1 - 1 ≡ n = omega arith in
+    let read : track.walk ++ drop n walk ≡ track.walk ++ v ∷ drop (n + 1) walk =
+    read_on track.walk walk n v l is ∙ append_assoc track.walk (v ∷ []) (drop (n + 1) walk) in
     record {
-      some = some;
+      some = led.some;
       no_spur = no_spur;
-      last = last ∙ sym is ∙ ap (λ (k : ℕ). get_or walk k 0) (sym place);
-      goes = λ first rest k h.
-          let there : LeadsAtPeak s.mesh first track.list (track.walk ++ drop n walk ++ rest) = led.goes first rest k h in
-          let read : track.walk ++ drop n walk ++ rest ≡ track.walk ++ v ∷ [] ++ (drop (n + 1) walk ++ rest) =
-          ap (λ (w : List ℕ). w ++ rest) (read_on track.walk walk n v l is) ∙ append_assoc (track.walk ++ v ∷ []) (drop (n + 1) walk)
-          rest in
-          let count : length (drop (n + 1) walk ++ rest) ≡ after =
-          length-append (drop (n + 1) walk) rest ∙ omega (arith, length-drop (n + 1) walk, k, counted) in
-          subst (LeadsAtPeak s.mesh first new.list) (sym (append_assoc new.walk (drop (n + 1) walk) rest))
-          (goes first (drop (n + 1) walk ++ rest) count (subst (LeadsAtPeak s.mesh first track.list) read there));
-      within =
-          let read : track.walk ++ drop n walk ≡ track.walk ++ v ∷ drop (n + 1) walk =
-          read_on track.walk walk n v l is ∙ append_assoc track.walk (v ∷ []) (drop (n + 1) walk) in
-          within_on s split behind walk (track.walk ++ v ∷ drop (n + 1) walk) (new.walk ++ drop (n + 1) walk) begun track.list new.list
-          (subst (λ (w : List ℕ). StaysWithin s split behind walk begun w track.list) read led.within)
-          (within_behind s split after behind v track.walk new.walk (drop (n + 1) walk) track.list new.list some last
-          (omega (arith, counted, length-drop (n + 1) walk)) within);
-      leaves = leave_on s split begun.moves track.list.moves new.list.moves led.leaves more;
+      last = led.last ∙ last-push track.walk v ∙ sym is ∙ ap (λ (k : ℕ). get_or walk k 0) (sym place);
+      led = led_after (subst (λ (w : List ℕ). IsLedOn s split behind walk begun w track.list) read so_far.led)
+          (led_behind behind track.walk v (drop (n + 1) walk) led (omega (arith, counted, length-drop (n + 1) walk)));
     }
 
 -- when all entries are read
-pub led_all : (s : OrientedMesh) (split : SplitView) (behind : ℕ) (walk : List ℕ) (begun : PeakedMoves) (track : TrackView) (n : ℕ)
-    → IsLedSoFar s split behind walk begun track n → n ≡ length walk
-    → GoesOn s.mesh behind walk begun track.walk track.list × (last_of track.walk ≡ last_of walk)
-led_all s split behind walk begun track n led all = (
-  subst (λ (w : List ℕ). GoesOn s.mesh behind walk begun w track.list)
-      (ap (λ (w : List ℕ). track.walk ++ w) (drop_all n walk (omega arith)) ∙ append-nil track.walk) led.goes,
-  led.last ∙ ap (λ (k : ℕ). get_or walk (k - 1) 0) all,
-)
-
-pub led_all_within : (s : OrientedMesh) (split : SplitView) (behind : ℕ) (walk : List ℕ) (begun : PeakedMoves) (track : TrackView) (n : ℕ)
-    → IsLedSoFar s split behind walk begun track n → n ≡ length walk → StaysWithin s split behind walk begun track.walk track.list
-led_all_within s split behind walk begun track n led all =
-    subst (λ (w : List ℕ). StaysWithin s split behind walk begun w track.list)
-    (ap (λ (w : List ℕ). track.walk ++ w) (drop_all n walk (omega arith)) ∙ append-nil track.walk) led.within
+pub led_all : {s : OrientedMesh} {split : SplitView} {behind : ℕ} {walk : List ℕ} {begun : PeakedMoves} {track : TrackView} {n : ℕ}
+    → IsLedSoFar s split behind walk begun track n → n ≡ length walk → IsLedOn s split behind walk begun track.walk track.list
+led_all {s} {split} {behind} {walk} {begun} {track} {n} so_far all =
+    subst (λ (w : List ℕ). IsLedOn s split behind walk begun w track.list)
+    (ap (λ (w : List ℕ). track.walk ++ w) (drop_all n walk (omega arith)) ∙ append-nil track.walk) so_far.led
 
 -- a walk that is led on from itself
-pub led_whole : (s : OrientedMesh) (walk vertices : List ℕ) (begun : PeakedMoves) (track : TrackView) → vertices ≡ walk
-    → begun ≡ record { moves = []; peak = darts walk } → GoesOn s.mesh 0 vertices begun track.walk track.list
-    → LeadsAtPeak s.mesh walk track.list track.walk
-led_whole s walk vertices begun track same nowhere goes =
-    let start : LeadsAtPeak s.mesh walk begun (vertices ++ []) =
-    subst (LeadsAtPeak s.mesh walk begun) (sym (append-nil vertices ∙ same)) (leads_nowhere s.mesh walk begun nowhere) in
-    subst (LeadsAtPeak s.mesh walk track.list) (append-nil track.walk) (goes walk [] refl start)
+pub led_whole : (mesh : FaceList) (walk vertices : List ℕ) (begun : PeakedMoves) (track : TrackView) → vertices ≡ walk
+    → begun ≡ record { moves = []; peak = darts walk } → GoesOn mesh 0 vertices begun track.walk track.list
+    → LeadsAtPeak mesh walk track.list track.walk
+led_whole mesh walk vertices begun track same nowhere goes =
+    let start : LeadsAtPeak mesh walk begun (vertices ++ []) =
+    subst (LeadsAtPeak mesh walk begun) (sym (append-nil vertices ∙ same)) (leads_nowhere mesh walk begun nowhere) in
+    subst (LeadsAtPeak mesh walk track.list) (append-nil track.walk) (goes walk [] refl start)

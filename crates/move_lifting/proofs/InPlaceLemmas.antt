@@ -1,8 +1,9 @@
 -- Spurs that are taken out of a walk in place: what stands in front has none, and the rest is as it was.
-use Rattle.move_lifting.proofs.Common.{cut, ◌≡◌, inr, refl, ℕ, ◌+◌, ◌-◌, ◌<◌, ◌≤◌, max, List, [], ◌∷◌, ◌++◌, length, take, drop, get_or, ap, sym, ◌∙◌, subst, arith, length-append, take_more, take_all, drop_all, length-take-le, length-drop, get_or-take, get_or-drop, take-append-le, drop-append-le, drop-drop, FaceList, AreFreelyEqual, HasNoSpur, PeakedMoves, darts, Remove, VertexName}
+use Rattle.move_lifting.proofs.Common.{cut, ◌≡◌, inr, refl, ℕ, ◌+◌, ◌-◌, ◌<◌, ◌≤◌, max, List, [], ◌∷◌, ◌++◌, length, take, drop, get_or, ap, sym, ◌∙◌, subst, arith, length-append, take_more, take_all, drop_all, length-take-le, length-drop, get_or-take, get_or-drop, take-append-le, drop-append-le, drop-drop, All-cons, All-nil, FaceList, AreFreelyEqual, HasNoSpur, PeakedMoves, darts, Remove, VertexName}
 use Rattle.move_lifting.specs.Tracks.{TrackView, GoesOn, IsStepBack, IsNextPut, last_of}
 use Rattle.move_lifting.proofs.MoveLemmas.{step_back_goes, step_back_no_spur}
 use Rattle.move_lifting.proofs.SpurLemmas.{IsReducedSoFar, reduced_first, reduced_more, reduced_all}
+use Rattle.move_lifting.specs.Lifts.{IsRemoval}
 
 -- the first entries of a walk, as a track of their own
 abbrev pub front_of : TrackView → ℕ → TrackView
@@ -51,6 +52,7 @@ next_back behind old new front via some l no_spur same read walk_is noted =
             peak = max old.list.peak (length old.walk - 3 + behind);
           }) at noted);
     } in
+    let begun : 1 < length laid = omega (arith, laid_long) in
     let came : get_or laid (length laid - 2) 0 ≡ next =
     ap (λ (n : ℕ). get_or laid n 0) (sym at) ∙ get_or-take front old.walk (front - 2) 0 (omega arith) ∙ same in
     let last_at : length shorter - 1 ≡ front - 2 = omega (arith, short_long) in
@@ -62,12 +64,18 @@ next_back behind old new front via some l no_spur same read walk_is noted =
       within = new_long;
       rest = rest;
       leads = λ mesh. subst (λ (w : List ℕ). GoesOn mesh after (laid ++ next ∷ []) old.list w new.list) (sym here)
-          (step_back_goes mesh after next before then (omega (arith, laid_long)) came back);
+          (step_back_goes mesh next begun came back);
       some = omega arith;
-      no_spur = subst HasNoSpur (sym here) (step_back_no_spur after before then no_spur back);
+      no_spur = subst HasNoSpur (sym here) (step_back_no_spur no_spur back);
       last = ap last_of here ∙ last;
       long = omega arith;
       peak = omega (arith, ap (λ (p : PeakedMoves). p.peak) noted);
+      removals = (
+        Remove (front - 2) via ∷ [],
+        ap (λ (p : PeakedMoves). p.moves) noted,
+        All-cons IsRemoval (Remove (front - 2) via) [] tt
+            (All-nil IsRemoval),
+      );
       shape = inr (via.0, laid_is ∙ ap (λ (w : List ℕ). w ++ via.0 ∷ []) (sym here));
     }
 
@@ -89,9 +97,9 @@ in_place_first behind spare walk begun some = record {
 }
 
 -- one entry is left at least to be put
-pub in_place_next : (behind : ℕ) (walk : List ℕ) (begun : PeakedMoves) (track : TrackView) (front n : ℕ)
+pub in_place_next : {behind : ℕ} {walk : List ℕ} {begun : PeakedMoves} {track : TrackView} {front n : ℕ}
     → IsReducedInPlace behind walk begun track front n → n ≤ length walk → length track.walk + n ≡ length walk + front
-in_place_next behind walk begun track front n now l =
+in_place_next {walk} {track} {front} {n} now l =
     omega (
       arith,
       ap (λ (w : List ℕ). length w) now.rest,
@@ -101,22 +109,22 @@ in_place_next behind walk begun track front n now l =
       l,
     )
 
-pub in_place_short : (behind : ℕ) (walk : List ℕ) (begun : PeakedMoves) (track : TrackView) (front n : ℕ)
+pub in_place_short : {behind : ℕ} {walk : List ℕ} {begun : PeakedMoves} {track : TrackView} {front n : ℕ}
     → IsReducedInPlace behind walk begun track front n → n ≤ length walk → length track.walk ≤ length walk
-in_place_short behind walk begun track front n now l =
+in_place_short {track} {front} now l =
     omega (
       arith,
-      in_place_next behind walk begun track front n now l,
+      in_place_next now l,
       now.so_far.long,
       length-take-le front track.walk now.within,
     )
 
-pub in_place_more : (behind : ℕ) (walk : List ℕ) (begun : PeakedMoves) (track new : TrackView) (front next n : ℕ)
+pub in_place_more : {behind : ℕ} {walk : List ℕ} {begun : PeakedMoves} {track new : TrackView} {front next n : ℕ}
     → IsReducedInPlace behind walk begun track front n → 0 < n → n < length walk → IsNextPut behind track front new next
     → IsReducedInPlace behind walk begun new next (n + 1)
-in_place_more behind walk begun track new front next n now begins l put =
+in_place_more {behind} {walk} {track} {new} {front} {next} {n} now begins l put =
     let v : ℕ = get_or track.walk front 0 in
-    let count : length track.walk + n ≡ length walk + front = in_place_next behind walk begun track front n now (omega arith) in
+    let count : length track.walk + n ≡ length walk + front = in_place_next now (omega arith) in
     let entry : get_or walk n 0 ≡ v =
     ap (λ (k : ℕ). get_or walk k 0) (let e : n ≡ n + 0 = omega arith in e)
     ∙ sym (get_or-drop n walk 0 0) ∙ ap (λ (w : List ℕ). get_or w 0 0) (sym now.rest) ∙ get_or-drop front track.walk 0 0
@@ -124,9 +132,10 @@ in_place_more behind walk begun track new front next n now begins l put =
     let laid_long : length (take front track.walk) ≡ front = length-take-le front track.walk now.within in
     let put_long : length (take next new.walk) ≡ next = length-take-le next new.walk put.within in
     record {
-      so_far = reduced_more behind walk begun (front_of track front) (front_of new next) n v (length track.walk - front - 1 + behind)
-          now.so_far begins l entry (omega (arith, count, now.within)) put.leads (omega (arith, put_long, put.some)) put.no_spur put.last
-          (omega (arith, put_long, laid_long, put.long)) put.shape (omega (arith, put.peak, laid_long, count, now.within, l));
+      so_far = reduced_more (front_of new next) v (length track.walk - front - 1 + behind) now.so_far begins l entry
+          (omega (arith, count, now.within)) put.leads (omega (arith, put_long, put.some)) put.no_spur put.last
+          (omega (arith, put_long, laid_long, put.long)) put.shape (omega (arith, put.peak, laid_long, count, now.within, l))
+          put.removals;
       some = put.some;
       within = put.within;
       rest = put.rest ∙ sym (drop-drop 1 front track.walk) ∙ ap (λ (w : List ℕ). drop 1 w) now.rest ∙ drop-drop 1 n walk;
@@ -141,13 +150,13 @@ pub record IsReduced (behind : ℕ) (walk : List ℕ) (begun : PeakedMoves) (tra
   pub few : length track.walk ≤ length walk
   pub peak : track.list.peak ≤ max begun.peak (darts walk + behind)
 
-pub in_place_all : (behind : ℕ) (walk : List ℕ) (begun : PeakedMoves) (track : TrackView) (front n : ℕ)
+pub in_place_all : {behind : ℕ} {walk : List ℕ} {begun : PeakedMoves} {track : TrackView} {front n : ℕ}
     → IsReducedInPlace behind walk begun track front n → n ≡ length walk → IsReduced behind walk begun track
-in_place_all behind walk begun track front n now all =
+in_place_all {behind} {walk} {begun} {track} {front} {n} now all =
     let count : length track.walk + n ≡ length walk + front =
-    in_place_next behind walk begun track front n now (omega (arith, all)) in
+    in_place_next now (omega (arith, all)) in
     let whole : take front track.walk ≡ track.walk = take_all front track.walk (omega (arith, count, all)) in
-    let end = reduced_all behind walk begun (front_of track front) n now.so_far all in
+    let end = reduced_all now.so_far all in
     record {
       goes = λ mesh. subst (λ (w : List ℕ). GoesOn mesh behind walk begun w track.list) whole (end.0 mesh);
       freely = λ mesh. subst (λ (w : List ℕ). AreFreelyEqual mesh walk w) whole (end.1 mesh);

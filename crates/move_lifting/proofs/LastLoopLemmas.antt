@@ -150,7 +150,7 @@ is_all_round s split polygon o c some back turned around l along is =
         get_or-le-sum_by (λ (l : List ℕ). length l) s.mesh.faces (face_of s d) [] at.in_list,
       );
       light = λ t. subst (λ (l : List ℕ). load_of (pair_weight s split t) l ≤ darts_of s) (sym read)
-          (root_round s split o t (face_of s d) (start_corner_of s d) turned.forward root at.in_list at.in_face);
+          (root_round o t (face_of s d) (start_corner_of s d) turned.forward root at.in_list at.in_face);
       is_walk = keeps_walk s.mesh (v ∷ []) around (Across 0 turned.face turned.corner (not turned.forward) 0) one leads;
       leads = leads;
       goes = by ring rising (start_corner_of s d) v rest around (way_round s split d) read round at.in_face at.vertex begins back
@@ -235,9 +235,9 @@ pub last_below : (s : OrientedMesh) (split : SplitView) (polygon : PolygonView) 
 last_below s split polygon c some = side_in s split polygon c some (polygon.degree - 1)
 
 -- where a step from a dart stands
-pub step_within : (s : OrientedMesh) (d : ℕ) (back : Bool) (step : FaceStep) → d < darts_of s → IsStepFrom s d back step
+pub step_within : {s : OrientedMesh} {d : ℕ} {back : Bool} {step : FaceStep} → d < darts_of s → IsStepFrom s d back step
     → IsStepOf s.mesh step
-step_within s d back step l along =
+step_within {s} {d} {step} l along =
     let at = at_face s d l in
     record {
       face = subst (λ (f : ℕ). f < length s.mesh.faces) (sym along.face) at.in_list;
@@ -245,9 +245,9 @@ step_within s d back step l along =
           (subst (λ (k : ℕ). k < length (face_at s.mesh (face_of s d))) (sym along.corner) at.in_face);
     }
 
-pub step_starts : (s : OrientedMesh) (d : ℕ) (back : Bool) (step : FaceStep) → d < darts_of s → IsStepFrom s d back step
+pub step_starts : {s : OrientedMesh} {d : ℕ} {back : Bool} {step : FaceStep} → d < darts_of s → IsStepFrom s d back step
     → origin_of s d ≡ get_or (face_at s.mesh step.face.0) step.corner 0
-step_starts s d back step l along =
+step_starts {s} {d} {step} l along =
     (at_face s d l).vertex ∙ ap (λ (f : ℕ). get_or (face_at s.mesh f) (start_corner_of s d) 0) (sym along.face)
     ∙ ap (λ (k : ℕ). get_or (face_at s.mesh step.face.0) k 0) (sym along.corner)
 

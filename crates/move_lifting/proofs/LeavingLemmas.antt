@@ -1,22 +1,22 @@
 -- Moves that come to a list of moves: removals, and moves that lead off the cotree.
-use Rattle.move_lifting.proofs.Common.{OrientedMesh, LeavesCotree, ℕ, ◌-◌, List, [], ◌∷◌, ◌++◌, refl, ap, sym, ◌∙◌, append_assoc, append-nil, All-append, All-nil, All-cons, darts, Move, Insert, Remove, Across, SplitView}
-use Rattle.move_lifting.specs.Lifts.{IsRemoval, MoreRemove, MoreLeaveCotree}
+use Rattle.move_lifting.proofs.Common.{OrientedMesh, LeavesCotree, ℕ, List, [], ◌∷◌, ◌++◌, refl, ap, sym, ◌∙◌, append_assoc, append-nil, All-append, All-nil, All-cons, darts, Move, Insert, Remove, Across, SplitView}
+use Rattle.move_lifting.specs.Lifts.{ComeMore, IsRemoval, MoreRemove, MoreLeaveCotree}
 use Rattle.move_lifting.specs.Tracks.{TrackView}
 use Rattle.move_lifting.specs.Crossings.{IsFaceBelow, IsCrossed}
 use Rattle.move_lifting.specs.declared.crossing.FaceStep.{FaceStep}
 
-pub none_leave : (s : OrientedMesh) (split : SplitView) (moves : List Move) → MoreLeaveCotree s split moves moves
-none_leave s split moves = ([], sym (append-nil moves), All-nil (LeavesCotree s split))
-
-pub leave_on : (s : OrientedMesh) (split : SplitView) (a b c : List Move) → MoreLeaveCotree s split a b → MoreLeaveCotree s split b c
-    → MoreLeaveCotree s split a c
-leave_on s split a b c one two = (
+-- more moves, and others behind these
+pub more_on : (IsSuch : Move → Type 0) (a b c : List Move) → ComeMore IsSuch a b → ComeMore IsSuch b c → ComeMore IsSuch a c
+more_on IsSuch a b c one two = (
   one.0 ++ two.0,
   two.1 ∙ ap (λ (l : List Move). l ++ two.0) one.1 ∙ append_assoc a one.0 two.0,
-  All-append (LeavesCotree s split) one.0 two.0 one.2 two.2,
+  All-append IsSuch one.0 two.0 one.2 two.2,
 )
 
--- a removal is such a move
+pub none_more : (IsSuch : Move → Type 0) (moves : List Move) → ComeMore IsSuch moves moves
+none_more IsSuch moves = ([], sym (append-nil moves), All-nil IsSuch)
+
+-- a removal is a move that leads off the cotree
 removal_leaves : (s : OrientedMesh) (split : SplitView) (move : Move) → IsRemoval move → LeavesCotree s split move
 removal_leaves s split (Insert at via) h = absurd h
 removal_leaves s split (Remove at via) h = tt
@@ -38,10 +38,10 @@ step_leaves s split u v at step under = record {
   one = refl;
 }
 
-pub crossed_leaves : (s : OrientedMesh) (split : SplitView) (u v behind : ℕ) (step : FaceStep) (old new : TrackView) (pending left : List ℕ)
-    → IsFaceBelow s split u v step
-    → IsCrossed s.mesh step behind old pending new left → MoreLeaveCotree s split old.list.moves new.list.moves
-crossed_leaves s split u v behind step old new pending left under crossed = (
+pub crossed_leaves : {s : OrientedMesh} {split : SplitView} {u v behind : ℕ} {step : FaceStep} {old new : TrackView} {pending left : List ℕ}
+    → IsFaceBelow s split u v step → IsCrossed s.mesh step behind old pending new left
+    → MoreLeaveCotree s split old.list.moves new.list.moves
+crossed_leaves {s} {split} {u} {v} {step} {old} under crossed = (
   Across (darts old.walk) step.face step.corner step.forward 1 ∷ [],
   ap (λ l. l.moves) crossed.list,
   All-cons (LeavesCotree s split) (Across (darts old.walk) step.face step.corner step.forward 1) []

@@ -10,6 +10,7 @@ pub mod RestLemmas
 pub mod CrossingLemmas
 pub mod LeavingLemmas
 pub mod WithinLemmas
+pub mod LedLemmas
 pub mod ExpandLemmas
 pub mod BoundLemmas
 pub mod OffCotreeLemmas

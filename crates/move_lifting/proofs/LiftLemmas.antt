@@ -1,5 +1,5 @@
 -- The closed walk along the first and back along the second is contracted, and the second is left.
-use Rattle.move_lifting.proofs.Common.{leads_nowhere, walk_front, OrientedMesh, IsOrientedSurface, PolygonView, IsCutFrom, LeavesCotree, IsOffCotree, spokes_along, free_walk_below, PathLeads, ◌≡◌, ℕ, ◌<◌, refl, List, [], ◌∷◌, ◌++◌, length, drop, get_or, ap, sym, ◌∙◌, subst, arith, drop_more, length-drop, get_or_append_left, All, Some, option_and_then, list_keeps_walk, list_keeps_ends, FaceList, HasNoSpur, PeakedMoves, Leads, Homotopic, apply, apply_all, numbers, IsWalk, HaveCommonEnds, darts, AreWalkPair, Move, VertexName, SplitView, IsSplit}
+use Rattle.move_lifting.proofs.Common.{leads_nowhere, walk_front, OrientedMesh, IsOrientedSurface, PolygonView, LeavesCotree, IsOffCotree, spokes_along, free_walk_below, PathLeads, ◌≡◌, ℕ, ◌<◌, refl, List, [], ◌∷◌, ◌++◌, length, drop, get_or, ap, sym, ◌∙◌, subst, arith, drop_more, length-drop, get_or_append_left, All, Some, option_and_then, list_keeps_walk, list_keeps_ends, FaceList, HasNoSpur, PeakedMoves, Leads, Homotopic, apply, apply_all, numbers, IsWalk, HaveCommonEnds, darts, AreWalkPair, Move, VertexName, SplitView, IsSplit}
 use Rattle.std.proofs.lemmas.Option.{option_and_then_some}
 use Rattle.move_lifting.specs.Contractions.{IsLedFrom, LeavesNothing}
 use Rattle.move_lifting.specs.LoopsPutIn.{IsFreelyPath}
@@ -7,14 +7,15 @@ use Rattle.move_lifting.specs.Reductions.{IsReductionOf}
 use Rattle.move_lifting.specs.declared.reducing.Reduction.{Reduction}
 use Rattle.move_lifting.proofs.HomeLemmas.{nothing_is_left}
 use Rattle.move_lifting.proofs.StartLemmas.{starts_freely}
-use Rattle.move_lifting.specs.Lifts.{LeadsAtPeak, MoreLeaveCotree}
+use Rattle.move_lifting.specs.Lifts.{LeadsAtPeak}
 use Rattle.move_lifting.specs.Tracks.{TrackView, GoesOn, last_of}
 use Rattle.move_lifting.proofs.TreeLiftLemmas.{one_vertex}
+use Rattle.move_lifting.specs.Loads.{IsLedOn}
+use Rattle.move_lifting.specs.Cuts.{IsCutSurface}
 
 -- what is done to the vertices of the first walk, done from the first walk on
 pub closed_from : (mesh : FaceList) (first second vertices closed : List ℕ) (begun list : PeakedMoves) (n : ℕ) → IsWalk mesh second
-    → vertices ≡ first
-    → begun ≡ record { moves = []; peak = n } → n ≡ darts first
+    → vertices ≡ first → begun ≡ record { moves = []; peak = n } → n ≡ darts first
     → ((face_list : FaceList) (walk : List ℕ) → IsWalk face_list second → LeadsAtPeak face_list walk begun vertices
     → LeadsAtPeak face_list walk list (closed ++ drop 1 second))
     → LeadsAtPeak mesh first list (closed ++ drop 1 second)
@@ -24,8 +25,7 @@ closed_from mesh first second vertices closed begun list n w same is count goes 
 
 -- the closed walk is one
 pub closed_walk : (mesh : FaceList) (first closed rest : List ℕ) (list : PeakedMoves) → IsWalk mesh first
-    → LeadsAtPeak mesh first list (closed ++ rest)
-    → 0 < length closed → IsWalk mesh closed
+    → LeadsAtPeak mesh first list (closed ++ rest) → 0 < length closed → IsWalk mesh closed
 closed_walk mesh first closed rest list w h some =
     walk_front mesh closed rest some (list_keeps_walk mesh list.moves first (closed ++ rest) w h.leads)
 
@@ -52,21 +52,20 @@ closed_is mesh first second names list track walks leads some meets same noted =
     }))
 
 -- where the closed walk is one vertex, the second walk is all that stands there
-pub second_there : (mesh : FaceList) (first closed second : List ℕ) (list : PeakedMoves) → IsClosed mesh first closed second list
+pub second_there : {mesh : FaceList} {first second : List ℕ} {list : PeakedMoves} (closed : List ℕ) → IsClosed mesh first closed second list
     → length closed ≡ 1 → 0 < length second → LeadsAtPeak mesh first list second
-second_there mesh first [] second list k one some = absurd (omega (arith, one))
-second_there mesh first (v ∷ []) second list k one some =
+second_there [] k one some = absurd (omega (arith, one))
+second_there {mesh} {first} {second} {list} (v ∷ []) k one some =
     let whole : v ∷ drop 1 second ≡ second = ap (λ (x : ℕ). x ∷ drop 1 second) k.meets ∙ sym (drop_more second 0 0 some) in
     subst (LeadsAtPeak mesh first list) whole k.led
-second_there mesh first (v ∷ w ∷ rest) second list k one some = absurd (omega (arith, one))
+second_there (v ∷ w ∷ rest) k one some = absurd (omega (arith, one))
 
 pub second_left : (s : OrientedMesh) (split : SplitView) → IsOrientedSurface s → IsSplit s split → split.genus ≡ 0
     → (first closed second : List ℕ) (list : PeakedMoves) (track : TrackView)
     → IsWalk s.mesh first → 0 < length second → get_or first 0 0 ≡ get_or second 0 0
     → LeadsAtPeak s.mesh first list (closed ++ drop 1 second)
     → GoesOn s.mesh (darts second) closed list track.walk track.list → IsOffCotree s split track.walk → HasNoSpur track.walk
-    → 0 < length track.walk
-    → last_of track.walk ≡ get_or second 0 0 → LeadsAtPeak s.mesh first track.list second
+    → 0 < length track.walk → last_of track.walk ≡ get_or second 0 0 → LeadsAtPeak s.mesh first track.list second
 second_left s split o t sphere first closed second list track w some common h goes off no_spur track_some last =
     let rest : List ℕ = drop 1 second in
     let v : ℕ = get_or second 0 0 in
@@ -75,7 +74,7 @@ second_left s split o t sphere first closed second list track w some common h go
     let ends : HaveCommonEnds first (track.walk ++ rest) =
     list_keeps_ends s.mesh track.list.moves first (track.walk ++ rest) w.starts there.leads in
     let start : get_or track.walk 0 0 ≡ v = sym (get_or_append_left track.walk rest 0 0 track_some) ∙ sym ends.starts ∙ common in
-    let one : track.walk ≡ v ∷ [] = one_vertex s split o t sphere track.walk v walk off no_spur start last in
+    let one : track.walk ≡ v ∷ [] = one_vertex o t sphere track.walk v walk off no_spur start last in
     let whole : track.walk ++ rest ≡ second = ap (λ (l : List ℕ). l ++ rest) one ∙ sym (drop_more second 0 0 some) in
     subst (LeadsAtPeak s.mesh first track.list) whole there
 
@@ -91,7 +90,7 @@ leads_rest mesh (move ∷ moves) more a b c h k =
 
 -- The closed walk that was led off the cotree, with the second walk behind it.
 pub record IsBegun (s : OrientedMesh) (split : SplitView) (first closed second : List ℕ) (track : TrackView) : Type 0 where
-  pub led : IsLedFrom s.mesh (darts second) track
+  pub led : IsLedFrom s.mesh (darts second) track.walk track.list
   pub walk : IsWalk s.mesh closed
   pub there : Homotopic s.mesh first (closed ++ drop 1 second)
   pub start : get_or track.walk 0 0 ≡ get_or second 0 0
@@ -104,27 +103,26 @@ pub record IsBegun (s : OrientedMesh) (split : SplitView) (first closed second :
 pub begun_from : (s : OrientedMesh) (split : SplitView) (first closed second : List ℕ) (list : PeakedMoves) (track : TrackView)
     → IsWalk s.mesh first → IsWalk s.mesh second
     → get_or first 0 0 ≡ get_or second 0 0 → LeadsAtPeak s.mesh first list (closed ++ drop 1 second) → 0 < length closed
-    → GoesOn s.mesh (darts second) closed list track.walk track.list → MoreLeaveCotree s split list.moves track.list.moves
-    → 0 < length track.walk
-    → last_of track.walk ≡ get_or second 0 0 → IsBegun s split first closed second track
-begun_from s split first closed second list track w z common h closed_some goes more track_some last =
+    → IsLedOn s split (darts second) closed list track.walk track.list → last_of track.walk ≡ get_or second 0 0
+    → IsBegun s split first closed second track
+begun_from s split first closed second list track w z common h closed_some led last =
     let rest : List ℕ = drop 1 second in
-    let there : LeadsAtPeak s.mesh first track.list (track.walk ++ rest) = goes first rest (length-drop 1 second) h in
+    let there : LeadsAtPeak s.mesh first track.list (track.walk ++ rest) = led.goes first rest (length-drop 1 second) h in
     let ends : HaveCommonEnds first (track.walk ++ rest) =
     list_keeps_ends s.mesh track.list.moves first (track.walk ++ rest) w.starts there.leads in
-    let start : get_or track.walk 0 0 ≡ get_or second 0 0 = sym (get_or_append_left track.walk rest 0 0 track_some) ∙ sym ends.starts
+    let start : get_or track.walk 0 0 ≡ get_or second 0 0 = sym (get_or_append_left track.walk rest 0 0 led.some) ∙ sym ends.starts
     ∙ common in
     record {
-      led = record { first = first; rest = rest; starts = w; long = length-drop 1 second; leads = there; some = track_some };
+      led = record { first = first; rest = rest; starts = w; long = length-drop 1 second; leads = there; some = led.some };
       walk = closed_walk s.mesh first closed rest list w h closed_some;
       there = (list.moves, h.leads);
       start = start;
       home = last ∙ sym start;
       leads = (refl, refl);
-      more = more.0;
-      goes = leads_rest s.mesh list.moves more.0 first (closed ++ rest) (track.walk ++ rest) h.leads
-          (subst (λ (l : List Move). Leads s.mesh first l (track.walk ++ rest)) more.1 there.leads);
-      leaves = more.2;
+      more = led.leaves.0;
+      goes = leads_rest s.mesh list.moves led.leaves.0 first (closed ++ rest) (track.walk ++ rest) h.leads
+          (subst (λ (l : List Move). Leads s.mesh first l (track.walk ++ rest)) led.leaves.1 there.leads);
+      leaves = led.leaves.2;
     }
 
 -- what the closed walk becomes off the cotree
@@ -134,30 +132,25 @@ pub record IsLedOff (s : OrientedMesh) (split : SplitView) (first closed second 
   pub last : last_of track.walk ≡ get_or second 0 0
   pub begun : IsBegun s split first closed second track
 
-pub off_cotree : (s : OrientedMesh) (split : SplitView) (first second : List ℕ) (names read : List VertexName) (list : PeakedMoves)
-    (track : TrackView) (behind : ℕ)
-    → AreWalkPair s.mesh first second → IsClosed s.mesh first (numbers names) second list → read ≡ names → behind ≡ darts second
-    → GoesOn s.mesh behind (numbers read) list track.walk track.list → MoreLeaveCotree s split list.moves track.list.moves
-    → 0 < length track.walk → last_of track.walk ≡ last_of (numbers read)
-    → IsLedOff s split first (numbers names) second list track
-off_cotree s split first second names read list track behind walks k same counted goes more some last =
-    let ends : last_of track.walk ≡ get_or second 0 0 = last ∙ ap (λ (l : List VertexName). last_of (numbers l)) same ∙ k.meets in
-    let on : GoesOn s.mesh (darts second) (numbers names) list track.walk track.list =
-    subst (λ (l : List VertexName). GoesOn s.mesh (darts second) (numbers l) list track.walk track.list) same
-    (subst (λ (n : ℕ). GoesOn s.mesh n (numbers read) list track.walk track.list) counted goes) in
+pub off_cotree : {s : OrientedMesh} {split : SplitView} {first second closed : List ℕ} {list : PeakedMoves} (track : TrackView) (behind : ℕ)
+    → AreWalkPair s.mesh first second → IsClosed s.mesh first closed second list → behind ≡ darts second
+    → IsLedOn s split behind closed list track.walk track.list → IsLedOff s split first closed second list track
+off_cotree {s} {split} {first} {second} {closed} {list} track behind walks k counted led =
+    let on : IsLedOn s split (darts second) closed list track.walk track.list =
+    subst (λ (n : ℕ). IsLedOn s split n closed list track.walk track.list) counted led in
+    let ends : last_of track.walk ≡ get_or second 0 0 = on.last ∙ k.meets in
     record {
-      goes = on;
+      goes = on.goes;
       last = ends;
-      begun = begun_from s split first (numbers names) second list track walks.first_walk walks.second_walk walks.ends.starts k.led k.some
-          on more some ends;
+      begun = begun_from s split first closed second list track walks.first_walk walks.second_walk walks.ends.starts k.led k.some on ends;
     }
 
 -- and the second walk is left behind one vertex
-pub second_stays : (s : OrientedMesh) (split : SplitView) (first closed second : List ℕ) (track after : TrackView)
+pub second_stays : {s : OrientedMesh} {split : SplitView} {first closed second : List ℕ} {track : TrackView} (after : TrackView)
     → IsBegun s split first closed second track → 0 < length second
     → GoesOn s.mesh (darts second) track.walk track.list after.walk after.list → after.walk ≡ get_or track.walk 0 0 ∷ []
     → LeadsAtPeak s.mesh first after.list second
-second_stays s split first closed second track after begun some goes one =
+second_stays {s} {second} after begun some goes one =
     let rest : List ℕ = drop 1 second in
     let there : LeadsAtPeak s.mesh begun.led.first after.list (after.walk ++ begun.led.rest) =
     goes begun.led.first begun.led.rest begun.led.long begun.led.leads in
@@ -166,43 +159,42 @@ second_stays s split first closed second track after begun some goes one =
     subst (λ (l : List ℕ). LeadsAtPeak s.mesh l after.list second) (sym begun.leads.0)
     (subst (LeadsAtPeak s.mesh begun.led.first after.list) (ap (λ (l : List ℕ). after.walk ++ l) (sym begun.leads.1) ∙ whole) there)
 
--- Nothing is left of the spokes where the walks are homotopic, and the steps that leave nothing may be followed.
-pub homotopic_leaves_nothing : (s : OrientedMesh) (split : SplitView) (polygon : PolygonView) → IsOrientedSurface s → IsSplit s split
-    → IsCutFrom s split polygon → 0 < polygon.degree
-    → (first closed second vertices : List ℕ) (list : PeakedMoves) (reduction : Reduction) (r : IsReductionOf s polygon vertices reduction)
-    → vertices ≡ closed → IsWalk s.mesh first
-    → 0 < length closed → 0 < length second → last_of closed ≡ get_or second 0 0 → LeadsAtPeak s.mesh first list (closed ++ drop 1 second)
-    → Homotopic s.mesh first second → r.end ≡ []
-homotopic_leaves_nothing s split polygon o t cut some first closed second vertices list reduction r is w closed_some second_some meets led
-    same =
-    nothing_is_left s split polygon o t cut some r.spokes.spokes r.spokes.free first closed second r.end reduction.steps.items w
-    (closed_walk s.mesh first closed (drop 1 second) list w led closed_some) second_some meets (list.moves, led.leads)
-    (subst (λ (l : List ℕ). PathLeads polygon.places l reduction.steps.items r.end) (r.spokes.path_is
-    ∙ ap (spokes_along r.spokes.spokes) is) r.leads) r.reduced same
+module _ {s : OrientedMesh} {split : SplitView} {polygon : PolygonView} (is_cut : IsCutSurface s split polygon) where
+  open is_cut use {valid as o, tree as t, cut, some}
 
-pub steps_to_nothing : (s : OrientedMesh) (split : SplitView) (polygon : PolygonView) → IsOrientedSurface s → IsSplit s split
-    → IsCutFrom s split polygon → 0 < polygon.degree
-    → (closed vertices : List ℕ) (reduction : Reduction) (r : IsReductionOf s polygon vertices reduction) → vertices ≡ closed
-    → IsWalk s.mesh closed → r.end ≡ []
-    → LeavesNothing polygon reduction
-steps_to_nothing s split polygon o t cut some closed vertices reduction r is w none = record {
-  wheel = r.wheel;
-  below = subst (λ (l : List ℕ). All (λ i. i < polygon.degree) l) (sym (r.spokes.path_is ∙ ap (spokes_along r.spokes.spokes) is))
-      (subst (λ n. All (λ i. i < n) (spokes_along r.spokes.spokes closed)) (cut.places some).each_spoke
-      (free_walk_below s split polygon o t cut some r.spokes.spokes r.spokes.free closed w));
-  leads = subst (λ (l : List ℕ). PathLeads polygon.places reduction.spokes.items reduction.steps.items l) none r.leads;
-}
+  -- Nothing is left of the spokes where the walks are homotopic, and the steps that leave nothing may be followed.
+  pub homotopic_leaves_nothing : (first closed second vertices : List ℕ) (list : PeakedMoves) (reduction : Reduction) (r : IsReductionOf s
+      polygon vertices reduction)
+      → vertices ≡ closed → IsWalk s.mesh first
+      → 0 < length closed → 0 < length second → last_of closed ≡ get_or second 0 0 → LeadsAtPeak s.mesh first list (closed ++ drop 1 second)
+      → Homotopic s.mesh first second → r.end ≡ []
+  homotopic_leaves_nothing first closed second vertices list reduction r is w closed_some second_some meets led
+      same =
+      nothing_is_left is_cut r.spokes.spokes r.spokes.free first closed second r.end reduction.steps.items w
+      (closed_walk s.mesh first closed (drop 1 second) list w led closed_some) second_some meets (list.moves, led.leads)
+      (subst (λ (l : List ℕ). PathLeads polygon.places l reduction.steps.items r.end) (r.spokes.path_is
+      ∙ ap (spokes_along r.spokes.spokes) is) r.leads) r.reduced same
 
--- and the walk of the track is the loop of the spokes, up to spurs
-pub begun_freely : (s : OrientedMesh) (split : SplitView) (polygon : PolygonView) → IsOrientedSurface s → IsSplit s split
-    → IsCutFrom s split polygon → 0 < polygon.degree
-    → (first closed second vertices : List ℕ) (list : PeakedMoves) (track : TrackView) (reduction : Reduction)
-    (r : IsReductionOf s polygon vertices reduction) → vertices ≡ closed
-    → IsWalk s.mesh first → 0 < length closed → last_of closed ≡ get_or second 0 0 → LeadsAtPeak s.mesh first list (closed ++ drop 1 second)
-    → IsBegun s split first closed second track → IsOffCotree s split track.walk → last_of track.walk ≡ get_or second 0 0
-    → IsFreelyPath s split polygon reduction.spokes.items track.walk
-begun_freely s split polygon o t cut some first closed second vertices list track reduction r is w closed_some meets led begun off last =
-    subst (λ (l : List ℕ). IsFreelyPath s split polygon l track.walk) (sym (r.spokes.path_is ∙ ap (spokes_along r.spokes.spokes) is))
-    (starts_freely s split polygon o t cut some r.spokes.spokes r.spokes.free closed track.walk (drop 1 second) begun.more
-    (list_keeps_walk s.mesh list.moves first (closed ++ drop 1 second) w led.leads) begun.goes begun.leaves off closed_some begun.led.some
-    (last ∙ sym meets) (sym begun.home))
+  pub steps_to_nothing : (closed vertices : List ℕ) (reduction : Reduction) (r : IsReductionOf s polygon vertices reduction)
+      → vertices ≡ closed
+      → IsWalk s.mesh closed → r.end ≡ [] → LeavesNothing polygon reduction
+  steps_to_nothing closed vertices reduction r is w none = record {
+    wheel = r.wheel;
+    below = subst (λ (l : List ℕ). All (λ i. i < polygon.degree) l) (sym (r.spokes.path_is ∙ ap (spokes_along r.spokes.spokes) is))
+        (subst (λ n. All (λ i. i < n) (spokes_along r.spokes.spokes closed)) (cut.places some).each_spoke
+        (free_walk_below s split polygon o t cut some r.spokes.spokes r.spokes.free closed w));
+    leads = subst (λ (l : List ℕ). PathLeads polygon.places reduction.spokes.items reduction.steps.items l) none r.leads;
+  }
+
+  -- and the walk of the track is the loop of the spokes, up to spurs
+  pub begun_freely : (first closed second vertices : List ℕ) (list : PeakedMoves) (track : TrackView) (reduction : Reduction)
+      (r : IsReductionOf s polygon vertices reduction) → vertices ≡ closed
+      → IsWalk s.mesh first → 0 < length closed → last_of closed ≡ get_or second 0 0
+      → LeadsAtPeak s.mesh first list (closed ++ drop 1 second)
+      → IsBegun s split first closed second track → IsOffCotree s split track.walk → last_of track.walk ≡ get_or second 0 0
+      → IsFreelyPath s split polygon reduction.spokes.items track.walk
+  begun_freely first closed second vertices list track reduction r is w closed_some meets led begun off last =
+      subst (λ (l : List ℕ). IsFreelyPath s split polygon l track.walk) (sym (r.spokes.path_is ∙ ap (spokes_along r.spokes.spokes) is))
+      (starts_freely is_cut r.spokes.spokes r.spokes.free closed track.walk (drop 1 second) begun.more
+      (list_keeps_walk s.mesh list.moves first (closed ++ drop 1 second) w led.leads) begun.goes begun.leaves off closed_some begun.led.some
+      (last ∙ sym meets) (sym begun.home))

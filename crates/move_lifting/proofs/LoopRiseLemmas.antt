@@ -1,21 +1,20 @@
 -- How high the peak rises where the loop of the last side is put in: the approach and the way back and on have no spur, so they are no
 -- longer than the short walks that they are up to spurs.
-use Rattle.move_lifting.proofs.Common.{darts_of, origin_of, OrientedMesh, IsOrientedSurface, by_own_loop, backward_is, SameFreely, loops_make_a_free_group, free_equality, loop_on, loop_home, up, up_path, IsWay, HasWays, Loop, loop_mul, loop_inv, loop_of, back, start_used, way_home, way_on, way_walk, PolygonView, IsCutFrom, IsFreelyShort, AreShortAround, AreWaysUp, backward, by_loop, last_side, path_loop, ◌≡◌, ℕ, zero, suc, ◌+◌, ◌*◌, ◌-◌, ◌<◌, ◌≤◌, true, List, ◌∷◌, ◌++◌, length, drop, get_or, ap, sym, ◌∙◌, subst, arith, mul-le-mul_right, IsTrue, All, list_keeps_walk, FaceList, is_used, AreFreelyEqual, HasNoSpur, IsWalk, darts, SplitView, IsSplit}
+use Rattle.move_lifting.proofs.Common.{darts_of, OrientedMesh, by_own_loop, backward_is, SameFreely, loops_make_a_free_group, free_equality, loop_on, loop_home, up, up_path, IsWay, HasWays, Loop, loop_mul, loop_inv, loop_of, back, way_home, way_on, way_walk, PolygonView, IsFreelyShort, AreShortAround, AreWaysUp, backward, by_loop, path_loop, ◌≡◌, ℕ, zero, suc, ◌+◌, ◌*◌, ◌-◌, ◌<◌, ◌≤◌, true, List, ◌∷◌, ◌++◌, length, drop, get_or, ap, sym, ◌∙◌, subst, arith, mul-le-mul_right, All, list_keeps_walk, FaceList, AreFreelyEqual, HasNoSpur, IsWalk, darts, SplitView}
 use Rattle.polygon_cut.proofs.ShortWalkLemmas.{spokes_short}
 use Rattle.polygon_cut.proofs.TreePathLemmas.{few_vertices}
 use Rattle.move_lifting.specs.LoopsPutIn.{IsFreelyPath}
-use Rattle.move_lifting.specs.SpokeWalks.{AreSpokeWalks, HasWalk, walks_loop}
 use Rattle.move_lifting.specs.Tracks.{last_of}
 use Rattle.move_lifting.specs.TurnPeaks.{RisesWithTurn, KeepsBound}
 use Rattle.move_lifting.specs.declared.expanding.TheConstants.{MOST_LIFTED_SIDES, MOST_LIFTED_DARTS}
 use Rattle.move_lifting.proofs.ApproachLemmas.{GoesFrom, goes_end, goes_walk, has_ways, path_way, walk_goes}
-use Rattle.move_lifting.proofs.LoopInLemmas.{approach_by, approach_free, approach_goes, loop_by, whole_way}
+use Rattle.move_lifting.proofs.LoopInLemmas.{approach_free, approach_goes, loop_by, whole_way, IsByTree}
 use Rattle.move_lifting.proofs.ShortestLemmas.{reduced_is_shortest}
+use Rattle.move_lifting.specs.Cuts.{IsCutSurface}
 
 -- a walk without spurs that is a short one up to spurs is short
 pub shortest : (s : OrientedMesh) (pairs : ℕ) (walk reduced : List ℕ) → IsWalk s.mesh walk → AreFreelyEqual s.mesh walk reduced
-    → HasNoSpur reduced → IsFreelyShort s pairs walk
-    → 2 * darts reduced + 6 * pairs + 2 ≤ 3 * (pairs * darts_of s) + darts_of s
+    → HasNoSpur reduced → IsFreelyShort s pairs walk → 2 * darts reduced + 6 * pairs + 2 ≤ 3 * (pairs * darts_of s) + darts_of s
 shortest s pairs walk reduced w free clean h =
     let f = free_equality s.mesh in
     let both : AreFreelyEqual s.mesh h.short reduced = f.on h.short walk reduced (f.turn walk h.short w h.freely) free in
@@ -62,8 +61,9 @@ fewer_pairs a b pairs n l some =
     let product : pairs * n ≡ a * n + b * n + more * n = ap (λ m. m * n) (sym whole) ∙ pairs_apart a b more n in
     omega (arith, whole, product, times_two more n some)
 
-module _ (s : OrientedMesh) (split : SplitView) (o : IsOrientedSurface s) (t : IsSplit s split) (polygon : PolygonView)
-    (c : IsCutFrom s split polygon) (some : 0 < polygon.degree) where
+module _ {s : OrientedMesh} {split : SplitView} {polygon : PolygonView} (is_cut : IsCutSurface s split polygon) where
+  open is_cut use {valid as o, tree as t, cut as c, some}
+
   -- the approach, and the way back along it and on, as loops up to spurs
   record AreByLoops (x y : ℕ) (walk approach front path : List ℕ) : Type 0 where
     there : IsWalk s.mesh (by_loop (up s split t) x y (path_loop s polygon t.parents.root (up s split t) true front))
@@ -76,13 +76,10 @@ module _ (s : OrientedMesh) (split : SplitView) (o : IsOrientedSurface s) (t : I
         ++ path_loop s polygon t.parents.root (up s split t) true path))
         (y ∷ (backward x (drop 1 approach) ++ drop 1 walk))
 
-  by_loops : (walks : List (List ℕ)) → AreSpokeWalks s split polygon walks → (front : List ℕ) → All (HasWalk walks) front
-      → (path walk approach : List ℕ) (y : ℕ) → y ≡ origin_of s (last_side polygon) → IsTrue (is_used s.mesh y) → IsWalk s.mesh walk
-      → last_of walk ≡ get_or walk 0 0
-      → ((root : ℕ) (ways : ℕ → List ℕ) → AreWaysUp s split root ways
-      → AreFreelyEqual s.mesh (approach_by ways (get_or walk 0 0) y (walks_loop walks true front)) approach)
+  by_loops : {walks : List (List ℕ)} {front approach : List ℕ} {y : ℕ} (path walk : List ℕ)
+      → IsByTree s split polygon walks front (get_or walk 0 0) y approach → IsWalk s.mesh walk → last_of walk ≡ get_or walk 0 0
       → IsFreelyPath s split polygon path walk → AreByLoops (get_or walk 0 0) y walk approach front path
-  by_loops walks all front made path walk approach y y_is y_used w closed free is_path =
+  by_loops {walks} {front} {approach} {y} path walk by w closed is_path =
       let mesh : FaceList = s.mesh in
       let x : ℕ = get_or walk 0 0 in
       let root : ℕ = t.parents.root in
@@ -92,23 +89,21 @@ module _ (s : OrientedMesh) (split : SplitView) (o : IsOrientedSurface s) (t : I
       let eq = free_equality mesh in
       let f : Loop mesh root = record {
         rest = path_loop s polygon root ways true front;
-        is_way = path_way s split o t polygon c some ways own true front;
+        is_way = path_way is_cut ways own true front;
       } in
       let p : Loop mesh root = record {
         rest = path_loop s polygon root ways true path;
-        is_way = path_way s split o t polygon c some ways own true path;
+        is_way = path_way is_cut ways own true path;
       } in
       let here : GoesFrom mesh x (last_of walk) walk = walk_goes mesh walk w in
-      let x_used : IsTrue (is_used mesh x) = start_used mesh x (last_of walk) here.rest here.way in
       let more_way : IsWay mesh x x here.rest = subst (λ (v : ℕ). IsWay mesh x v here.rest) closed here.way in
-      let to : GoesFrom mesh x y approach = approach_goes s split o t polygon c some walks all front made x y approach x_used y_is y_used
-      free in
+      let to : GoesFrom mesh x y approach = approach_goes is_cut by in
       let go_list : List ℕ = ways x ++ (f.rest ++ backward y (ways y)) in
       let go_way : IsWay mesh x y go_list =
       subst (λ (k : List ℕ). IsWay mesh x y (ways x ++ (f.rest ++ k))) (sym (backward_is y (ways y)))
-      (whole_way mesh root ways hw x y f x_used y_used) in
+      (whole_way mesh root ways hw x y f by.starts by.used) in
       let goes : AreFreelyEqual mesh (x ∷ go_list) approach =
-      approach_free s split o t polygon c some ways own walks all front made x y approach x_used y_is (free root ways own) in
+      approach_free is_cut ways own by in
       let go_walk : IsWalk mesh (x ∷ go_list) = way_walk mesh x y go_list go_way in
       let there_is : SameFreely (loop_of mesh root ways hw x y to.rest to.way) f =
       loop_by mesh root ways hw x y to.rest f to.way
@@ -138,39 +133,39 @@ module _ (s : OrientedMesh) (split : SplitView) (o : IsOrientedSurface s) (t : I
             (eq.turn (y ∷ home) (by_loop ways y x (backward root f.rest ++ p.rest)) home_walk by_home);
       }
 
+  -- the approach is short
+  approach_short : {walks : List (List ℕ)} {front path approach : List ℕ} {x y pairs : ℕ}
+      → IsWalk s.mesh (by_loop (up s split t) x y (path_loop s polygon t.parents.root (up s split t) true front))
+      → AreFreelyEqual s.mesh (by_loop (up s split t) x y (path_loop s polygon t.parents.root (up s split t) true front)) approach
+      → IsByTree s split polygon walks front x y approach → HasNoSpur approach
+      → (short : AreShortAround s split polygon front path pairs)
+      → 2 * darts approach + 6 * short.there + 2 ≤ 3 * (short.there * darts_of s) + darts_of s
+  approach_short {front = front} {approach = approach} {x} {y} walk free by clean short =
+      let ways : ℕ → List ℕ = up s split t in
+      shortest s short.there (by_loop ways x y (path_loop s polygon t.parents.root ways true front)) approach walk free clean
+      (subst (λ v. IsFreelyShort s short.there (by_loop ways x v (path_loop s polygon t.parents.root ways true front))) (sym by.there)
+      (short.short_there t.parents.root ways x (λ v used. up_path s split t v used) by.starts))
+
   -- The peak keeps the bound.
-  pub loop_rises : (walks : List (List ℕ)) → AreSpokeWalks s split polygon walks → (front : List ℕ) → All (HasWalk walks) front
-      → (path walk approach : List ℕ) (y behind pairs old new : ℕ) → y ≡ origin_of s (last_side polygon) → IsTrue (is_used s.mesh y)
-      → IsWalk s.mesh walk → last_of walk ≡ get_or walk 0 0
-      → ((root : ℕ) (ways : ℕ → List ℕ) → AreWaysUp s split root ways
-      → AreFreelyEqual s.mesh (approach_by ways (get_or walk 0 0) y (walks_loop walks true front)) approach)
+  pub loop_rises : {walks : List (List ℕ)} {front approach : List ℕ} {y : ℕ} (path walk : List ℕ) (behind pairs old new : ℕ)
+      → IsByTree s split polygon walks front (get_or walk 0 0) y approach → IsWalk s.mesh walk → last_of walk ≡ get_or walk 0 0
       → HasNoSpur approach → IsFreelyPath s split polygon path walk → AreShortAround s split polygon front path pairs
       → RisesWithTurn approach walk behind (darts_of s) old new → KeepsBound (darts_of s) behind pairs old new
-  loop_rises walks all front made path walk approach y behind pairs old new y_is y_used w closed free clean is_path short rises bound begun
-      room =
+  loop_rises {walks} {front} {approach} {y} path walk behind pairs old new by w closed clean is_path short rises bound begun room =
       let mesh : FaceList = s.mesh in
       let x : ℕ = get_or walk 0 0 in
       let ways : ℕ → List ℕ = up s split t in
       let own : AreWaysUp s split t.parents.root ways = λ v used. up_path s split t v used in
-      let here : GoesFrom mesh x (last_of walk) walk = walk_goes mesh walk w in
-      let x_used : IsTrue (is_used mesh x) = start_used mesh x (last_of walk) here.rest here.way in
-      let to : GoesFrom mesh x y approach = approach_goes s split o t polygon c some walks all front made x y approach x_used y_is y_used
-      free in
-      let loops = by_loops walks all front made path walk approach y y_is y_used w closed free is_path in
-      let there_short : IsFreelyShort s short.there (by_loop ways x y (path_loop s polygon t.parents.root ways true front)) =
-      subst (λ v. IsFreelyShort s short.there (by_loop ways x v (path_loop s polygon t.parents.root ways true front))) (sym y_is)
-      (short.short_there t.parents.root ways x own x_used) in
+      let loops = by_loops path walk by w closed is_path in
       let home_short : IsFreelyShort s short.back (by_loop ways y x
       (backward t.parents.root (path_loop s polygon t.parents.root ways true front) ++ path_loop s polygon t.parents.root ways true path)) =
       subst (λ v. IsFreelyShort s short.back (by_loop ways v x
       (backward t.parents.root (path_loop s polygon t.parents.root ways true front) ++ path_loop s polygon t.parents.root ways true path)))
-      (sym y_is) (short.short_back t.parents.root ways x own x_used) in
-      let out : 2 * darts approach + 6 * short.there + 2 ≤ 3 * (short.there * darts_of s) + darts_of s =
-      shortest s short.there (by_loop ways x y (path_loop s polygon t.parents.root ways true front)) approach loops.there loops.there_free
-      clean there_short in
+      (sym by.there) (short.short_back t.parents.root ways x own by.starts) in
+      let out = approach_short loops.there loops.there_free by clean short in
       let ends : AreFreelyEqual mesh (y ∷ (backward x (drop 1 approach) ++ drop 1 walk)) rises.back =
-      subst (λ v. AreFreelyEqual mesh (v ∷ (backward x (drop 1 approach) ++ drop 1 walk)) rises.back) (goes_end mesh x y approach to)
-      (rises.freely mesh (goes_walk mesh x y approach to)) in
+      subst (λ v. AreFreelyEqual mesh (v ∷ (backward x (drop 1 approach) ++ drop 1 walk)) rises.back) (goes_end (approach_goes is_cut by))
+      (rises.freely mesh (goes_walk (approach_goes is_cut by))) in
       let home_loop : List ℕ = by_loop ways y x
       (backward t.parents.root (path_loop s polygon t.parents.root ways true front) ++ path_loop s polygon t.parents.root ways true path) in
       let on : 2 * darts rises.back + 6 * short.back + 2 ≤ 3 * (short.back * darts_of s) + darts_of s =
@@ -181,38 +176,27 @@ module _ (s : OrientedMesh) (split : SplitView) (o : IsOrientedSurface s) (t : I
       omega (arith, out, on, fewer_pairs short.there short.back pairs (darts_of s) short.together sides, rises.peak, begun, room)
 
   -- All these walks together are short enough to be counted.
-  pub loop_room : (walks : List (List ℕ)) → AreSpokeWalks s split polygon walks → (front : List ℕ) → All (HasWalk walks) front
-      → (path walk approach turn : List ℕ) (y behind peak pairs : ℕ) → y ≡ origin_of s (last_side polygon) → IsTrue (is_used s.mesh y)
-      → IsWalk s.mesh walk → last_of walk ≡ get_or walk 0 0
-      → ((root : ℕ) (ways : ℕ → List ℕ) → AreWaysUp s split root ways
-      → AreFreelyEqual s.mesh (approach_by ways (get_or walk 0 0) y (walks_loop walks true front)) approach)
+  pub loop_room : {walks : List (List ℕ)} {front approach : List ℕ} {y : ℕ} (path walk turn : List ℕ) (behind peak pairs : ℕ)
+      → IsByTree s split polygon walks front (get_or walk 0 0) y approach → IsWalk s.mesh walk → last_of walk ≡ get_or walk 0 0
       → HasNoSpur approach → HasNoSpur walk → IsFreelyPath s split polygon path walk
       → AreShortAround s split polygon front path (pairs + 1) → All (λ i. i < polygon.degree) path → length path ≤ 2 * pairs
       → pairs ≤ MOST_LIFTED_DARTS → behind ≤ MOST_LIFTED_DARTS → darts_of s ≤ MOST_LIFTED_SIDES → darts turn ≤ darts_of s
-      → peak ≤ darts_of s
-      → 2 * length approach + length walk + length turn + behind + peak < 2147483648
-  loop_room walks all front made path walk approach turn y behind peak pairs y_is y_used w closed free clean other is_path short below few
-      few_pairs few_behind few_sides turn_few low =
+      → peak ≤ darts_of s → 2 * length approach + length walk + length turn + behind + peak < 2147483648
+  loop_room {walks} {front} {approach} {y} path walk turn behind peak pairs by w closed clean other is_path short below few few_pairs
+      few_behind few_sides turn_few low =
       let mesh : FaceList = s.mesh in
       let n : ℕ = darts_of s in
       let x : ℕ = get_or walk 0 0 in
       let root : ℕ = t.parents.root in
       let ways : ℕ → List ℕ = up s split t in
       let own : AreWaysUp s split root ways = λ v used. up_path s split t v used in
-      let here : GoesFrom mesh x (last_of walk) walk = walk_goes mesh walk w in
-      let x_used : IsTrue (is_used mesh x) = start_used mesh x (last_of walk) here.rest here.way in
-      let loops = by_loops walks all front made path walk approach y y_is y_used w closed free is_path in
-      let there_short : IsFreelyShort s short.there (by_loop ways x y (path_loop s polygon root ways true front)) =
-      subst (λ v. IsFreelyShort s short.there (by_loop ways x v (path_loop s polygon root ways true front))) (sym y_is)
-      (short.short_there root ways x own x_used) in
-      let out : 2 * darts approach + 6 * short.there + 2 ≤ 3 * (short.there * n) + n =
-      shortest s short.there (by_loop ways x y (path_loop s polygon root ways true front)) approach loops.there loops.there_free clean
-      there_short in
+      let loops = by_loops path walk by w closed is_path in
+      let out = approach_short loops.there loops.there_free by clean short in
       let whole : List ℕ = by_loop ways x x (path_loop s polygon root ways true path) in
       let to : AreFreelyEqual mesh walk whole = is_path root ways own in
       let round : 2 * darts walk + 6 * pairs + 2 ≤ 3 * (pairs * n) + n =
       shortest s pairs whole walk (list_keeps_walk mesh to.0 walk whole w to.2) ((free_equality mesh).turn walk whole w to) other
-      (spokes_short s split polygon root ways x x pairs path o t c some own x_used x_used below few) in
+      (spokes_short s split polygon root ways x x pairs path o t c some own by.starts by.starts below few) in
       let there_few : short.there ≤ 513 = omega (arith, short.together, few_pairs) in
       let one : short.there * n ≤ 513 * n = mul-le-mul_right n there_few in
       let two : pairs * n ≤ MOST_LIFTED_DARTS * n = mul-le-mul_right n few_pairs in

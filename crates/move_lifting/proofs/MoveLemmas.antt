@@ -1,5 +1,5 @@
 -- One more move behind a list of moves, and a spur that goes out at the end of the part of a walk that is laid.
-use Rattle.move_lifting.proofs.Common.{greatest_darts-more, greatest_darts-none, one_more, spur_goes, ◌≡◌, ℕ, suc, ◌+◌, ◌-◌, ◌<◌, max, List, [], ◌∷◌, ◌++◌, length, take, get_or, ap, sym, ◌∙◌, subst, arith, append_assoc, length-append, get_or_append_left, length-take-le, All-push, Some, All, first_answer, stays_walk, by_replacing, FaceList, HasNoSpur, PeakedMoves, apply, apply_all, greatest_darts, darts, Move, Insert, Remove, Across, VertexName}
+use Rattle.move_lifting.proofs.Common.{greatest_darts-more, greatest_darts-none, one_more, spur_goes, ◌≡◌, ℕ, suc, ◌+◌, ◌-◌, ◌<◌, max, List, [], ◌∷◌, ◌++◌, length, take, get_or, ap, sym, ◌∙◌, subst, arith, append_assoc, length-append, get_or_append_left, length-take-le, Some, All, first_answer, stays_walk, by_replacing, FaceList, HasNoSpur, PeakedMoves, apply, apply_all, greatest_darts, darts, Move, Insert, Remove, Across, VertexName}
 use Rattle.move_lifting.specs.Lifts.{LeadsAtPeak, IsRemoval}
 use Rattle.move_lifting.specs.Tracks.{TrackView, GoesOn, IsStepBack}
 use Rattle.move_lifting.proofs.ListLemmas.{front_and_last, no_spur_front}
@@ -20,10 +20,10 @@ goes_back mesh behind front here via list more is first rest long h =
     (subst (LeadsAtPeak mesh first list) from h) (spur_goes mesh front rest here via) noted)
 
 -- a step back to where the walk came from
-pub step_back_goes : (mesh : FaceList) (behind next : ℕ) (old new : TrackView) → 1 < length old.walk
+pub step_back_goes : (mesh : FaceList) {behind : ℕ} (next : ℕ) {old new : TrackView} → 1 < length old.walk
     → get_or old.walk (length old.walk - 2) 0 ≡ next → IsStepBack behind old new
     → GoesOn mesh behind (old.walk ++ next ∷ []) old.list new.walk new.list
-step_back_goes mesh behind next old new some came back =
+step_back_goes mesh {behind} next {old} {new} some came back =
     let n : ℕ = length old.walk - 2 in
     let long : length old.walk ≡ length new.walk + 1 = ap (λ (l : List ℕ). length l) back.walk ∙ length-append new.walk (back.via.0 ∷ []) in
     let at : n + 1 ≡ length new.walk = omega arith in
@@ -43,15 +43,8 @@ step_back_goes mesh behind next old new some came back =
     (subst (λ (l : List ℕ). GoesOn mesh behind (front ++ next ∷ [] ++ back.via.0 ∷ [] ++ next ∷ []) old.list l new.list) (sym new_is)
     (goes_back mesh behind front next back.via old.list new.list noted))
 
-pub step_back_no_spur : (behind : ℕ) (old new : TrackView) → HasNoSpur old.walk → IsStepBack behind old new → HasNoSpur new.walk
-step_back_no_spur behind old new h back = no_spur_front new.walk (back.via.0 ∷ []) (subst HasNoSpur back.walk h)
-
-pub step_back_removes : (behind : ℕ) (old new : TrackView) → IsStepBack behind old new → All IsRemoval old.list.moves
-    → All IsRemoval new.list.moves
-step_back_removes behind old new back h =
-    let moves : new.list.moves ≡ old.list.moves ++ Remove (length old.walk - 2) back.via ∷ [] =
-    ap (λ (l : PeakedMoves). l.moves) back.list in
-    subst (All IsRemoval) (sym moves) (All-push IsRemoval old.list.moves (Remove (length old.walk - 2) back.via) h tt)
+pub step_back_no_spur : {behind : ℕ} {old new : TrackView} → HasNoSpur old.walk → IsStepBack behind old new → HasNoSpur new.walk
+step_back_no_spur {new} h back = no_spur_front new.walk (back.via.0 ∷ []) (subst HasNoSpur back.walk h)
 
 -- removals pass no walk longer than the first
 pub removals_peak : (mesh : FaceList) (moves : List Move) (first walk : List ℕ) → 0 < length first → All IsRemoval moves
@@ -75,6 +68,6 @@ removals_peak mesh (Remove at via ∷ moves) first walk start all e =
     told.2 in
     omega (arith, rest, from, to, out, one, greatest_darts-more mesh first next (Remove at via) moves told.1)
 
-pub step_back_some : (behind : ℕ) (old new : TrackView) → 1 < length old.walk → IsStepBack behind old new → 0 < length new.walk
-step_back_some behind old new some back =
+pub step_back_some : {behind : ℕ} {old new : TrackView} → 1 < length old.walk → IsStepBack behind old new → 0 < length new.walk
+step_back_some {new} some back =
     omega (arith, some, ap (λ (l : List ℕ). length l) back.walk, length-append new.walk (back.via.0 ∷ []))

@@ -1,7 +1,9 @@
 -- Where a path of spokes ends, and that the places of a polygon make quads.
-use Rattle.move_lifting.proofs.Common.{OrientedMesh, IsOrientedSurface, rotations_of, turned_parity, ends_at_vertex, PolygonView, IsCutFrom, place_of, across, places_wheel, IsQuadWheel, add_back, spoke_at, from_vertex, HasQuads, ◌≡◌, ℕ, ◌<◌, true, not, List, [], ◌∷◌, length, get_or, refl, ap, sym, ◌∙◌, arith, SplitView, IsSplit, IsQuad, add, minus}
+use Rattle.move_lifting.proofs.Common.{OrientedMesh, rotations_of, turned_parity, ends_at_vertex, PolygonView, place_of, across, places_wheel, IsQuadWheel, add_back, spoke_at, from_vertex, HasQuads, ◌≡◌, ℕ, ◌<◌, true, not, List, [], ◌∷◌, length, get_or, refl, ap, sym, ◌∙◌, arith, SplitView, IsQuad}
 use Rattle.spoke_paths.proofs.Turning.{from-next}
 use Rattle.turn_words.specs.Lemmas.Sums.{add-lt}
+use Rattle.turn_words.specs.Modulo.{add, minus}
+use Rattle.move_lifting.specs.Cuts.{IsCutSurface}
 
 pub ends_at : (path : List ℕ) → ends_at_vertex true path ≡ from_vertex (length path)
 ends_at [] = refl
@@ -22,23 +24,22 @@ half_quad places spoke_at partner q a c l k e =
     ∙ q.spoke_of_place p_up (add-lt d p 1 p_in q.large) in
     sym (add_back d c q.large k) ∙ ap (λ x. add d x (minus d 1)) same ∙ add_back d p q.large p_in
 
-pub quad_partner : (s : OrientedMesh) (split : SplitView) (polygon : PolygonView) → IsOrientedSurface s → IsSplit s split
-    → IsCutFrom s split polygon → 0 < polygon.degree
-    → (a c : ℕ) → IsQuad polygon.places a c → c ≡ across (rotations_of s) polygon a
-quad_partner s split polygon o t cut some a c quad =
-    half_quad polygon.places (spoke_at polygon) (across (rotations_of s) polygon) (places_wheel s split polygon o t cut some) a c
-    quad.a_below quad.c_below quad.a_place
+module _ {s : OrientedMesh} {split : SplitView} {polygon : PolygonView} (is_cut : IsCutSurface s split polygon) where
+  open is_cut use {valid as o, tree as t, cut, some}
 
--- the places of a polygon make quads
-pub has_quads : (s : OrientedMesh) (split : SplitView) (polygon : PolygonView) → IsOrientedSurface s → IsSplit s split
-    → IsCutFrom s split polygon → 0 < polygon.degree
-    → HasQuads polygon.places
-has_quads s split polygon o t cut some = record {
-  four = omega (arith, (cut.places some).each_spoke, cut.degree);
-  full = λ a c l k e.
-      let q = places_wheel s split polygon o t cut some in
-      let p : ℕ = across (rotations_of s) polygon a in
-      let is : c ≡ p = half_quad polygon.places (spoke_at polygon) (across (rotations_of s) polygon) q a c l k e in
-      ap (λ x. place_of polygon (add (length polygon.places) x 1)) (sym (ap (across (rotations_of s) polygon) is ∙ q.partner_back a l))
-      ∙ q.one_before c k;
-}
+  pub quad_partner : {a c : ℕ} → IsQuad polygon.places a c → c ≡ across (rotations_of s) polygon a
+  quad_partner {a} {c} quad =
+      half_quad polygon.places (spoke_at polygon) (across (rotations_of s) polygon) (places_wheel s split polygon o t cut some) a c
+      quad.a_below quad.c_below quad.a_place
+
+  -- the places of a polygon make quads
+  pub has_quads : HasQuads polygon.places
+  has_quads = record {
+    four = omega (arith, (cut.places some).each_spoke, cut.degree);
+    full = λ a c l k e.
+        let q = places_wheel s split polygon o t cut some in
+        let p : ℕ = across (rotations_of s) polygon a in
+        let is : c ≡ p = half_quad polygon.places (spoke_at polygon) (across (rotations_of s) polygon) q a c l k e in
+        ap (λ x. place_of polygon (add (length polygon.places) x 1)) (sym (ap (across (rotations_of s) polygon) is ∙ q.partner_back a l))
+        ∙ q.one_before c k;
+  }

@@ -102,38 +102,6 @@ pair_most s split t u v l = weight_most s split t (edge_of s (dart_from s u v)) 
 pub load_long : (s : OrientedMesh) (split : SplitView) (t : IsSplit s split) (walk : List ℕ) → length walk ≤ load s split t walk + 1
 load_long s split t walk = darts_weigh (pair_weight s split t) (pair_positive s split t) walk
 
--- the load of steps round a face
-pub round_load : (s : OrientedMesh) (split : SplitView) → IsOrientedSurface s → (t : IsSplit s split) → (f : ℕ) (rising : Bool) (c k : ℕ)
-    → f < length s.mesh.faces
-    → c < length (face_at s.mesh f)
-    → load s split t (corners_from (face_at s.mesh f) rising c k)
-    ≡ sum_below
-    (λ j. weight s split t (edge_of s (first_side s.mesh f + side_place rising (length (face_at s.mesh f))
-    (corner_after rising (length (face_at s.mesh f)) c j)))) k
-unfolding pair_weight
-round_load s split o t f rising c zero l b = refl
-round_load s split o t f rising c (suc k) l b =
-    let ring : List ℕ = face_at s.mesh f in
-    let m : ℕ = length ring in
-    let at : ℕ = corner_after rising m c k in
-    let u : ℕ = get_or ring at 0 in
-    let v : ℕ = get_or ring (next_corner rising m at) 0 in
-    let front : List ℕ = corners_before ring rising c k in
-    let before : load s split t (corners_from ring rising c k)
-    ≡ sum_below (λ j. weight s split t (edge_of s (first_side s.mesh f + side_place rising m (corner_after rising m c j)))) k =
-    round_load s split o t f rising c k l b in
-    let read : corners_from ring rising c k ≡ front ++ u ∷ [] = last_corner ring rising c k in
-    let end : get_or ring (corner_after rising m c (suc k)) 0 ≡ v = ap (λ (x : ℕ). get_or ring x 0) (after_more rising m c k) in
-    let whole : corners_from ring rising c (suc k) ≡ front ++ u ∷ v ∷ [] =
-    corners_more ring rising c k ∙ ap (λ (x : ℕ). corners_from ring rising c k ++ x ∷ []) end ∙ ap (λ (w : List ℕ). w ++ v ∷ []) read
-    ∙ append_assoc front (u ∷ []) (v ∷ []) in
-    let step : pair_weight s split t u v ≡ weight s split t (edge_of s (first_side s.mesh f + side_place rising m at)) =
-    ap (weight s split t) (step_edge s o f rising at l (after_within rising m c k b)) in
-    let joined : load s split t (front ++ u ∷ v ∷ []) ≡ load s split t (front ++ u ∷ []) + (pair_weight s split t u v + 0) =
-    load-join s split t front (v ∷ []) u in
-    let shorter : load s split t (front ++ u ∷ []) ≡ load s split t (corners_from ring rising c k) = ap (load s split t) (sym read) in
-    ap (load s split t) whole ∙ omega (arith, joined, shorter, before, step)
-
 -- where the side of a step stands among the corners
 shift : Bool → ℕ
 shift true = 0
@@ -185,45 +153,73 @@ rest_sides s f c rising l b =
       apart = λ i j less h same. rest_apart back m c i j b less (omega arith) (plus_same (first_side s.mesh f) (place i) (place j) same);
     }
 
--- the rest of the face below an edge weighs less than a step along the edge
-pub rest_falls : (s : OrientedMesh) (split : SplitView) → IsOrientedSurface s → (t : IsSplit s split)
-    → (f c : ℕ) (rising : Bool) (u v d : ℕ)
-    → f < length s.mesh.faces → c < length (face_at s.mesh f) → vertex_at s f c ≡ u
-    → vertex_at s f (next_corner rising (length (face_at s.mesh f)) c) ≡ v
-    → IsDartFrom (rotations_of s) u v d → below_edge split (edge_of s d) ≡ Some f
-    → load s split t (corners_from (face_at s.mesh f) (not rising) c (length (face_at s.mesh f) - 1)) + 1 ≤ pair_weight s split t u v
-unfolding pair_weight
-rest_falls s split o t f c rising u v d l b starts ends from under =
-    let m : ℕ = length (face_at s.mesh f) in
-    let h : ℕ = first_side s.mesh f + side_place rising m c in
-    let n : IsNumberOf s.mesh f (side_place rising m c) h = numbered s f (side_place rising m c) l (side_in rising m c b) in
-    let h_edge : edge_of s (dart_from s u v) ≡ edge_of s h =
-    subst (λ (x : ℕ). edge_of s (dart_from s x v) ≡ edge_of s h) starts
-    (subst (λ (x : ℕ). edge_of s (dart_from s (vertex_at s f c) x) ≡ edge_of s h) ends (step_edge s o f rising c l b)) in
-    let d_edge : edge_of s (dart_from s u v) ≡ edge_of s d = ap (edge_of s) (from_is s o u v d from) in
-    let below_h : below_edge split (edge_of s h) ≡ Some f = ap (below_edge split) (sym h_edge ∙ d_edge)
-    ∙ under in
-    let fall = weights_fall s split o t f h (m - 1) (λ j. first_side s.mesh f + side_place (not rising) m (corner_after (not rising) m c j))
-    (number_below s.mesh f (side_place rising m c) h n) (face_at_number s f (side_place rising m c) h n) below_h
-    (rest_sides s f c rising l b) in
-    omega (arith, fall, round_load s split o t f (not rising) c (m - 1) l b, ap (weight s split t) h_edge)
+module _ {s : OrientedMesh} {split : SplitView} (o : IsOrientedSurface s) (t : IsSplit s split) where
+  -- the load of steps round a face
+  pub round_load : (f : ℕ) (rising : Bool) (c k : ℕ) → f < length s.mesh.faces → c < length (face_at s.mesh f)
+      → load s split t (corners_from (face_at s.mesh f) rising c k)
+      ≡ sum_below
+      (λ j. weight s split t (edge_of s (first_side s.mesh f + side_place rising (length (face_at s.mesh f))
+      (corner_after rising (length (face_at s.mesh f)) c j)))) k
+  unfolding pair_weight
+  round_load f rising c zero l b = refl
+  round_load f rising c (suc k) l b =
+      let ring : List ℕ = face_at s.mesh f in
+      let m : ℕ = length ring in
+      let at : ℕ = corner_after rising m c k in
+      let u : ℕ = get_or ring at 0 in
+      let v : ℕ = get_or ring (next_corner rising m at) 0 in
+      let front : List ℕ = corners_before ring rising c k in
+      let before : load s split t (corners_from ring rising c k)
+      ≡ sum_below (λ j. weight s split t (edge_of s (first_side s.mesh f + side_place rising m (corner_after rising m c j)))) k =
+      round_load f rising c k l b in
+      let read : corners_from ring rising c k ≡ front ++ u ∷ [] = last_corner ring rising c k in
+      let end : get_or ring (corner_after rising m c (suc k)) 0 ≡ v = ap (λ (x : ℕ). get_or ring x 0) (after_more rising m c k) in
+      let whole : corners_from ring rising c (suc k) ≡ front ++ u ∷ v ∷ [] =
+      corners_more ring rising c k ∙ ap (λ (x : ℕ). corners_from ring rising c k ++ x ∷ []) end ∙ ap (λ (w : List ℕ). w ++ v ∷ []) read
+      ∙ append_assoc front (u ∷ []) (v ∷ []) in
+      let step : pair_weight s split t u v ≡ weight s split t (edge_of s (first_side s.mesh f + side_place rising m at)) =
+      ap (weight s split t) (step_edge s o f rising at l (after_within rising m c k b)) in
+      let joined : load s split t (front ++ u ∷ v ∷ []) ≡ load s split t (front ++ u ∷ []) + (pair_weight s split t u v + 0) =
+      load-join s split t front (v ∷ []) u in
+      let shorter : load s split t (front ++ u ∷ []) ≡ load s split t (corners_from ring rising c k) = ap (load s split t) (sym read) in
+      ap (load s split t) whole ∙ omega (arith, joined, shorter, before, step)
 
--- all round the root face
-pub root_round : (s : OrientedMesh) (split : SplitView) → IsOrientedSurface s → (t : IsSplit s split) → (f c : ℕ) (rising : Bool)
-    → f ≡ split.root_face → f < length s.mesh.faces → c < length (face_at s.mesh f)
-    → load s split t (corners_from (face_at s.mesh f) rising c (length (face_at s.mesh f))) ≤ darts_of s
-root_round s split o t f c rising root l b =
-    let m : ℕ = length (face_at s.mesh f) in
-    let place : ℕ → ℕ = λ j. side_place rising m (corner_after rising m c j) in
-    let number : (j : ℕ) → IsNumberOf s.mesh f (place j) (first_side s.mesh f + place j) =
-    λ j. numbered s f (place j) l (side_in rising m (corner_after rising m c j) (after_within rising m c j b)) in
-    let sides : AreInFace s f m (λ j. first_side s.mesh f + place j) = record {
-      within = λ j h. number_below s.mesh f (place j) (first_side s.mesh f + place j) (number j);
-      inside = λ j h. face_at_number s f (place j) (first_side s.mesh f + place j) (number j);
-      apart = λ i j less h same. rest_apart rising m c i j b less h (plus_same (first_side s.mesh f) (place i) (place j) same);
-    } in
-    omega (
-      arith,
-      round_load s split o t f rising c m l b,
-      root_weights s split o t f m (λ j. first_side s.mesh f + place j) root sides,
-    )
+  -- the rest of the face below an edge weighs less than a step along the edge
+  pub rest_falls : (f c : ℕ) (rising : Bool) (u v d : ℕ) → f < length s.mesh.faces → c < length (face_at s.mesh f) → vertex_at s f c ≡ u
+      → vertex_at s f (next_corner rising (length (face_at s.mesh f)) c) ≡ v
+      → IsDartFrom (rotations_of s) u v d → below_edge split (edge_of s d) ≡ Some f
+      → load s split t (corners_from (face_at s.mesh f) (not rising) c (length (face_at s.mesh f) - 1)) + 1 ≤ pair_weight s split t u v
+  unfolding pair_weight
+  rest_falls f c rising u v d l b starts ends from under =
+      let m : ℕ = length (face_at s.mesh f) in
+      let h : ℕ = first_side s.mesh f + side_place rising m c in
+      let n : IsNumberOf s.mesh f (side_place rising m c) h = numbered s f (side_place rising m c) l (side_in rising m c b) in
+      let h_edge : edge_of s (dart_from s u v) ≡ edge_of s h =
+      subst (λ (x : ℕ). edge_of s (dart_from s x v) ≡ edge_of s h) starts
+      (subst (λ (x : ℕ). edge_of s (dart_from s (vertex_at s f c) x) ≡ edge_of s h) ends (step_edge s o f rising c l b)) in
+      let d_edge : edge_of s (dart_from s u v) ≡ edge_of s d = ap (edge_of s) (from_is s o u v d from) in
+      let below_h : below_edge split (edge_of s h) ≡ Some f = ap (below_edge split) (sym h_edge ∙ d_edge)
+      ∙ under in
+      let fall = weights_fall o t f h (m - 1) (λ j. first_side s.mesh f + side_place (not rising) m (corner_after (not rising) m c j))
+      (number_below s.mesh f (side_place rising m c) h n) (face_at_number s f (side_place rising m c) h n) below_h
+      (rest_sides s f c rising l b) in
+      omega (arith, fall, round_load f (not rising) c (m - 1) l b, ap (weight s split t) h_edge)
+
+  -- all round the root face
+  pub root_round : (f c : ℕ) (rising : Bool) → f ≡ split.root_face → f < length s.mesh.faces → c < length (face_at s.mesh f)
+      → load s split t (corners_from (face_at s.mesh f) rising c (length (face_at s.mesh f))) ≤ darts_of s
+  root_round f c rising root l b =
+      let m : ℕ = length (face_at s.mesh f) in
+      let place : ℕ → ℕ = λ j. side_place rising m (corner_after rising m c j) in
+      let number : (j : ℕ) → IsNumberOf s.mesh f (place j) (first_side s.mesh f + place j) =
+      λ j. numbered s f (place j) l (side_in rising m (corner_after rising m c j) (after_within rising m c j b)) in
+      let sides : AreInFace s f m (λ j. first_side s.mesh f + place j) = record {
+        within = λ j h. number_below s.mesh f (place j) (first_side s.mesh f + place j) (number j);
+        inside = λ j h. face_at_number s f (place j) (first_side s.mesh f + place j) (number j);
+        apart = λ i j less h same. rest_apart rising m c i j b less h (plus_same (first_side s.mesh f) (place i) (place j) same);
+      } in
+      omega (
+        arith,
+        round_load f rising c m l b,
+        root_weights o t f m (λ j. first_side s.mesh f + place j) root sides,
+      )

@@ -1,12 +1,13 @@
 -- Steps on paths of spokes make them no longer, and the loop of the last side goes in along ways that are short for half of their spokes
 -- and one pair more.
-use Rattle.move_lifting.proofs.Common.{dart_between, rotation_system, OrientedMesh, IsOrientedSurface, rotations_of, parity, sides_cross, walk_way, IsWay, PolygonView, IsCutFrom, place_of, across, AreShortAround, HasFreeSpokes, HaveFreeSpokes, across_last, comes_back, last_side, spokes_along, IsQuadWheel, polygon_wheel, spoke_at, AtPlace, at-place, IsTurned, is-turned, quad_turned, after_path_step, from_vertex, PathStep, Turn, ◌≡◌, ◌≢◌, ◌⊎◌, inl, inr, ℕ, suc, ◌+◌, ◌*◌, ◌-◌, ◌<◌, ◌≤◌, Bool, true, false, not, List, [], ◌∷◌, ◌++◌, length, take, get_or, refl, ap, sym, ◌∙◌, subst, arith, length-append, take-append_seam, cases_Bool, cases_eq, eq-eqb, ne_eqb, get_or-append-add, get_or_append_left, All-cons, All, if◌then◌else◌, ◌==◌, IsWalk, darts, after_dart, SplitView, IsSplit, in_cotree, is_left}
+use Rattle.move_lifting.proofs.Common.{dart_between, rotation_system, OrientedMesh, IsOrientedSurface, rotations_of, parity, sides_cross, walk_way, IsWay, PolygonView, place_of, across, AreShortAround, HasFreeSpokes, HaveFreeSpokes, across_last, comes_back, last_side, spokes_along, IsQuadWheel, polygon_wheel, spoke_at, AtPlace, at-place, IsTurned, is-turned, quad_turned, after_path_step, from_vertex, PathStep, Turn, ◌≡◌, ◌≢◌, ◌⊎◌, inl, inr, ℕ, suc, ◌+◌, ◌*◌, ◌-◌, ◌<◌, ◌≤◌, Bool, true, false, not, List, [], ◌∷◌, ◌++◌, length, take, get_or, refl, ap, sym, ◌∙◌, subst, arith, length-append, take-append_seam, cases_Bool, cases_eq, eq-eqb, ne_eqb, get_or-append-add, get_or_append_left, All-cons, All, if◌then◌else◌, ◌==◌, IsWalk, darts, after_dart, SplitView, in_cotree, is_left}
 use Rattle.polygon_cut.proofs.ShortFrontLemmas.{short_behind, short_behind_one, short_behind_two}
 use Rattle.std.proofs.Common.{Some}
 use Rattle.move_lifting.specs.LoopFronts.{spokes_in_front}
 use Rattle.move_lifting.proofs.ContractLemmas.{front_below}
 use Rattle.move_lifting.proofs.PathLemmas.{ends_at, quad_partner}
 use Rattle.move_lifting.proofs.ReductionLemmas.{step_long}
+use Rattle.move_lifting.specs.Cuts.{IsCutSurface}
 
 -- no step makes a path longer
 pub step_no_longer : (places : List ℕ) (step : PathStep) (path next : List ℕ) → after_path_step places step path ≡ Some next
@@ -74,8 +75,9 @@ last_below : (n : ℕ) (xs ys : List ℕ) → All (λ i. i < n) (xs ++ ys) → A
 last_below n xs ys below k d l =
     subst (λ x. x < n) (get_or-append-add xs ys k d) (below (length xs + k) d (omega (arith, l, length-append xs ys)))
 
-module _ (s : OrientedMesh) (split : SplitView) (o : IsOrientedSurface s) (t : IsSplit s split) (polygon : PolygonView)
-    (cut : IsCutFrom s split polygon) (some : 0 < polygon.degree) where
+module _ {s : OrientedMesh} {split : SplitView} {polygon : PolygonView} (is_cut : IsCutSurface s split polygon) where
+  open is_cut use {valid as o, tree as t, cut, some}
+
   -- behind an even number of spokes
   even_short : (before after path : List ℕ) (pairs : ℕ) → path ≡ before ++ after → comes_back before ≡ true
       → All (λ i. i < polygon.degree) path → length path ≤ 2 * pairs → AreShortAround s split polygon before path (pairs + 1)
@@ -144,7 +146,7 @@ module _ (s : OrientedMesh) (split : SplitView) (o : IsOrientedSurface s) (t : I
       a_in = subst (λ n. a < n) (cut.places some).each_spoke turned.quad.a_below
 
       is : c ≡ across (rotations_of s) polygon a
-      is = quad_partner s split polygon o t cut some a c turned.quad
+      is = quad_partner is_cut turned.quad
 
       back : flag ≡ comes_back r.before
       back = sym (ap from_vertex r.long) ∙ sym (ends_at r.before) ∙ parity r.before
@@ -169,7 +171,7 @@ module _ (s : OrientedMesh) (split : SplitView) (o : IsOrientedSurface s) (t : I
           ∙ ap (λ (l : List ℕ). r.before ++ l) h
 
       own_below : All (λ i. i < polygon.degree) own
-      own_below = front_below s split o t polygon cut some at a c path below turned.quad
+      own_below = front_below is_cut at a c path below turned.quad
 
       moved : (front : List ℕ) → own ≡ front → AreShortAround s split polygon front path (pairs + 1)
           → AreShortAround s split polygon own path (pairs + 1)

@@ -1,8 +1,10 @@
 -- Walks from which spurs are taken out as they are laid, up to spurs.
-use Rattle.move_lifting.proofs.Common.{spur_goes, last_entry, free_equality, ◌≡◌, inl, inr, ℕ, ◌+◌, ◌-◌, ◌<◌, ◌≤◌, max, List, [], ◌∷◌, ◌++◌, length, take, drop, get_or, refl, ap, sym, ◌∙◌, subst, arith, append_assoc, length-append, append-nil, drop_all, take_all, take_more, drop_more, length-take-le, length-drop, All-nil, All-cons, FaceList, IsSpurMove, AreFreelyEqual, HasNoSpur, PeakedMoves, darts, Move, Remove}
-use Rattle.move_lifting.specs.Lifts.{LeadsAtPeak}
+use Rattle.move_lifting.proofs.Common.{spur_goes, last_entry, free_equality, ◌≡◌, inl, inr, ℕ, ◌+◌, ◌-◌, ◌<◌, ◌≤◌, max, List, [], ◌∷◌, ◌++◌, length, take, drop, get_or, refl, ap, sym, ◌∙◌, subst, arith, append_assoc, append-nil, drop_all, take_all, take_more, drop_more, length-take-le, length-drop, All-nil, All-cons, FaceList, IsSpurMove, AreFreelyEqual, HasNoSpur, PeakedMoves, darts, Move, Remove}
+use Rattle.move_lifting.specs.Lifts.{LeadsAtPeak, IsRemoval, MoreRemove}
 use Rattle.move_lifting.specs.Tracks.{TrackView, GoesOn, GrowsOrShrinks, last_of}
 use Rattle.move_lifting.proofs.ListLemmas.{read_on, one_no_spur}
+use Rattle.move_lifting.proofs.LedLemmas.{goes_behind}
+use Rattle.move_lifting.proofs.LeavingLemmas.{more_on, none_more}
 
 -- one entry more, and its spur if it makes one taken out
 pub put_freely : (mesh : FaceList) (old new : List ℕ) (next : ℕ) → GrowsOrShrinks old new next → 0 < length new → last_of new ≡ next
@@ -40,6 +42,7 @@ pub record IsReducedSoFar (behind : ℕ) (walk : List ℕ) (begun : PeakedMoves)
   pub freely : (mesh : FaceList) → AreFreelyEqual mesh (take n walk) track.walk
   pub goes : (mesh : FaceList) → GoesOn mesh behind walk begun (track.walk ++ drop n walk) track.list
   pub peak : track.list.peak ≤ max begun.peak (darts walk + behind)
+  pub removals : MoreRemove begun.moves track.list.moves
 
 pub reduced_first : (behind : ℕ) (walk : List ℕ) (begun : PeakedMoves) (track : TrackView) (v spare : ℕ) → 0 < length walk
     → get_or walk 0 0 ≡ v → track ≡ record { walk = v ∷ []; list = begun; spare = spare } → IsReducedSoFar behind walk begun track 1
@@ -55,15 +58,17 @@ reduced_first behind walk begun track v spare some is start =
       freely = λ mesh. subst (λ (l : List ℕ). AreFreelyEqual mesh l (v ∷ [])) one ((free_equality mesh).itself (v ∷ []));
       goes = λ mesh first rest l h. subst (λ (w : List ℕ). LeadsAtPeak mesh first begun (w ++ rest)) whole h;
       peak = omega arith;
+      removals = none_more IsRemoval begun.moves;
     })
 
-pub reduced_more : (behind : ℕ) (walk : List ℕ) (begun : PeakedMoves) (track new : TrackView) (n v after : ℕ)
+pub reduced_more : {behind : ℕ} {walk : List ℕ} {begun : PeakedMoves} {track : TrackView} {n : ℕ} (new : TrackView) (v after : ℕ)
     → IsReducedSoFar behind walk begun track n
     → 0 < n → n < length walk → get_or walk n 0 ≡ v → after ≡ length walk - n - 1 + behind
     → ((mesh : FaceList) → GoesOn mesh after (track.walk ++ v ∷ []) track.list new.walk new.list) → 0 < length new.walk → HasNoSpur new.walk
     → last_of new.walk ≡ v → length new.walk ≤ length track.walk + 1 → GrowsOrShrinks track.walk new.walk v
-    → new.list.peak ≤ max track.list.peak (length track.walk + after) → IsReducedSoFar behind walk begun new (n + 1)
-reduced_more behind walk begun track new n v after led begins l is counted goes some no_spur last long shape peak =
+    → new.list.peak ≤ max track.list.peak (length track.walk + after) → MoreRemove track.list.moves new.list.moves
+    → IsReducedSoFar behind walk begun new (n + 1)
+reduced_more {behind} {walk} {begun} {track} {n} new v after led begins l is counted goes some no_spur last long shape peak removals =
     let place : n + 1 - 1 ≡ n = omega arith in
     let more : take (n + 1) walk ≡ take n walk ++ v ∷ [] = take_more walk n 0 l ∙ ap (λ (x : ℕ). take n walk ++ x ∷ []) is in
     let begun_some : 0 < length (take n walk) = omega (arith, length-take-le n walk (omega arith)) in
@@ -76,23 +81,20 @@ reduced_more behind walk begun track new n v after led begins l is counted goes 
           (freely_further mesh (take n walk) track.walk new.walk (v ∷ []) begun_some (led.freely mesh)
           (put_freely mesh track.walk new.walk v shape some last));
       goes = λ mesh first rest k h.
-          let there : LeadsAtPeak mesh first track.list (track.walk ++ drop n walk ++ rest) = led.goes mesh first rest k h in
-          let read : track.walk ++ drop n walk ++ rest ≡ track.walk ++ v ∷ [] ++ (drop (n + 1) walk ++ rest) =
-          ap (λ (w : List ℕ). w ++ rest) (read_on track.walk walk n v l is) ∙ append_assoc (track.walk ++ v ∷ []) (drop (n + 1) walk)
-          rest in
-          let count : length (drop (n + 1) walk ++ rest) ≡ after =
-          length-append (drop (n + 1) walk) rest ∙ omega (arith, length-drop (n + 1) walk, k, counted) in
-          subst (LeadsAtPeak mesh first new.list) (sym (append_assoc new.walk (drop (n + 1) walk) rest))
-          (goes mesh first (drop (n + 1) walk ++ rest) count (subst (LeadsAtPeak mesh first track.list) read there));
+          goes_behind mesh after behind (track.walk ++ v ∷ []) new.walk (drop (n + 1) walk) track.list new.list (goes mesh)
+          (omega (arith, length-drop (n + 1) walk, counted)) first rest k
+          (subst (λ (w : List ℕ). LeadsAtPeak mesh first track.list (w ++ rest)) (read_on track.walk walk n v l is)
+          (led.goes mesh first rest k h));
       peak = omega (arith, peak, led.peak, led.long, counted, l);
+      removals = more_on IsRemoval begun.moves track.list.moves new.list.moves led.removals removals;
     }
 
 -- when all entries are read
-pub reduced_all : (behind : ℕ) (walk : List ℕ) (begun : PeakedMoves) (track : TrackView) (n : ℕ) → IsReducedSoFar behind walk begun track n
-    → n ≡ length walk
+pub reduced_all : {behind : ℕ} {walk : List ℕ} {begun : PeakedMoves} {track : TrackView} {n : ℕ}
+    → IsReducedSoFar behind walk begun track n → n ≡ length walk
     → ((mesh : FaceList) → GoesOn mesh behind walk begun track.walk track.list) × ((mesh : FaceList) → AreFreelyEqual mesh walk track.walk)
     × (last_of track.walk ≡ last_of walk)
-reduced_all behind walk begun track n led all = (
+reduced_all {behind} {walk} {begun} {track} {n} led all = (
   λ mesh. subst (λ (w : List ℕ). GoesOn mesh behind walk begun w track.list)
       (ap (λ (w : List ℕ). track.walk ++ w) (drop_all n walk (omega arith)) ∙ append-nil track.walk) (led.goes mesh),
   λ mesh. subst (λ (w : List ℕ). AreFreelyEqual mesh w track.walk) (take_all n walk (omega arith)) (led.freely mesh),

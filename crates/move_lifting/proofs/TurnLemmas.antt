@@ -54,8 +54,8 @@ pub record BeginAlike (approach walk : List ℕ) (n : ℕ) : Type 0 where
 abbrev pub turned_whole : List ℕ → List ℕ → List ℕ → ℕ → List ℕ
 turned_whole approach turn walk n = approach ++ (drop 1 turn ++ (backward (last_of (take n approach)) (drop n approach) ++ drop n walk))
 
-walk_is : (approach walk : List ℕ) (n : ℕ) → BeginAlike approach walk n → walk ≡ take n approach ++ drop n walk
-walk_is approach walk n a = sym (take-append-drop n walk) ∙ ap (λ (l : List ℕ). l ++ drop n walk) (sym a.same)
+walk_is : {approach walk : List ℕ} {n : ℕ} → BeginAlike approach walk n → walk ≡ take n approach ++ drop n walk
+walk_is {walk} {n} a = sym (take-append-drop n walk) ∙ ap (λ (l : List ℕ). l ++ drop n walk) (sym a.same)
 
 -- the moves lead on
 pub turn_goes : (mesh : FaceList) (behind : ℕ) (approach walk turn whole : List ℕ) (n around : ℕ) (list there turned round : PeakedMoves)
@@ -80,7 +80,7 @@ turn_goes mesh behind approach walk turn whole n around list there turned round 
     let approach_is : approach ≡ front ++ y ∷ [] = last_entry approach approach_some in
     let turn_is : turn ≡ y ∷ drop 1 turn = drop_more turn 0 0 some ∙ ap (λ (x : ℕ). x ∷ drop 1 turn) starts in
     let left_long : length (left ++ rest) ≡ length walk - n + behind = length-append left rest ∙ omega (arith, length-drop n walk, long) in
-    let from : walk ++ rest ≡ take n approach ++ (left ++ rest) = ap (λ (l : List ℕ). l ++ rest) (walk_is approach walk n a)
+    let from : walk ++ rest ≡ take n approach ++ (left ++ rest) = ap (λ (l : List ℕ). l ++ rest) (walk_is a)
     ∙ append_assoc (take n approach) left rest in
     let out : LeadsAtPeak mesh first there (approach ++ tail) =
     inserts first (left ++ rest) left_long (subst (LeadsAtPeak mesh first list) from h) in
@@ -133,9 +133,9 @@ turned_end approach turn n some le turn_some starts closed =
     ∙ ap (λ (x : ℕ). last_of (x ∷ home)) (out_end ∙ y_is) ∙ last_back b d
 
 -- the whole ends where the walk does
-pub turn_last : (approach walk turn : List ℕ) (n : ℕ) → BeginAlike approach walk n → 0 < length turn → get_or turn 0 0 ≡ last_of approach
-    → last_of turn ≡ last_of approach → last_of (turned_whole approach turn walk n) ≡ last_of walk
-turn_last approach walk turn n a turn_some starts closed =
+pub turn_last : {approach walk : List ℕ} (turn : List ℕ) {n : ℕ} → BeginAlike approach walk n → 0 < length turn
+    → get_or turn 0 0 ≡ last_of approach → last_of turn ≡ last_of approach → last_of (turned_whole approach turn walk n) ≡ last_of walk
+turn_last {approach} {walk} turn {n} a turn_some starts closed =
     let b : ℕ = last_of (take n approach) in
     let home : List ℕ = backward b (drop n approach) in
     let left : List ℕ = drop n walk in
@@ -145,7 +145,7 @@ turn_last approach walk turn n a turn_some starts closed =
     let shape : turned_whole approach turn walk n ≡ there ++ left = regroup approach (drop 1 turn) home left in
     ap last_of shape ∙ sym (last_joined there left there_some)
     ∙ ap (λ (x : ℕ). last_of (x ∷ left)) (turned_end approach turn n a.some a.in_approach turn_some starts closed)
-    ∙ last_joined (take n approach) left first_some ∙ ap last_of (sym (walk_is approach walk n a))
+    ∙ last_joined (take n approach) left first_some ∙ ap last_of (sym (walk_is a))
   where
     regroup : (a b c d : List ℕ) → a ++ (b ++ (c ++ d)) ≡ a ++ (b ++ c) ++ d
     regroup a b c d = simp append_assoc
@@ -172,7 +172,7 @@ turn_freely mesh approach walk turn whole new n w a turn_some starts closed is h
     ap (λ (l : List ℕ). get_or l 0 0) a.same ∙ get_or-take n walk 0 0 a.some in
     let first_is : take n approach ≡ x ∷ c = drop_more (take n approach) 0 0 (omega (arith, a.some)) ∙ ap (λ (y : ℕ). y ∷ c) start in
     let approach_is : approach ≡ x ∷ (c ++ d) = sym (take-append-drop n approach) ∙ ap (λ (l : List ℕ). l ++ d) first_is in
-    let walk_parts : walk ≡ x ∷ (c ++ e) = walk_is approach walk n a ∙ ap (λ (l : List ℕ). l ++ e) first_is in
+    let walk_parts : walk ≡ x ∷ (c ++ e) = walk_is a ∙ ap (λ (l : List ℕ). l ++ e) first_is in
     let b_is : last_of (x ∷ c) ≡ b = ap last_of (sym first_is) in
     let way : IsWay mesh x b c =
     subst (λ (y : ℕ). IsWay mesh x y c) b_is (way_apart mesh x _ c d (way_of mesh x (c ++ d) (subst (IsWalk mesh) approach_is w))).0 in

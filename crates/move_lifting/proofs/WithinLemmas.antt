@@ -1,7 +1,7 @@
 -- What a walk weighs on the way off the cotree, and how great the peaks of its moves are.
-use Rattle.move_lifting.proofs.Common.{last_entry, OrientedMesh, ◌≡◌, inl, inr, ℕ, suc, ◌+◌, ◌*◌, ◌-◌, ◌<◌, ◌≤◌, max, List, [], ◌∷◌, ◌++◌, length, take, ap, ◌∙◌, arith, append_assoc, length-append, PeakedMoves, SplitView}
+use Rattle.move_lifting.proofs.Common.{OrientedMesh, ◌≡◌, inl, inr, ℕ, suc, ◌+◌, ◌*◌, ◌<◌, ◌≤◌, max, List, [], ◌∷◌, ◌++◌, length, ap, ◌∙◌, arith, length-append, SplitView}
 use Rattle.move_lifting.specs.Loads.{load_of, StaysWithin}
-use Rattle.move_lifting.specs.Tracks.{TrackView, GrowsOrShrinks, last_of}
+use Rattle.move_lifting.specs.Tracks.{TrackView, GrowsOrShrinks}
 
 -- what walks weigh that are put together
 pub load-joined : (weight : ℕ → ℕ → ℕ) (front rest : List ℕ) (v : ℕ)
@@ -35,18 +35,6 @@ load_most weight most h u (v ∷ rest) = omega (arith, load_most weight most h v
   where
     times_suc : (a b : ℕ) → suc a * b ≡ b + a * b
     times_suc a b = omega arith
-
--- nothing is done, and one thing after another
-pub within_itself : (s : OrientedMesh) (split : SplitView) (behind : ℕ) (walk : List ℕ) (list : PeakedMoves)
-    → StaysWithin s split behind walk list walk list
-within_itself s split behind walk list weight are = (omega arith, omega arith, omega arith)
-
-pub within_on : (s : OrientedMesh) (split : SplitView) (behind : ℕ) (a b c : List ℕ) (x y z : PeakedMoves)
-    → StaysWithin s split behind a x b y → StaysWithin s split behind b y c z → StaysWithin s split behind a x c z
-within_on s split behind a b c x y z h k weight are =
-    let one = h weight are in
-    let two = k weight are in
-    (omega (arith, one.0, two.0), omega (arith, one.0, one.1, two.1), omega (arith, one.2, two.2))
 
 -- a vertex is put on a track
 pub within_put : (s : OrientedMesh) (split : SplitView) (behind v : ℕ) (old new : TrackView) → GrowsOrShrinks old.walk new.walk v
@@ -85,19 +73,3 @@ within_put s split behind v old new shape some count peak weight are = (
         )
   ],
 )
-
--- the same where more of the walk stands behind
-pub within_behind : (s : OrientedMesh) (split : SplitView) (after behind v : ℕ) (old new rest : List ℕ) (list more : PeakedMoves)
-    → 0 < length new → last_of new ≡ v → after ≡ length rest + behind → StaysWithin s split after (old ++ v ∷ []) list new more
-    → StaysWithin s split behind (old ++ v ∷ rest) list (new ++ rest) more
-within_behind s split after behind v old new rest list more some last counted h weight are =
-    let front : List ℕ = take (length new - 1) new in
-    let new_is : new ≡ front ++ v ∷ [] = last_entry new some ∙ ap (λ (x : ℕ). front ++ x ∷ []) last in
-    let whole : new ++ rest ≡ front ++ v ∷ rest = ap (λ (l : List ℕ). l ++ rest) new_is ∙ append_assoc front (v ∷ []) rest in
-    let one = h weight are in
-    let before = load-joined weight old rest v in
-    let after_that = load-joined weight front rest v in (
-      omega (arith, one.0, before, after_that, ap (load_of weight) whole, ap (load_of weight) new_is),
-      omega (arith, one.1, before, counted, darts_weigh weight are.some (v ∷ rest)),
-      omega (arith, one.2, before, after_that, ap (load_of weight) whole, ap (load_of weight) new_is),
-    )

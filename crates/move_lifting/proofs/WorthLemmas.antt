@@ -1,12 +1,13 @@
 -- What a step on a path of spokes does to the loop of the path, up to spurs: nothing, but a turn across the quad of the last side puts the
 -- loop of that side in.
-use Rattle.move_lifting.proofs.Common.{rotation_system, OrientedMesh, IsOrientedSurface, rotations_of, before, behind, Loops, spoke, root_is, up_is, backward_is, path_list, last_loop_as, last_loops, last_list, SameFreely, free_equality, free_group, IsGroup, sides_cross, loop_in, loop_out, free_spur, tree_ways, IsWay, back, loop_mul, loop_inv, loop_one, PolygonView, IsCutFrom, place_of, across, AreWaysUp, backward, by_loop, path_loop, put_behind, last_side_loop, IsQuadWheel, upper_side, lower_side, loop_of_path, front_of_last, front_of_across, DownWorth, down_worth, polygon_wheel, signed_loop as own_loop, spoke_at, AtPlace, at-place, old_way, new_way, IsTurned, is-turned, spur-is, upper_way, lower_way, quad_turned, from_spoke, from_vertex, ◌≡◌, ◌≢◌, ◌⊎◌, inl, inr, ℕ, suc, ◌+◌, ◌-◌, ◌<◌, Bool, true, false, not, List, [], ◌∷◌, ◌++◌, length, take, refl, ap, sym, ◌∙◌, subst, arith, ap₂, take-append_seam, eq-eqb, ne_eqb, if◌then◌else◌, ◌==◌, slice_index, All, is_used, AreFreelyEqual, IsWalk, after_dart, SplitView, IsSplit, in_cotree, is_left, add}
+use Rattle.move_lifting.proofs.Common.{rotation_system, OrientedMesh, IsOrientedSurface, rotations_of, before, behind, Loops, spoke, root_is, up_is, backward_is, path_list, last_loop_as, last_loops, last_list, SameFreely, free_equality, free_group, IsGroup, sides_cross, loop_in, loop_out, free_spur, tree_ways, IsWay, back, loop_mul, loop_inv, loop_one, PolygonView, place_of, across, AreWaysUp, backward, by_loop, path_loop, put_behind, last_side_loop, IsQuadWheel, upper_side, lower_side, loop_of_path, front_of_last, front_of_across, DownWorth, down_worth, polygon_wheel, signed_loop as own_loop, spoke_at, AtPlace, at-place, old_way, new_way, IsTurned, is-turned, spur-is, upper_way, lower_way, quad_turned, from_spoke, from_vertex, ◌≡◌, ◌≢◌, ◌⊎◌, inl, inr, ℕ, suc, ◌+◌, ◌-◌, ◌<◌, Bool, true, false, not, List, [], ◌∷◌, ◌++◌, length, take, refl, ap, sym, ◌∙◌, subst, arith, ap₂, take-append_seam, eq-eqb, ne_eqb, if◌then◌else◌, ◌==◌, slice_index, All, is_used, AreFreelyEqual, IsWalk, after_dart, SplitView, IsSplit, in_cotree, is_left}
 use Rattle.polygon_cut.proofs.FreeQuadLemmas.{last_loop}
 use Rattle.spoke_paths.specs.PathSteps.{spur_goes}
 use Rattle.std.proofs.Common.{Some}
 use Rattle.move_lifting.specs.LoopsPutIn.{signed_loop, IsFreelyPath, HasLoopIn}
 use Rattle.move_lifting.specs.LoopFronts.{spokes_in_front}
 use Rattle.move_lifting.proofs.PathLemmas.{ends_at, quad_partner}
+use Rattle.move_lifting.specs.Cuts.{IsCutSurface}
 
 -- the ways round a quad, by the partner of the side
 old_is : (rises : Bool) (d n : ℕ) (partner : ℕ → ℕ) (at_vertex : Bool) (a c : ℕ) (before after : List ℕ) → d ≡ n → c ≡ partner a
@@ -44,14 +45,14 @@ pub record TurnWorth (s : OrientedMesh) (split : SplitView) (o : IsOrientedSurfa
     (rises : Bool) (at a c : ℕ) (path next : List ℕ) : Type 0 where
   pub free : a ≢ polygon.degree - 1 → c ≢ polygon.degree - 1
       → SameFreely (loop_of_path s split o t polygon path) (loop_of_path s split o t polygon next)
-  pub costly : (a ≡ polygon.degree - 1) ⊎ (c ≡ polygon.degree - 1)
-      → SameFreely (loop_of_path s split o t polygon next)
+  pub costly : (a ≡ polygon.degree - 1) ⊎ (c ≡ polygon.degree - 1) → SameFreely (loop_of_path s split o t polygon next)
       (loop_in loop_mul loop_inv (loop_of_path s split o t polygon (spokes_in_front (polygon.degree - 1) path at a c))
       (own_loop s split o t polygon rises)
       (loop_of_path s split o t polygon path))
 
-module _ (s : OrientedMesh) (split : SplitView) (o : IsOrientedSurface s) (t : IsSplit s split) (polygon : PolygonView)
-    (cut : IsCutFrom s split polygon) (some : 0 < polygon.degree) where
+module _ {s : OrientedMesh} {split : SplitView} {polygon : PolygonView} (is_cut : IsCutSurface s split polygon) where
+  open is_cut use {valid as o, tree as t, cut, some}
+
   abbrev I : List ℕ → Loops s split t
   I path = loop_of_path s split o t polygon path
 
@@ -60,8 +61,7 @@ module _ (s : OrientedMesh) (split : SplitView) (o : IsOrientedSurface s) (t : I
 
   -- a turn of the upper way to the lower one, and back
   free_turn : (rises : Bool) (path next upper lower : List ℕ) → path ≡ (if rises then lower else upper)
-      → next ≡ (if rises then upper else lower)
-      → SameFreely (I upper) (I lower) → SameFreely (I path) (I next)
+      → next ≡ (if rises then upper else lower) → SameFreely (I upper) (I lower) → SameFreely (I path) (I next)
   free_turn true path next upper lower p n h =
       subst (λ (l : List ℕ). SameFreely (I l) (I next)) (sym p)
       (subst (λ (l : List ℕ). SameFreely (I lower) (I l)) (sym n) (G.turn (I upper) (I lower) h))
@@ -85,8 +85,7 @@ module _ (s : OrientedMesh) (split : SplitView) (o : IsOrientedSurface s) (t : I
       (subst (λ (l : List ℕ). SameFreely (I l) (loop_in loop_mul loop_inv (I front) loop (I upper))) (sym n) h))
 
   pub turn_worth : (rises : Bool) (at a c : ℕ) (path next : List ℕ)
-      → from_spoke at true (quad_turned polygon.places a c rises) path ≡ Some next
-      → TurnWorth s split o t polygon rises at a c path next
+      → from_spoke at true (quad_turned polygon.places a c rises) path ≡ Some next → TurnWorth s split o t polygon rises at a c path next
   turn_worth rises at a c path next e = record { free = free; costly = costly }
     where
       z : ℕ
@@ -117,7 +116,7 @@ module _ (s : OrientedMesh) (split : SplitView) (o : IsOrientedSurface s) (t : I
       a_in = subst (λ n. a < n) same turned.quad.a_below
 
       is : c ≡ across (rotations_of s) polygon a
-      is = quad_partner s split polygon o t cut some a c turned.quad
+      is = quad_partner is_cut turned.quad
 
       back_is : across (rotations_of s) polygon c ≡ a
       back_is = ap (across (rotations_of s) polygon) is ∙ q.partner_back a a_in
@@ -235,8 +234,7 @@ module _ (s : OrientedMesh) (split : SplitView) (o : IsOrientedSurface s) (t : I
 
   pub loop_lists : (rises : Bool) (path front next : List ℕ)
       → SameFreely (I next) (loop_in loop_mul loop_inv (I front) (own_loop s split o t polygon rises) (I path))
-      → (root : ℕ) (ways : ℕ → List ℕ) → AreWaysUp s split root ways
-      → AreFreelyEqual s.mesh
+      → (root : ℕ) (ways : ℕ → List ℕ) → AreWaysUp s split root ways → AreFreelyEqual s.mesh
       (root ∷ put_behind root (path_loop s polygon root ways true front) (signed_loop s polygon root ways rises)
       (path_loop s polygon root ways true path))
       (root ∷ path_loop s polygon root ways true next)

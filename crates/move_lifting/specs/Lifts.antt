@@ -14,13 +14,17 @@ IsRemoval (Insert at via) = ⊥
 IsRemoval (Remove at via) = Unit {0}
 IsRemoval (Across at face corner forward taken) = ⊥
 
+-- more moves come, and each is such
+abbrev pub ComeMore : (Move → Type 0) → List Move → List Move → Type 0
+ComeMore IsSuch old new = (more : List Move) × (new ≡ old ++ more) × All IsSuch more
+
 -- more removals come
 abbrev pub MoreRemove : List Move → List Move → Type 0
-MoreRemove old new = (more : List Move) × (new ≡ old ++ more) × All IsRemoval more
+MoreRemove old new = ComeMore IsRemoval old new
 
 -- more moves come, and each puts a spur in, takes one out, or goes round the face below a cotree edge in place of that edge
 abbrev pub MoreLeaveCotree : OrientedMesh → SplitView → List Move → List Move → Type 0
-MoreLeaveCotree surface split old new = (more : List Move) × (new ≡ old ++ more) × All (LeavesCotree surface split) more
+MoreLeaveCotree surface split old new = ComeMore (LeavesCotree surface split) old new
 
 -- The peak is low, for so many sides of a surface and so many darts of two walks together: twice the peak is no more than three times the
 -- darts and seven, for each side.

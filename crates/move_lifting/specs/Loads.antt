@@ -1,9 +1,11 @@
 -- Weights of darts, and what a walk weighs that is led off the cotree.
-use Rattle.std.specs.Prelude.{ℕ, ◌+◌, ◌<◌, ◌≤◌, max, List, [], ◌∷◌, length, reverse}
+use Rattle.std.specs.Prelude.{◌≡◌, ℕ, ◌+◌, ◌<◌, ◌≤◌, max, List, [], ◌∷◌, length, reverse}
 use Rattle.surf_model.specs.Moves.{PeakedMoves}
 use Rattle.halfedge_map.specs.OrientedMeshes.{OrientedMesh}
 use Rattle.tree_cotree.specs.Splits.{SplitView}
 use Rattle.move_lifting.specs.Crossings.{IsFaceBelow, beyond}
+use Rattle.move_lifting.specs.Lifts.{MoreLeaveCotree}
+use Rattle.move_lifting.specs.Tracks.{GoesOn, last_of}
 use Rattle.move_lifting.specs.declared.crossing.FaceStep.{FaceStep}
 
 -- what the darts of a walk weigh together, each told by the vertices where it starts and ends
@@ -25,3 +27,13 @@ StaysWithin surface split behind walk list next more =
     (weight : ℕ → ℕ → ℕ) → AreWeights surface split weight
     → (load_of weight next ≤ load_of weight walk) × (more.peak ≤ max list.peak (load_of weight walk + behind))
     × (length more.moves + load_of weight next ≤ length list.moves + load_of weight walk)
+
+-- A walk with so many entries behind it is led on to the next one, which ends where it does: by moves that put spurs in, take them out or
+-- go round faces below cotree edges, and within what the walk weighs.
+pub record IsLedOn (surface : OrientedMesh) (split : SplitView) (behind : ℕ) (walk : List ℕ) (list : PeakedMoves) (next : List ℕ)
+    (more : PeakedMoves) : Type 0 where
+  pub some : 0 < length next
+  pub last : last_of next ≡ last_of walk
+  pub goes : GoesOn surface.mesh behind walk list next more
+  pub leaves : MoreLeaveCotree surface split list.moves more.moves
+  pub within : StaysWithin surface split behind walk list next more

@@ -5,7 +5,7 @@ use Rattle.surf_model.specs.FreeWalks.{HasNoSpur}
 use Rattle.surf_model.specs.Moves.{PeakedMoves}
 use Rattle.surf_model.specs.declared.moves.Move.TheVariants.{Remove}
 use Rattle.surf_model.specs.declared.names.VertexName.{VertexName}
-use Rattle.move_lifting.specs.Lifts.{LeadsAtPeak}
+use Rattle.move_lifting.specs.Lifts.{LeadsAtPeak, MoreRemove}
 
 -- the walk that is laid, the moves that led to it, and how many more vertices can be laid with no memory for them
 pub record TrackView : Type 0 where
@@ -46,4 +46,5 @@ pub record IsNextPut (behind : ℕ) (old : TrackView) (front : ℕ) (new : Track
   pub last : last_of (take now new.walk) ≡ slice_index old.walk front
   pub long : now ≤ front + 1
   pub peak : new.list.peak ≤ max old.list.peak (length old.walk - 1 + behind)
+  pub removals : MoreRemove old.list.moves new.list.moves
   pub shape : GrowsOrShrinks (take front old.walk) (take now new.walk) (slice_index old.walk front)

@@ -33,7 +33,7 @@ pub(crate) fn contract(
 ) -> Result<Track, AllocError>
     requires cut { IsCut cut.now }
     requires reduction { LeavesNothing cut.now.polygon.now reduction }
-    requires led { IsLedFrom cut.now.on.surface.now.mesh behind track }
+    requires led { IsLedFrom cut.now.on.surface.now.mesh behind track.walk track.list }
     requires closed { last_of track.walk ≡ slice_index track.walk 0 }
     requires no_spur { HasNoSpur track.walk }
     requires spokes { IsFreelyPath cut.now.on.surface.now cut.now.on.split.now cut.now.polygon.now reduction.spokes.items track.walk }

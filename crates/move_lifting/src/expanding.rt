@@ -8,9 +8,9 @@ ghost use Rattle.halfedge_map.specs.DartMaps.{darts_of};
 ghost use Rattle.halfedge_map.specs.OrientedMeshes.{IsOrientedSurface};
 ghost use Rattle.tree_cotree.specs.Splits.{IsSplit};
 ghost use Rattle.polygon_cut.specs.SpokeLoops.{LeavesCotree, IsOffCotree};
-ghost use Rattle.move_lifting.specs.Lifts.{LeadsAtPeak, MoreLeaveCotree};
-ghost use Rattle.move_lifting.specs.Loads.{StaysWithin};
-ghost use Rattle.move_lifting.specs.Tracks.{GoesOn, last_of};
+ghost use Rattle.move_lifting.specs.Lifts.{LeadsAtPeak};
+ghost use Rattle.move_lifting.specs.Loads.{IsLedOn};
+ghost use Rattle.move_lifting.specs.Tracks.{last_of};
 ghost use Rattle.move_lifting.specs.Crossings.{IsStepOf, IsCrossed};
 ghost use Rattle.move_lifting.specs.Cuts.{IsSplitSurface};
 ghost use Rattle.move_lifting.specs.declared.expanding.TheConstants.{MOST_PASSED_ENTRIES};
@@ -92,15 +92,11 @@ pub(crate) fn lead_all(
     requires walk { IsWalk on.now.surface.now.mesh (numbers walk.now) }
     requires few { length walk.now ≤ MOST_PASSED_ENTRIES }
     requires behind { behind ≤ MOST_LIFTED_DARTS }
-    ensures leads { IfOk result (λ track. GoesOn on.now.surface.now.mesh behind (numbers walk.now) moves track.walk track.list) }
+    ensures led { IfOk result (λ track. IsLedOn on.now.surface.now on.now.split.now behind (numbers walk.now) moves
+        track.walk track.list) }
     ensures off_cotree { IfOk result (λ track. IsOffCotree on.now.surface.now on.now.split.now track.walk) }
     ensures no_spur { IfOk result (λ track. HasNoSpur track.walk) }
-    ensures last { IfOk result (λ track. last_of track.walk ≡ last_of (numbers walk.now)) }
-    ensures some { IfOk result (λ track. 0 < length track.walk) }
     ensures few { IfOk result (λ track. length track.walk < 2 ^ 31) }
-    ensures leaves { IfOk result (λ track. MoreLeaveCotree on.now.surface.now on.now.split.now moves.moves track.list.moves) }
-    ensures within { IfOk result (λ track. StaysWithin on.now.surface.now on.now.split.now behind (numbers walk.now) moves
-        track.walk track.list) }
     // What holds of every surface.
     ensures valid { IfOk result (λ _. IsOrientedSurface on.now.surface.now) }
 {
@@ -132,15 +128,10 @@ fn lead_on(
     requires edge { is_edge on.now.surface.now.mesh (last_of track.old.walk) to.0 ≡ true }
     requires room { length track.old.walk + darts_of on.now.surface.now + behind < 2 ^ 31 }
     ensures pending { OnOk result (pending.new.items ≡ []) }
-    ensures some { OnOk result (0 < length track.new.walk) }
     ensures no_spur { OnOk result (HasNoSpur track.new.walk) }
     ensures off_cotree { OnOk result (IsOffCotree on.now.surface.now on.now.split.now track.new.walk) }
-    ensures last { OnOk result (last_of track.new.walk ≡ to.0) }
     ensures long { OnOk result (length track.new.walk ≤ length track.old.walk + darts_of on.now.surface.now) }
-    ensures leads { OnOk result (GoesOn on.now.surface.now.mesh behind (track.old.walk ++ to.0 ∷ []) track.old.list
-        track.new.walk track.new.list) }
-    ensures leaves { OnOk result (MoreLeaveCotree on.now.surface.now on.now.split.now track.old.list.moves track.new.list.moves) }
-    ensures within { OnOk result (StaysWithin on.now.surface.now on.now.split.now behind (track.old.walk ++ to.0 ∷ []) track.old.list
+    ensures led { OnOk result (IsLedOn on.now.surface.now on.now.split.now behind (track.old.walk ++ to.0 ∷ []) track.old.list
         track.new.walk track.new.list) }
 {
     // With each step one of the darts below the edge goes for good, so there are no more steps than darts, and no more vertices.

@@ -1,11 +1,11 @@
 //! Turns put into walks: there, round, back, and on.
-ghost use Rattle.std.specs.Prelude.{◌≡◌, ◌≢◌, ◌+◌, ◌*◌, ◌-◌, ◌<◌, ◌≤◌, ◌^◌, ◌∷◌, [], ◌++◌, ℕ, List, length, max, take, drop, slice_index, IfOk, OnOk, All};
+ghost use Rattle.std.specs.Prelude.{◌≡◌, ◌≢◌, ◌+◌, ◌*◌, ◌-◌, ◌<◌, ◌≤◌, ◌^◌, ◌∷◌, [], ◌++◌, ℕ, List, length, max, take, drop, slice_index, IfOk, OnOk};
 ghost use Rattle.surf_model.specs.FaceLists.{FaceList};
 ghost use Rattle.surf_model.specs.FreeWalks.{AreFreelyEqual, HasNoSpur};
 ghost use Rattle.surf_model.specs.Vertices.{numbers};
 ghost use Rattle.surf_model.specs.Walks.{IsWalk, darts};
 ghost use Rattle.polygon_cut.specs.SpokeLoops.{backward, put_behind};
-ghost use Rattle.move_lifting.specs.Lifts.{LeadsAtPeak, IsRemoval};
+ghost use Rattle.move_lifting.specs.Lifts.{LeadsAtPeak, MoreRemove};
 ghost use Rattle.move_lifting.specs.LoopsPutIn.{IsApproach};
 ghost use Rattle.move_lifting.specs.Tracks.{GoesOn, last_of};
 ghost use Rattle.move_lifting.specs.TurnPeaks.{RisesWithTurn};
@@ -147,7 +147,7 @@ pub(crate) fn reduce_all(
     ensures some { IfOk result (λ track. 0 < length track.walk) }
     ensures few { IfOk result (λ track. length track.walk ≤ length walk.now) }
     ensures peak { IfOk result (λ track. track.list.peak ≤ max moves.peak (darts (numbers walk.now) + behind)) }
-    ensures removals { IfOk result (λ track. All IsRemoval moves.moves → All IsRemoval track.list.moves) }
+    ensures removals { IfOk result (λ track. MoreRemove moves.moves track.list.moves) }
     ensures count { IfOk result (λ track. length track.list.moves + length track.walk ≤ length moves.moves + length walk.now) }
 {
     let mut track = Track::start(alloc, walk[0], walk.len() as u32 - 1, moves)?;

@@ -1,6 +1,6 @@
 //! Walks that are led off the cotree in passes, faces nearest the root first.
 ghost use Rattle.std.specs.Prelude.{◌≡◌, ◌+◌, ◌<◌, ◌≤◌, ◌^◌, [], ◌∷◌, ◌++◌, ℕ, true, length, reverse, IfOk, OnOk, IfSome, slice_index};
-ghost use Rattle.surf_model.specs.FaceLists.{FaceList, face_at, is_edge};
+ghost use Rattle.surf_model.specs.FaceLists.{face_at, is_edge};
 ghost use Rattle.surf_model.specs.FreeWalks.{HasNoSpur};
 ghost use Rattle.surf_model.specs.Vertices.{numbers};
 ghost use Rattle.surf_model.specs.Walks.{IsWalk};
@@ -10,10 +10,9 @@ ghost use Rattle.polygon_cut.specs.SpokeLoops.{IsOffCotree};
 ghost use Rattle.move_lifting.specs.Contractions.{IsLedFrom};
 ghost use Rattle.move_lifting.specs.Crossings.{IsFaceBelow};
 ghost use Rattle.move_lifting.specs.Cuts.{IsSplitSurface};
-ghost use Rattle.move_lifting.specs.Lifts.{MoreLeaveCotree, MoreRemove};
-ghost use Rattle.move_lifting.specs.Loads.{StaysWithin};
-ghost use Rattle.move_lifting.specs.Passes.{IsPass, IsPassedFrom};
-ghost use Rattle.move_lifting.specs.Tracks.{GoesOn, last_of};
+ghost use Rattle.move_lifting.specs.Loads.{IsLedOn};
+ghost use Rattle.move_lifting.specs.Passes.{IsPass};
+ghost use Rattle.move_lifting.specs.Tracks.{last_of};
 ghost use Rattle.move_lifting.specs.declared.expanding.TheConstants.{MOST_PASSED_ENTRIES, MOST_LIFTED_DARTS};
 
 use crate::crossing::{FaceStep, face_below};
@@ -49,15 +48,9 @@ impl Pass<'_> {
         requires pass { IsPass self.now }
         requires walk { IsWalk self.now.on.now.surface.now.mesh (numbers walk.now) }
         requires few { length walk.now ≤ MOST_PASSED_ENTRIES }
-        ensures leads { IfOk result (λ track. GoesOn self.now.on.now.surface.now.mesh self.now.behind (numbers walk.now) moves
-            track.walk track.list) }
-        ensures last { IfOk result (λ track. last_of track.walk ≡ last_of (numbers walk.now)) }
-        ensures some { IfOk result (λ track. 0 < length track.walk) }
-        ensures few { IfOk result (λ track. length track.walk ≤ MOST_PASSED_ENTRIES) }
-        ensures leaves { IfOk result (λ track. MoreLeaveCotree self.now.on.now.surface.now self.now.on.now.split.now moves.moves
-            track.list.moves) }
-        ensures within { IfOk result (λ track. StaysWithin self.now.on.now.surface.now self.now.on.now.split.now self.now.behind
+        ensures led { IfOk result (λ track. IsLedOn self.now.on.now.surface.now self.now.on.now.split.now self.now.behind
             (numbers walk.now) moves track.walk track.list) }
+        ensures few { IfOk result (λ track. length track.walk ≤ MOST_PASSED_ENTRIES) }
     {
         let mut track = Track::start(alloc, walk[0], walk.len() as u32 - 1, moves)?;
         let mut pending = Vec::with_capacity(alloc, self.on.surface.darts() as usize)?;
@@ -85,16 +78,10 @@ impl Pass<'_> {
         requires few { length track.old.walk + 1 + left ≤ MOST_PASSED_ENTRIES }
         requires spare { left < track.old.spare }
         ensures pending { OnOk result (pending.new.items ≡ []) }
-        ensures some { OnOk result (0 < length track.new.walk) }
         ensures no_spur { OnOk result (HasNoSpur track.new.walk) }
-        ensures last { OnOk result (last_of track.new.walk ≡ to.0) }
         ensures few { OnOk result (length track.new.walk + left ≤ MOST_PASSED_ENTRIES) }
         ensures spare { OnOk result (left ≤ track.new.spare) }
-        ensures leads { OnOk result (GoesOn self.now.on.now.surface.now.mesh (left + self.now.behind) (track.old.walk ++ to.0 ∷ [])
-            track.old.list track.new.walk track.new.list) }
-        ensures leaves { OnOk result (MoreLeaveCotree self.now.on.now.surface.now self.now.on.now.split.now track.old.list.moves
-            track.new.list.moves) }
-        ensures within { OnOk result (StaysWithin self.now.on.now.surface.now self.now.on.now.split.now (left + self.now.behind)
+        ensures led { OnOk result (IsLedOn self.now.on.now.surface.now self.now.on.now.split.now (left + self.now.behind)
             (track.old.walk ++ to.0 ∷ []) track.old.list track.new.walk track.new.list) }
     {
         let after = left + self.behind;
@@ -139,15 +126,10 @@ fn put_pending(
     requires room { length track.old.walk + length pending.old.items + behind < 2 ^ 31 }
     requires spare { length pending.old.items ≤ track.old.spare }
     ensures pending { OnOk result (pending.new.items ≡ []) }
-    ensures some { OnOk result (0 < length track.new.walk) }
     ensures no_spur { OnOk result (HasNoSpur track.new.walk) }
-    ensures last { OnOk result (last_of track.new.walk ≡ last_of (track.old.walk ++ reverse (numbers pending.old.items))) }
     ensures long { OnOk result (length track.new.walk ≤ length track.old.walk + length pending.old.items) }
-    ensures leads { OnOk result ((mesh : FaceList) → GoesOn mesh behind (track.old.walk ++ reverse (numbers pending.old.items))
-        track.old.list track.new.walk track.new.list) }
-    ensures removals { OnOk result (MoreRemove track.old.list.moves track.new.list.moves) }
     ensures cells { OnOk result (length track.new.walk + track.new.spare ≡ length track.old.walk + track.old.spare) }
-    ensures within { OnOk result ((surface : OrientedMesh) (split : SplitView) → StaysWithin surface split behind
+    ensures led { OnOk result ((surface : OrientedMesh) (split : SplitView) → IsLedOn surface split behind
         (track.old.walk ++ reverse (numbers pending.old.items)) track.old.list track.new.walk track.new.list) }
 {
     while let Some(next) = pending.pop() {
@@ -166,17 +148,13 @@ pub(crate) fn lead_in_passes(
     moves: MoveList,
 ) -> Result<Track, AllocError>
     requires on { IsSplitSurface on.now }
-    requires led { IsLedFrom on.now.surface.now.mesh behind (record { walk = numbers walk.items; list = moves; spare = 0 }) }
+    requires led { IsLedFrom on.now.surface.now.mesh behind (numbers walk.items) moves }
     requires few { length walk.items ≤ MOST_PASSED_ENTRIES }
     requires behind { behind ≤ MOST_LIFTED_DARTS }
-    ensures leads { IfOk result (λ track. GoesOn on.now.surface.now.mesh behind (numbers walk.items) moves track.walk track.list) }
+    ensures led { IfOk result (λ track. IsLedOn on.now.surface.now on.now.split.now behind (numbers walk.items) moves
+        track.walk track.list) }
     ensures off_cotree { IfOk result (λ track. IsOffCotree on.now.surface.now on.now.split.now track.walk) }
     ensures no_spur { IfOk result (λ track. HasNoSpur track.walk) }
-    ensures last { IfOk result (λ track. last_of track.walk ≡ last_of (numbers walk.items)) }
-    ensures some { IfOk result (λ track. 0 < length track.walk) }
-    ensures leaves { IfOk result (λ track. MoreLeaveCotree on.now.surface.now on.now.split.now moves.moves track.list.moves) }
-    ensures within { IfOk result (λ track. StaysWithin on.now.surface.now on.now.split.now behind (numbers walk.items) moves
-        track.walk track.list) }
     // What holds of every surface.
     ensures valid { IfOk result (λ _. IsOrientedSurface on.now.surface.now) }
 {
@@ -193,12 +171,11 @@ fn pass_over(
     moves: MoveList,
 ) -> Result<(Vec<VertexName>, MoveList), AllocError>
     requires on { IsSplitSurface on.now }
-    requires led { IsLedFrom on.now.surface.now.mesh behind (record { walk = numbers walk.items; list = moves; spare = 0 }) }
+    requires led { IsLedFrom on.now.surface.now.mesh behind (numbers walk.items) moves }
     requires few { length walk.items ≤ MOST_PASSED_ENTRIES }
     requires behind { behind ≤ MOST_LIFTED_DARTS }
-    ensures passed { IfOk result (λ after. IsPassedFrom on.now.surface.now on.now.split.now behind
-        (record { walk = numbers walk.items; list = moves; spare = 0 })
-        (record { walk = numbers after.0.items; list = after.1; spare = 0 })) }
+    ensures led { IfOk result (λ after. IsLedOn on.now.surface.now on.now.split.now behind (numbers walk.items) moves
+        (numbers after.0.items) after.1) }
     ensures few { IfOk result (λ after. length after.0.items ≤ MOST_PASSED_ENTRIES) }
 {
     let depths = face_depths(alloc, on)?;

@@ -1,10 +1,10 @@
 //! A walk that is laid vertex by vertex, without spurs, and the moves that led to it.
-ghost use Rattle.std.specs.Prelude.{◌≡◌, ◌+◌, ◌-◌, ◌<◌, ◌≤◌, ◌^◌, ◌↔◌, [], ◌∷◌, ◌++◌, max, length, take, slice_index, IfOk, OnOk, All, IsTrue};
+ghost use Rattle.std.specs.Prelude.{◌≡◌, ◌+◌, ◌-◌, ◌<◌, ◌≤◌, ◌^◌, ◌↔◌, [], ◌∷◌, ◌++◌, max, length, take, slice_index, IfOk, OnOk, IsTrue};
 ghost use Rattle.surf_model.specs.FaceLists.{FaceList};
 ghost use Rattle.surf_model.specs.FreeWalks.{AreFreelyEqual, HasNoSpur};
 ghost use Rattle.surf_model.specs.Vertices.{numbers};
 ghost use Rattle.surf_model.specs.Walks.{darts};
-ghost use Rattle.move_lifting.specs.Lifts.{IsRemoval, MoreRemove};
+ghost use Rattle.move_lifting.specs.Lifts.{MoreRemove};
 ghost use Rattle.move_lifting.specs.Tracks.{GoesOn, IsStepBack, IsNextPut, GrowsOrShrinks, last_of};
 
 use crate::lifted::Lifted;
@@ -119,7 +119,6 @@ impl Track {
         ensures leads { OnOk result ((mesh : FaceList)
             → GoesOn mesh behind (self.old.walk ++ next.0 ∷ []) self.old.list self.new.walk self.new.list) }
         ensures no_spur { OnOk result (HasNoSpur self.new.walk) }
-        ensures removals { OnOk result (All IsRemoval self.old.list.moves → All IsRemoval self.new.list.moves) }
         ensures more { OnOk result (MoreRemove self.old.list.moves self.new.list.moves) }
         ensures long { OnOk result (length self.new.walk ≤ length self.old.walk + 1) }
         ensures some { OnOk result (0 < length self.new.walk) }

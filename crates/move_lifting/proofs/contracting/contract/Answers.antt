@@ -26,23 +26,17 @@ loop-step-init c = record {
 
 pub follow-requires-clause-allowed : goal.follow-requires-clause-allowed
 follow-requires-clause-allowed c =
-    let allowed = next_allowed c.args.cut.now.on.surface.now c.args.cut.now.on.split.now c.requires.cut.valid c.requires.cut.on.split
-    c.args.cut.now.polygon.now c.requires.cut.polygon c.requires.cut.some c.args.behind c.args.track c.loop-step.track
-    c.loop-step.path.items c.deref-step-items.result.now c.loop-step.step-index (Spur 0) c.loop-step-test.true
+    let allowed = next_allowed c.requires.cut.surface c.deref-step-items.result.now c.loop-step.step-index (Spur 0) c.loop-step-test.true
     c.loop-step.invariant.so_far in
     (allowed.0, ap (after_path_step c.args.cut.now.polygon.now.places _) c.deref.ensures.value ∙ allowed.1)
 
 pub follow-requires-clause-walk : goal.follow-requires-clause-walk
 follow-requires-clause-walk c =
-    led_walk c.args.cut.now.on.surface.now c.args.cut.now.on.split.now c.requires.cut.valid c.requires.cut.on.split
-    c.args.cut.now.polygon.now c.requires.cut.polygon c.requires.cut.some c.args.behind c.args.track c.loop-step.track
-    c.loop-step.path.items _ c.requires.led c.loop-step.invariant.so_far
+    led_walk c.requires.cut.surface c.requires.led c.loop-step.invariant.so_far
 
 pub take_step-requires : goal.take_step-requires
 take_step-requires c =
-    let allowed = next_allowed c.args.cut.now.on.surface.now c.args.cut.now.on.split.now c.requires.cut.valid c.requires.cut.on.split
-    c.args.cut.now.polygon.now c.requires.cut.polygon c.requires.cut.some c.args.behind c.args.track c.loop-step.track
-    c.loop-step.path.items c.deref-step-items.result.now c.loop-step.step-index (Spur 0) c.loop-step-test.true
+    let allowed = next_allowed c.requires.cut.surface c.deref-step-items.result.now c.loop-step.step-index (Spur 0) c.loop-step-test.true
     c.loop-step.invariant.so_far in (
       allowed.0,
       ap (λ (places : List ℕ). after_path_step places (get_or c.deref-step-items.result.now c.loop-step.step-index (Spur 0))
@@ -55,13 +49,9 @@ loop-step-preserved c =
     let taken : after_path_step c.args.cut.now.polygon.now.places step c.loop-step.path.items ≡ Some c.take_step.new.path.items =
     subst (λ (places : List ℕ). after_path_step places step c.loop-step.path.items ≡ Some c.take_step.new.path.items)
     c.requires.reduction.wheel c.take_step.ensures in
-    let so_far = contracted_on c.args.cut.now.on.surface.now c.args.cut.now.on.split.now c.requires.cut.valid c.requires.cut.on.split
-    c.args.cut.now.polygon.now c.requires.cut.polygon c.requires.cut.some c.args.behind c.args.track c.loop-step.track c.in_ok-track.track
-    c.loop-step.path.items c.take_step.new.path.items c.deref-step-items.result.now c.loop-step.step-index (Spur 0) c.loop-step-test.true
-    c.loop-step.invariant.so_far taken
-    c.in_ok-track.ensures.leads c.in_ok-track.ensures.some c.in_ok-track.ensures.no_spur c.in_ok-track.ensures.starts
-    c.in_ok-track.ensures.last
-    (λ other e.
+    let so_far = contracted_on c.requires.cut.surface c.in_ok-track.track c.take_step.new.path.items c.deref-step-items.result.now
+    c.loop-step.step-index (Spur 0) c.loop-step-test.true c.loop-step.invariant.so_far taken c.in_ok-track.ensures.leads
+    c.in_ok-track.ensures.some c.in_ok-track.ensures.no_spur c.in_ok-track.ensures.starts c.in_ok-track.ensures.last (λ other e.
     c.in_ok-track.ensures.spokes other (ap (after_path_step c.args.cut.now.polygon.now.places step) c.deref.ensures.value ∙ e)) in
     let shorter : length c.take_step.new.path.items ≤ length c.loop-step.path.items =
     step_no_longer c.args.cut.now.polygon.now.places step c.loop-step.path.items c.take_step.new.path.items taken in
@@ -77,10 +67,8 @@ loop-step-preserved c =
 
 pub returns-clause-nothing : goal.returns-clause-nothing
 returns-clause-nothing c =
-    all_contracted c.args.cut.now.on.surface.now c.args.cut.now.on.split.now c.requires.cut.valid c.requires.cut.on.split
-    c.args.cut.now.polygon.now c.requires.cut.polygon c.requires.cut.some c.args.behind c.args.track c.loop-step.track
-    c.loop-step.path.items c.deref-step-items.result.now c.loop-step.step-index (omega (arith, c.loop-step-test.false)) c.requires.led
-    c.loop-step.invariant.so_far
+    all_contracted c.requires.cut.surface c.deref-step-items.result.now c.loop-step.step-index (omega (arith, c.loop-step-test.false))
+    c.requires.led c.loop-step.invariant.so_far
 
 pub follow-requires-clause-spokes : goal.follow-requires-clause-spokes
 follow-requires-clause-spokes c =

@@ -11,8 +11,7 @@ use Rattle.move_lifting.proofs.contracting.follow.Goals.{In-Turn, After-deref}
 
 pub returns-in_default-clause-spokes : goal.returns-in_default-clause-spokes
 returns-in_default-clause-spokes c = λ next e.
-    spur_follows c.args.looping.now.cut.now.on.surface.now c.args.looping.now.cut.now.on.split.now c.requires.looping.cut.valid
-    c.requires.looping.cut.on.split c.args.looping.now.cut.now.polygon.now c.requires.looping.cut.polygon c.requires.looping.cut.some
+    spur_follows c.requires.looping.cut.surface
     c.in_default.field-0
     c.args.path.now next c.args.track.walk
     (subst (λ (step : PathStep). after_path_step c.args.looping.now.cut.now.polygon.now.places step c.args.path.now ≡ Some next)
@@ -20,8 +19,7 @@ returns-in_default-clause-spokes c = λ next e.
 
 pub returns-then-partner-last-clause-spokes : goal.returns-then-partner-last-clause-spokes
 returns-then-partner-last-clause-spokes c = λ next e.
-    turn_follows c.args.looping.now.cut.now.on.surface.now c.args.looping.now.cut.now.on.split.now c.requires.looping.cut.valid
-    c.requires.looping.cut.on.split c.args.looping.now.cut.now.polygon.now c.requires.looping.cut.polygon c.requires.looping.cut.some
+    turn_follows c.requires.looping.cut.surface
     c.in-Turn.at c.in-Turn.side
     c.in-Turn.partner c.in-Turn.up c.args.path.now next c.args.track.walk
     (subst (λ (step : PathStep). after_path_step c.args.looping.now.cut.now.polygon.now.places step c.args.path.now ≡ Some next)
@@ -42,10 +40,7 @@ turn c =
 below : (c : In-Turn) → (c.in-Turn.side < c.args.looping.now.cut.now.polygon.now.degree)
     × (c.in-Turn.partner < c.args.looping.now.cut.now.polygon.now.degree)
 below c =
-    quad_below c.args.looping.now.cut.now.on.surface.now c.args.looping.now.cut.now.on.split.now c.requires.looping.cut.valid
-    c.requires.looping.cut.on.split c.args.looping.now.cut.now.polygon.now c.requires.looping.cut.polygon c.requires.looping.cut.some
-    c.in-Turn.side
-    c.in-Turn.partner (turn c).1
+    quad_below c.requires.looping.cut.surface (turn c).1
 
 pub front_of_loop-requires-clause-within : goal.front_of_loop-requires-clause-within
 front_of_loop-requires-clause-within c = omega (arith, (turn (goal.at.front_of_loop-requires-clause-within c).In-Turn).0)
@@ -85,16 +80,14 @@ around c pairs few =
     let allowed = subst (λ (step : PathStep). after_path_step polygon.places step c.args.path.now ≡ Some c.requires.allowed.0) c.in-Turn.is
     c.requires.allowed.1 in
     subst (λ (l : List ℕ). AreShortAround s split polygon l c.args.path.now (pairs + 1)) (sym (front_is c))
-    (front_short s split c.requires.looping.cut.valid c.requires.looping.cut.on.split polygon c.requires.looping.cut.polygon
-    c.requires.looping.cut.some c.in-Turn.up c.in-Turn.at c.in-Turn.side c.in-Turn.partner c.args.path.now c.requires.allowed.0 pairs
-    allowed c.requires.below (which c) few)
+    (front_short c.requires.looping.cut.surface c.in-Turn.up c.in-Turn.at c.in-Turn.side c.in-Turn.partner c.args.path.now
+    c.requires.allowed.0 pairs allowed c.requires.below (which c) few)
 
 pub put_loop-requires-clause-front : goal.put_loop-requires-clause-front
 put_loop-requires-clause-front c =
     let at = goal.at.put_loop-requires-clause-front c in
     subst (λ (l : List ℕ). All (λ i. i < c.args.looping.now.cut.now.polygon.now.degree) l) (sym (front_is at.After-deref))
-    (front_below c.args.looping.now.cut.now.on.surface.now c.args.looping.now.cut.now.on.split.now c.requires.looping.cut.valid
-    c.requires.looping.cut.on.split c.args.looping.now.cut.now.polygon.now c.requires.looping.cut.polygon c.requires.looping.cut.some
+    (front_below c.requires.looping.cut.surface
     c.in-Turn.at c.in-Turn.side
     c.in-Turn.partner c.args.path.now c.requires.below (turn at.In-Turn).1)
 
@@ -105,8 +98,7 @@ returns-clause-starts c =
     c.args.looping.now.cut.now.polygon.now c.deref.result.now c.in-Turn.up c.args.track.walk x.walk)
     (λ (x : TrackView). slice_index x.walk 0 ≡ slice_index c.args.track.walk 0)
     (λ x there puts.
-    loop_starts c.args.looping.now.cut.now.on.surface.now c.args.looping.now.cut.now.on.split.now c.requires.looping.cut.valid
-    c.requires.looping.cut.on.split c.args.looping.now.cut.now.polygon.now c.requires.looping.cut.polygon c.requires.looping.cut.some
+    loop_starts c.requires.looping.cut.surface
     c.in-Turn.up c.args.path.now
     c.deref.result.now c.args.track.walk x.walk c.requires.below there puts c.requires.spokes)
     c.put_loop.ensures.some c.put_loop.ensures.freely
@@ -122,8 +114,7 @@ returns-clause-spokes c =
     → IsFreelyPath c.args.looping.now.cut.now.on.surface.now c.args.looping.now.cut.now.on.split.now c.args.looping.now.cut.now.polygon.now
     next x.walk)
     (λ x there puts next e.
-    loop_follows c.args.looping.now.cut.now.on.surface.now c.args.looping.now.cut.now.on.split.now c.requires.looping.cut.valid
-    c.requires.looping.cut.on.split c.args.looping.now.cut.now.polygon.now c.requires.looping.cut.polygon c.requires.looping.cut.some
+    loop_follows c.requires.looping.cut.surface
     c.in-Turn.at c.in-Turn.side
     c.in-Turn.partner c.in-Turn.up c.args.path.now next c.deref.result.now c.args.track.walk x.walk
     (subst (λ (step : PathStep). after_path_step c.args.looping.now.cut.now.polygon.now.places step c.args.path.now ≡ Some next)

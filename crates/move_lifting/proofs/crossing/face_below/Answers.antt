@@ -1,5 +1,4 @@
-use Rattle.move_lifting.proofs.Common.{edge_of, rotations_of, IsDartFrom, ◌≡◌, ℕ, false, sym, ap, ◌∙◌, subst, option_map, IfSome, MatchOption, Some, None, IsSide, side_number, FaceList, DartName, FaceName, below_edge, in_cotree}
-use Rattle.std.proofs.Common.{Option}
+use Rattle.move_lifting.proofs.Common.{edge_of, rotations_of, IsDartFrom, ◌≡◌, ℕ, false, sym, ap, ◌∙◌, subst, Option, option_map, MatchOption, Some, None, IsSide, side_number, FaceName, below_edge, in_cotree}
 use Rattle.move_lifting.specs.Crossings.{GoesAlong, IsFaceBelow}
 use Rattle.move_lifting.specs.declared.crossing.FaceStep.{FaceStep}
 use Rattle.move_lifting.proofs.CrossingLemmas.{below_step, not_below}
@@ -10,8 +9,7 @@ use Rattle.move_lifting.proofs.crossing.face_below.Goals.{After-unwrap-dart}
 from : (c : After-unwrap-dart)
     → IsDartFrom (rotations_of c.args.surface.now) c.args.from.0 c.args.to.0 c.unwrap-dart.result.0
 from c =
-    subst (λ (r : Option DartName). IfSome r (λ dart. IsDartFrom (rotations_of c.args.surface.now) c.args.from.0 c.args.to.0 dart.0))
-    c.unwrap-dart.ensures c.dart_between.ensures.leads
+    rw c.unwrap-dart.ensures at c.dart_between.ensures.leads
 
 pub returns-in_err-face : goal.returns-in_err-face
 returns-in_err-face c =
@@ -27,7 +25,7 @@ returns-in_err-face c =
     MatchOption r ((dart : ℕ) → IsDartFrom (rotations_of s) u v dart → in_cotree c.args.split.now (edge_of s dart) ≡ false)
     (IsFaceBelow s c.args.split.now u v))
     (sym c.from_residual.ensures)
-    (λ x other. not_below s c.args.split.now c.faces-faces.ensures.valid c.requires.split u v d x
+    (λ x other. not_below c.faces-faces.ensures.valid c.requires.split u v d x
     (from (goal.at.returns-in_err-face c).After-unwrap-dart) none other)
 
 pub returns : goal.returns
@@ -40,12 +38,9 @@ returns c =
     ap (below_edge c.args.split.now) (sym c.edge_of.ensures.edge) ∙ sym c.child_face.ensures
     ∙ ap (λ (r : Option FaceName). option_map (λ f. f.0) r) c.in_ok-face.was in
     let mesh = c.faces-faces.ensures.mesh in
-    let in_mesh : IsSide s.mesh c.side_at-side.result =
-    subst (λ (m : FaceList). IsSide m c.side_at-side.result) mesh c.side_at-side.ensures.side in
-    let number : side_number s.mesh c.side_at-side.result ≡ c.dart_in.result.0 =
-    subst (λ (m : FaceList). side_number m c.side_at-side.result ≡ c.dart_in.result.0) mesh c.side_at-side.ensures.number in
-    let along : GoesAlong s.mesh c.side_at-side.result u c.step_along.result =
-    subst (λ (m : FaceList). GoesAlong m c.side_at-side.result u c.step_along.result) mesh c.step_along.ensures in
-    below_step s c.args.split.now c.faces-faces.ensures.valid c.requires.split u v d c.in_ok-face.face.0 c.dart_in.result.0
+    let in_mesh : IsSide s.mesh c.side_at-side.result = rw mesh at c.side_at-side.ensures.side in
+    let number : side_number s.mesh c.side_at-side.result ≡ c.dart_in.result.0 = rw mesh at c.side_at-side.ensures.number in
+    let along : GoesAlong s.mesh c.side_at-side.result u c.step_along.result = rw mesh at c.step_along.ensures in
+    below_step c.faces-faces.ensures.valid c.requires.split u v d c.in_ok-face.face.0 c.dart_in.result.0
     c.side_at-side.result
     c.step_along.result (from (goal.at.returns c).After-unwrap-dart) face c.dart_in.ensures in_mesh number along

@@ -1,6 +1,6 @@
-use Rattle.move_lifting.proofs.Common.{darts_of, IsOffCotree, ◌≡◌, List, [], ℕ, ◌*◌, ◌≤◌, length, sym, ap, ◌∙◌, subst, arith, mul-le-mul_left, IfOk-weaker, list_keeps_ends, PeakedMoves, numbers, HaveCommonEnds, darts}
+use Rattle.move_lifting.proofs.Common.{darts_of, ◌≡◌, List, [], ℕ, ◌*◌, ◌≤◌, ap, ◌∙◌, subst, arith, mul-le-mul_left, IfOk-weaker, list_keeps_ends, PeakedMoves, numbers, darts}
 use Rattle.move_lifting.specs.Lifts.{LeadsAtPeak}
-use Rattle.move_lifting.specs.Loads.{StaysWithin}
+use Rattle.move_lifting.specs.Loads.{IsLedOn}
 use Rattle.move_lifting.specs.declared.lifted.Lifted.{Lifted}
 use Rattle.move_lifting.proofs.BoundLemmas.{IsShort, short_walk, three_darts}
 use Rattle.move_lifting.proofs.ExpandLemmas.{led_whole}
@@ -13,62 +13,48 @@ led c =
     let same : numbers c.deref.result.now ≡ c.args.walk.now = ap numbers c.deref.ensures.value ∙ c.in_ok-vertices.ensures in
     let nowhere : c.new-moves.result ≡ record { moves = []; peak = darts c.args.walk.now } =
     subst (λ (n : ℕ). c.new-moves.result ≡ record { moves = []; peak = n }) c.darts.ensures.count c.new-moves.ensures in
-    led_whole c.args.surface.now c.args.walk.now (numbers c.deref.result.now) c.new-moves.result c.in_ok-track.track same nowhere
-    c.in_ok-track.ensures.leads
+    led_whole c.args.surface.now.mesh c.args.walk.now (numbers c.deref.result.now) c.new-moves.result c.in_ok-track.track same nowhere
+    c.in_ok-track.ensures.led.goes
 
 pub returns-clause-leads : goal.returns-clause-leads
 returns-clause-leads c =
-    IfOk-weaker c.finish.result (λ (x : Lifted). x ≡ record { walk = c.in_ok-track.track.walk; moves = c.in_ok-track.track.list })
-    (λ (x : Lifted). LeadsAtPeak c.args.surface.now.mesh c.args.walk.now x.moves x.walk)
-    (λ x e. subst (λ (y : Lifted). LeadsAtPeak c.args.surface.now.mesh c.args.walk.now y.moves y.walk) (sym e)
-    (led (goal.at.returns-clause-leads c).In_ok-track)) c.finish.ensures
+    IfOk-weaker c.finish.result _ _ (λ (x : Lifted) e. rw e (led (goal.at.returns-clause-leads c).In_ok-track)) c.finish.ensures
 
 pub returns-clause-off_cotree : goal.returns-clause-off_cotree
 returns-clause-off_cotree c =
-    IfOk-weaker c.finish.result (λ (x : Lifted). x ≡ record { walk = c.in_ok-track.track.walk; moves = c.in_ok-track.track.list })
-    (λ (x : Lifted). IsOffCotree c.args.surface.now c.args.split.now x.walk)
-    (λ x e. subst (λ (y : Lifted). IsOffCotree c.args.surface.now c.args.split.now y.walk) (sym e) c.in_ok-track.ensures.off_cotree)
-    c.finish.ensures
+    IfOk-weaker c.finish.result _ _ (λ (x : Lifted) e. rw e c.in_ok-track.ensures.off_cotree) c.finish.ensures
 
 pub returns-clause-ends : goal.returns-clause-ends
 returns-clause-ends c =
-    IfOk-weaker c.finish.result (λ (x : Lifted). x ≡ record { walk = c.in_ok-track.track.walk; moves = c.in_ok-track.track.list })
-    (λ (x : Lifted). HaveCommonEnds c.args.walk.now x.walk)
-    (λ x e. subst (λ (y : Lifted). HaveCommonEnds c.args.walk.now y.walk) (sym e)
-    (list_keeps_ends c.args.surface.now.mesh c.in_ok-track.track.list.moves c.args.walk.now c.in_ok-track.track.walk c.requires.walk.starts
-    (led (goal.at.returns-clause-ends c).In_ok-track).leads))
-    c.finish.ensures
+    IfOk-weaker c.finish.result _ _
+    (λ (x : Lifted) e. rw e (list_keeps_ends c.args.surface.now.mesh c.in_ok-track.track.list.moves c.args.walk.now c.in_ok-track.track.walk
+    c.requires.walk.starts (led (goal.at.returns-clause-ends c).In_ok-track).leads)) c.finish.ensures
 
 short : (c : In_ok-track)
     → IsShort (darts c.args.walk.now * darts_of c.args.surface.now) 0 c.in_ok-track.track.walk c.new-moves.result c.in_ok-track.track.list
 short c =
     let s = c.args.surface.now in
     let same : numbers c.deref.result.now ≡ c.args.walk.now = ap numbers c.deref.ensures.value ∙ c.in_ok-vertices.ensures in
-    short_walk s c.args.split.now c.in_ok-track.ensures.valid c.requires.split 0 c.args.walk.now c.in_ok-track.track.walk c.new-moves.result
-    c.in_ok-track.track.list c.requires.walk
-    (subst (λ (l : List ℕ). StaysWithin s c.args.split.now 0 l c.new-moves.result c.in_ok-track.track.walk c.in_ok-track.track.list) same
-    c.in_ok-track.ensures.within)
+    short_walk c.in_ok-track.ensures.valid c.requires.split c.requires.walk
+    (subst (λ (l : List ℕ). IsLedOn s c.args.split.now 0 l c.new-moves.result c.in_ok-track.track.walk c.in_ok-track.track.list) same
+    c.in_ok-track.ensures.led)
 
 pub returns-clause-long : goal.returns-clause-long
 returns-clause-long c =
-    IfOk-weaker c.finish.result (λ (x : Lifted). x ≡ record { walk = c.in_ok-track.track.walk; moves = c.in_ok-track.track.list })
-    (λ (x : Lifted). darts x.walk ≤ darts c.args.walk.now * darts_of c.args.surface.now)
-    (λ x e. omega (arith, (short (goal.at.returns-clause-long c).In_ok-track).long, ap (λ (y : Lifted). length y.walk) e)) c.finish.ensures
+    IfOk-weaker c.finish.result _ _
+    (λ (x : Lifted) e. rw e (omega (arith, (short (goal.at.returns-clause-long c).In_ok-track).long))) c.finish.ensures
 
 pub returns-clause-low : goal.returns-clause-low
 returns-clause-low c =
-    let s = c.args.surface.now in
-    let one : 1 ≤ darts_of s = omega (arith, three_darts s c.in_ok-track.ensures.valid) in
-    IfOk-weaker c.finish.result (λ (x : Lifted). x ≡ record { walk = c.in_ok-track.track.walk; moves = c.in_ok-track.track.list })
-    (λ (x : Lifted). x.moves.peak ≤ darts c.args.walk.now * darts_of s)
-    (λ x e. omega (
+    let one : 1 ≤ darts_of c.args.surface.now = omega (arith, three_darts c.args.surface.now c.in_ok-track.ensures.valid) in
+    IfOk-weaker c.finish.result _ _
+    (λ (x : Lifted) e. rw e (omega (
       arith,
       (short (goal.at.returns-clause-low c).In_ok-track).peak,
       mul-le-mul_left (darts c.args.walk.now) one,
-      ap (λ (y : Lifted). y.moves.peak) e,
       ap (λ (l : PeakedMoves). l.peak) c.new-moves.ensures,
       c.darts.ensures.count,
-    )) c.finish.ensures
+    ))) c.finish.ensures
 
 pub lead_all-requires-clause-on : goal.lead_all-requires-clause-on
 lead_all-requires-clause-on c = record { split = c.requires.split; sides = c.requires.sides }

@@ -1,8 +1,7 @@
 use Rattle.move_lifting.proofs.Common.{IsOffCotree, ◌≡◌, ℕ, ◌+◌, ◌-◌, ◌<◌, List, length, get_or, ap, sym, ◌∙◌, subst, arith, get_or-map, is_edge, numbers, VertexName}
 use Rattle.move_lifting.specs.Tracks.{TrackView}
-use Rattle.move_lifting.proofs.ExpandLemmas.{edge_to, led_first, led_more, led_all, led_all_within, length-numbers}
+use Rattle.move_lifting.proofs.ExpandLemmas.{edge_to, led_first, led_more, led_all, length-numbers}
 use Rattle.move_lifting.proofs.expanding.lead_all.Goals as goal
-use Rattle.move_lifting.proofs.expanding.lead_all.Goals.{After-loop-place}
 
 pub loop-place-init : goal.loop-place-init
 loop-place-init c =
@@ -34,28 +33,15 @@ loop-place-preserved c =
     let long : length walk ≡ length c.args.walk.now = length-numbers c.args.walk.now in
     let here : n < length walk = omega arith in
     record {
-      led = led_more c.args.on.now.surface.now c.args.on.now.split.now c.args.behind walk c.args.moves c.loop-place.track
-          c.lead_on.new.track n _
-          (length c.args.walk.now - n - 1 + c.args.behind) c.loop-place.invariant.led here
-          (get_or-map (λ (x : VertexName). x.0) c.args.walk.now n _ 0 within) (omega arith) c.in_ok-lead_on.ensures.leads
-          c.in_ok-lead_on.ensures.some c.in_ok-lead_on.ensures.no_spur c.in_ok-lead_on.ensures.last c.in_ok-lead_on.ensures.leaves
-          c.in_ok-lead_on.ensures.within;
+      led = led_more c.lead_on.new.track _ (length c.args.walk.now - n - 1 + c.args.behind) c.loop-place.invariant.led here
+          (get_or-map (λ (x : VertexName). x.0) c.args.walk.now n _ 0 within) (omega arith) c.in_ok-lead_on.ensures.led
+          c.in_ok-lead_on.ensures.no_spur;
       off_cotree = c.in_ok-lead_on.ensures.off_cotree;
       pending = c.in_ok-lead_on.ensures.pending;
       few = omega (arith, c.in_ok-lead_on.ensures.long, c.loop-place.invariant.few, c.requires.on.sides);
     }
 
--- the whole walk is led
-all : (c : After-loop-place) → c.loop-place.place ≡ length (numbers c.args.walk.now)
-all c = omega (arith, c.loop-place-test.false, c.loop-place.auto.place-end, length-numbers c.args.walk.now, c.requires.walk.starts)
-
-pub returns-clause-leads : goal.returns-clause-leads
-returns-clause-leads c =
-    (led_all c.args.on.now.surface.now c.args.on.now.split.now c.args.behind (numbers c.args.walk.now) c.args.moves c.loop-place.track
-    c.loop-place.place
-    c.loop-place.invariant.led (all (goal.at.returns-clause-leads c).After-loop-place)).0
-
-pub returns-clause-within : goal.returns-clause-within
-returns-clause-within c =
-    led_all_within c.args.on.now.surface.now c.args.on.now.split.now c.args.behind (numbers c.args.walk.now) c.args.moves c.loop-place.track
-    c.loop-place.place c.loop-place.invariant.led (all (goal.at.returns-clause-within c).After-loop-place)
+pub returns-clause-led : goal.returns-clause-led
+returns-clause-led c =
+    led_all c.loop-place.invariant.led
+    (omega (arith, c.loop-place-test.false, c.loop-place.auto.place-end, length-numbers c.args.walk.now, c.requires.walk.starts))

@@ -1,9 +1,10 @@
 use Rattle.move_lifting.proofs.Common.{darts_of, edge_of, rotations_of, IsDartFrom, ◌≡◌, ℕ, ◌+◌, ◌≤◌, false, List, [], ◌∷◌, ◌++◌, length, sym, ap, ◌∙◌, subst, arith, nil_from_length, FaceList, face_at, is_edge, numbers, VertexName, in_cotree}
 use Rattle.move_lifting.specs.Tracks.{TrackView, last_of}
 use Rattle.move_lifting.specs.Crossings.{IsFaceBelow, IsCrossed}
-use Rattle.move_lifting.proofs.ExpandLemmas.{under_way, led_on, led_within, all_come, one_pending, length-numbers, next_edge, room_along, room_across, put_on_way, cross_on_way}
+use Rattle.move_lifting.proofs.ExpandLemmas.{under_way, all_come, one_pending, length-numbers, room_along, room_across, put_on_way, cross_on_way, all_led, rest_turned_to}
 use Rattle.move_lifting.proofs.expanding.lead_on.Goals as goal
 use Rattle.move_lifting.proofs.expanding.lead_on.Goals.{in-Some-face_below+in_ok-cross-in-Some-face_below, in-None+in_ok-put-in-None, In_default, After-len}
+use Rattle.move_lifting.proofs.LedLemmas.{led_put}
 
 pub loop-step-init : goal.loop-step-init
 loop-step-init c =
@@ -31,35 +32,19 @@ returns-in_default-clause-no_spur c = c.loop-step.invariant.under.no_spur
 pub returns-in_default-clause-off_cotree : goal.returns-in_default-clause-off_cotree
 returns-in_default-clause-off_cotree c = c.loop-step.invariant.under.off_cotree
 
-pub returns-in_default-clause-last : goal.returns-in_default-clause-last
-returns-in_default-clause-last c =
-    (led_on c.args.on.now.surface.now c.args.on.now.split.now c.args.behind c.args.to.0 c.args.track.now c.loop-step.track
-    (numbers c.loop-step.pending.items)
-    c.loop-step._step c.loop-step.invariant.under (ap numbers (none (goal.at.returns-in_default-clause-last c).In_default))).1
-
 pub returns-in_default-clause-long : goal.returns-in_default-clause-long
 returns-in_default-clause-long c =
     omega (arith, c.loop-step.invariant.under.long, c.darts-step-end.ensures.count, c.loop-step-test.true)
 
-pub returns-in_default-clause-leads : goal.returns-in_default-clause-leads
-returns-in_default-clause-leads c =
-    (led_on c.args.on.now.surface.now c.args.on.now.split.now c.args.behind c.args.to.0 c.args.track.now c.loop-step.track
-    (numbers c.loop-step.pending.items)
-    c.loop-step._step c.loop-step.invariant.under (ap numbers (none (goal.at.returns-in_default-clause-leads c).In_default))).0
-
-pub returns-in_default-clause-within : goal.returns-in_default-clause-within
-returns-in_default-clause-within c =
-    led_within c.args.on.now.surface.now c.args.on.now.split.now c.args.behind c.args.to.0 c.args.track.now c.loop-step.track
-    (numbers c.loop-step.pending.items)
-    c.loop-step._step c.loop-step.invariant.under (ap numbers (none (goal.at.returns-in_default-clause-within c).In_default))
+pub returns-in_default-clause-led : goal.returns-in_default-clause-led
+returns-in_default-clause-led c =
+    all_led c.loop-step.invariant.under (ap numbers (none (goal.at.returns-in_default-clause-led c).In_default))
 
 pub face_below-requires-clause-edge : goal.face_below-requires-clause-edge
 face_below-requires-clause-edge c =
     let popped = one_pending c.loop-step.pending.items c.pop.new.self.items c.in-Some.next c.in-Some.ensures.items in
     ap (λ (x : ℕ). is_edge c.args.on.now.surface.now.mesh x c.in-Some.next.0) c.last.ensures.vertex
-    ∙ next_edge c.args.on.now.surface.now c.args.on.now.split.now c.args.behind c.args.to.0 c.args.track.now c.loop-step.track
-    (numbers c.loop-step.pending.items)
-    (numbers c.pop.new.self.items) c.in-Some.next.0 c.loop-step._step c.loop-step.invariant.under popped
+    ∙ (rest_turned_to (numbers c.pop.new.self.items) c.in-Some.next.0 c.loop-step.invariant.under popped).0.0
 
 pub cross-requires-clause-room : goal.cross-requires-clause-room
 cross-requires-clause-room c =
@@ -69,11 +54,8 @@ cross-requires-clause-room c =
     let popped = one_pending c.loop-step.pending.items c.pop.new.self.items c.in-Some.next c.in-Some.ensures.items in
     let under : IsFaceBelow s c.args.on.now.split.now u c.in-Some.next.0 step =
     subst (λ (x : ℕ). IsFaceBelow s c.args.on.now.split.now x c.in-Some.next.0 step) c.last.ensures.vertex c.in-Some-face_below.ensures in
-    let room = room_across s c.args.on.now.split.now c.faces.ensures.valid c.requires.on.split c.args.behind c.args.to.0 c.args.track.now
-    c.loop-step.track
-    (numbers c.loop-step.pending.items) (numbers c.pop.new.self.items) c.in-Some.next.0 c.loop-step._step step
-    c.loop-step.invariant.under popped
-    under in
+    let room = room_across c.faces.ensures.valid c.requires.on.split (numbers c.pop.new.self.items) c.in-Some.next.0
+    c.loop-step.invariant.under popped under in
     let mesh : length (face_at c.faces.result.now step.face.0) ≡ length (face_at s.mesh step.face.0) =
     ap (λ (m : FaceList). length (face_at m step.face.0)) c.faces.ensures.mesh in
     omega (arith, room, mesh, c.requires.room, length-numbers c.pop.new.self.items)
@@ -83,10 +65,7 @@ room : (c : After-len)
     → length c.loop-step.track.walk + c.len.result + 1 ≤ length c.args.track.now.walk + darts_of c.args.on.now.surface.now
 room c =
     let popped = one_pending c.loop-step.pending.items c.pop.new.self.items c.in-Some.next c.in-Some.ensures.items in
-    let room = room_along c.args.on.now.surface.now c.args.on.now.split.now c.requires.on.split c.args.behind c.args.to.0 c.args.track.now
-    c.loop-step.track
-    (numbers c.loop-step.pending.items) (numbers c.pop.new.self.items) c.in-Some.next.0 c.loop-step._step
-    c.loop-step.invariant.under popped in
+    let room = room_along c.requires.on.split (numbers c.pop.new.self.items) c.in-Some.next.0 c.loop-step.invariant.under popped in
     omega (arith, room, c.len.ensures, length-numbers c.pop.new.self.items)
 
 pub overflow_cast-len : goal.overflow_cast-len
@@ -120,10 +99,8 @@ loop-step-preserved c =
           w.faces.ensures.mesh w.in_ok-cross-in-Some-face_below.ensures.crossed in
           rw (w.track-is, w.pending-is)
           (record {
-            under = cross_on_way s split c.darts-step-end.ensures.valid c.args.behind c.args.to.0 c.args.track.now c.loop-step.track
-                w.cross.new.track
-                (numbers c.loop-step.pending.items) (numbers c.pop.new.self.items) (numbers w.cross.new.pending.items) v
-                c.loop-step._step step c.loop-step.invariant.under popped under crossed;
+            under = cross_on_way c.darts-step-end.ensures.valid (numbers c.pop.new.self.items) v c.loop-step.invariant.under popped
+                under crossed;
             cells = omega (
               arith,
               w.in_ok-cross-in-Some-face_below.ensures.spare,
@@ -140,11 +117,10 @@ loop-step-preserved c =
           omega (arith, w.len.ensures, length-numbers c.pop.new.self.items) in
           rw (w.track-is, w.pending-is)
           (record {
-            under = put_on_way s split c.args.behind c.args.to.0 c.args.track.now c.loop-step.track w.put.new.self
-                (numbers c.loop-step.pending.items)
-                (numbers c.pop.new.self.items) v c.loop-step._step (w.len.result + c.args.behind)
-                c.loop-step.invariant.under popped after off
-                put.leads put.no_spur put.long put.last put.shape put.some put.more put.peak put.count;
+            under = put_on_way w.put.new.self (numbers c.pop.new.self.items) v (w.len.result + c.args.behind) c.loop-step.invariant.under
+                popped after off
+                (led_put (w.len.result + c.args.behind) v c.loop-step.track w.put.new.self (put.leads s.mesh) put.some put.last put.more
+                put.shape put.count put.peak) put.no_spur put.long put.shape;
             cells = omega (arith, put.cells, c.loop-step.invariant.cells);
           })
     ]
@@ -155,9 +131,7 @@ returns-clause-pending c =
     omega (arith, c.darts-step-end.ensures.count, c.loop-step-test.false) in
     nil_from_length c.loop-step.pending.items
     (sym (length-numbers c.loop-step.pending.items)
-    ∙ all_come c.args.on.now.surface.now c.args.on.now.split.now c.requires.on.split c.args.behind c.args.to.0 c.args.track.now
-    c.loop-step.track
-    (numbers c.loop-step.pending.items) c.loop-step._step c.loop-step.invariant.under done)
+    ∙ all_come c.requires.on.split c.loop-step.invariant.under done)
 
 pub returns-clause-no_spur : goal.returns-clause-no_spur
 returns-clause-no_spur c = c.loop-step.invariant.under.no_spur
@@ -165,23 +139,8 @@ returns-clause-no_spur c = c.loop-step.invariant.under.no_spur
 pub returns-clause-off_cotree : goal.returns-clause-off_cotree
 returns-clause-off_cotree c = c.loop-step.invariant.under.off_cotree
 
-pub returns-clause-last : goal.returns-clause-last
-returns-clause-last c =
-    (led_on c.args.on.now.surface.now c.args.on.now.split.now c.args.behind c.args.to.0 c.args.track.now c.loop-step.track
-    (numbers c.loop-step.pending.items)
-    c.loop-step._step c.loop-step.invariant.under (ap numbers (returns-clause-pending c))).1
-
 pub returns-clause-long : goal.returns-clause-long
 returns-clause-long c = omega (arith, c.loop-step.invariant.under.long, c.darts-step-end.ensures.count, c.loop-step.auto._step-end)
 
-pub returns-clause-leads : goal.returns-clause-leads
-returns-clause-leads c =
-    (led_on c.args.on.now.surface.now c.args.on.now.split.now c.args.behind c.args.to.0 c.args.track.now c.loop-step.track
-    (numbers c.loop-step.pending.items)
-    c.loop-step._step c.loop-step.invariant.under (ap numbers (returns-clause-pending c))).0
-
-pub returns-clause-within : goal.returns-clause-within
-returns-clause-within c =
-    led_within c.args.on.now.surface.now c.args.on.now.split.now c.args.behind c.args.to.0 c.args.track.now c.loop-step.track
-    (numbers c.loop-step.pending.items)
-    c.loop-step._step c.loop-step.invariant.under (ap numbers (returns-clause-pending c))
+pub returns-clause-led : goal.returns-clause-led
+returns-clause-led c = all_led c.loop-step.invariant.under (ap numbers (returns-clause-pending c))

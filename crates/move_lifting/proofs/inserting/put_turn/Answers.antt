@@ -137,8 +137,7 @@ returns-clause-last c =
     IfOk-weaker c.reduced.result _ _
     (λ track last.
     last ∙ ap last_of (is_whole at)
-    ∙ turn_last (numbers c.args.approach.now) c.args.track.walk c.args.turn.now.walk c.common_start-common.result (alike at)
-    c.darts-around.ensures.starts c.requires.meets c.requires.closed)
+    ∙ turn_last c.args.turn.now.walk (alike at) c.darts-around.ensures.starts c.requires.meets c.requires.closed)
     c.reduced.ensures.last
 
 pub returns-clause-few : goal.returns-clause-few

@@ -1,9 +1,8 @@
-use Rattle.move_lifting.proofs.Common.{darts_of, origin_of, side_at, last_side, ◌≡◌, ℕ, ◌-◌, ◌<◌, ◌∷◌, ◌++◌, [], List, length, not, get_or, refl, sym, ap, ◌∙◌, subst, arith, append-nil, IfOk-weaker, FaceList, face_at, PeakedMoves, apply, numbers, IsWalk, darts, Move, Across, VertexName}
+use Rattle.move_lifting.proofs.Common.{darts_of, origin_of, side_at, last_side, ◌≡◌, ℕ, ◌-◌, ◌<◌, ◌∷◌, ◌++◌, [], List, length, not, get_or, refl, sym, ap, ◌∙◌, subst, arith, append-nil, IfOk-weaker, FaceList, face_at, PeakedMoves, apply, numbers, darts, Move, Across, VertexName}
 use Rattle.move_lifting.specs.Crossings.{IsStepOf}
 use Rattle.move_lifting.specs.Lifts.{LeadsAtPeak}
-use Rattle.move_lifting.specs.Loads.{StaysWithin}
+use Rattle.move_lifting.specs.Loads.{IsLedOn}
 use Rattle.move_lifting.specs.SpokeWalks.{IsLastLoop}
-use Rattle.move_lifting.specs.Tracks.{GoesOn}
 use Rattle.move_lifting.specs.declared.cut.Cut.{Cut}
 use Rattle.move_lifting.specs.declared.lifted.Lifted.{Lifted}
 use Rattle.move_lifting.proofs.BoundLemmas.{IsShort, short_within}
@@ -22,29 +21,28 @@ below c =
     let cut : Cut = c.args.cut.now in
     subst (λ (x : ℕ). x < darts_of cut.on.surface.now)
     (sym (last_is cut c.side-dart.result.0 c.degree.result c.side-dart.ensures c.degree.ensures.degree))
-    (last_below cut.on.surface.now cut.on.split.now cut.polygon.now c.requires.polygon c.requires.some)
+    (last_below cut.on.surface.now cut.on.split.now cut.polygon.now c.requires.surface.cut c.requires.surface.some)
 
 pub all_round-requires-clause-step : goal.all_round-requires-clause-step
 all_round-requires-clause-step c =
     subst (λ (m : FaceList). IsStepOf m c.step_from-step.result) (sym c.faces.ensures.mesh)
-    (step_within c.args.cut.now.on.surface.now c.side-dart.result.0 c.args.back c.step_from-step.result (below c)
-    c.step_from-step.ensures.step)
+    (step_within (below c) c.step_from-step.ensures.step)
 
 pub all_round-requires-clause-start : goal.all_round-requires-clause-start
 all_round-requires-clause-start c =
     let step = c.step_from-step.result in
     subst (λ (m : FaceList). c.origin.result.0 ≡ get_or (face_at m step.face.0) step.corner 0) (sym c.faces.ensures.mesh)
     (c.origin.ensures
-    ∙ step_starts c.args.cut.now.on.surface.now c.side-dart.result.0 c.args.back step (below c) c.step_from-step.ensures.step)
+    ∙ step_starts (below c) c.step_from-step.ensures.step)
 
 -- the walk goes all round the root face
 all_round : (c : In_ok-around)
     → IsAllRound c.args.cut.now.on.surface.now c.args.cut.now.on.split.now c.args.cut.now.polygon.now c.args.back c.step_from-step.result
     (numbers c.in_ok-around.around.items)
 all_round c =
-    gone_round c.args.cut.now.on.surface.now c.args.cut.now.on.split.now c.args.cut.now.polygon.now c.requires.valid c.requires.polygon
-    c.requires.some c.args.back c.side-dart.result.0 c.step_from-step.result c.faces.result.now c.in_ok-around.around.items
-    (last_is c.args.cut.now c.side-dart.result.0 c.degree.result c.side-dart.ensures c.degree.ensures.degree)
+    gone_round c.args.cut.now.on.surface.now c.args.cut.now.on.split.now c.args.cut.now.polygon.now c.requires.surface.valid
+    c.requires.surface.cut c.requires.surface.some c.args.back c.side-dart.result.0 c.step_from-step.result c.faces.result.now
+    c.in_ok-around.around.items (last_is c.args.cut.now c.side-dart.result.0 c.degree.result c.side-dart.ensures c.degree.ensures.degree)
     c.step_from-step.ensures.step c.faces.ensures.mesh c.in_ok-around.ensures
 
 pub overflow_cast-len : goal.overflow_cast-len
@@ -59,8 +57,7 @@ overflow_sub-len c =
 
 pub lead_all-requires-clause-walk : goal.lead_all-requires-clause-walk
 lead_all-requires-clause-walk c =
-    subst (λ (l : List VertexName). IsWalk c.args.cut.now.on.surface.now.mesh (numbers l)) (sym c.deref.ensures.value)
-    (all_round (goal.at.lead_all-requires-clause-walk c).In_ok-around).is_walk
+    rw c.deref.ensures.value (all_round (goal.at.lead_all-requires-clause-walk c).In_ok-around).is_walk
 
 pub lead_all-requires-clause-few : goal.lead_all-requires-clause-few
 lead_all-requires-clause-few c =
@@ -85,19 +82,14 @@ returns c =
     let noted : LeadsAtPeak s.mesh (v ∷ []) c.push.new.self corners =
     round_leads s.mesh v (c.len.result - 1) c.move_round.result corners c.new-moves.result c.push.new.self c.new-moves.ensures
     (ap (apply s.mesh (v ∷ [])) c.move_round.ensures ∙ round.leads) count c.in_ok-push.ensures.ok in
-    let goes : GoesOn s.mesh 0 corners c.push.new.self c.in_ok-track.track.walk c.in_ok-track.track.list =
-    subst (λ (l : List VertexName). GoesOn s.mesh 0 (numbers l) c.push.new.self c.in_ok-track.track.walk c.in_ok-track.track.list)
-    c.deref.ensures.value
-    c.in_ok-track.ensures.leads in
+    let on : IsLedOn s c.args.cut.now.on.split.now 0 corners c.push.new.self c.in_ok-track.track.walk c.in_ok-track.track.list =
+    subst (λ (l : List VertexName). IsLedOn s c.args.cut.now.on.split.now 0 (numbers l) c.push.new.self c.in_ok-track.track.walk
+    c.in_ok-track.track.list) c.deref.ensures.value c.in_ok-track.ensures.led in
     let led : LeadsAtPeak s.mesh (v ∷ []) c.in_ok-track.track.list c.in_ok-track.track.walk =
     subst (LeadsAtPeak s.mesh (v ∷ []) c.in_ok-track.track.list) (append-nil c.in_ok-track.track.walk)
-    (goes (v ∷ []) [] refl (subst (LeadsAtPeak s.mesh (v ∷ []) c.push.new.self) (sym (append-nil corners)) noted)) in
-    let stays : StaysWithin s c.args.cut.now.on.split.now 0 corners c.push.new.self c.in_ok-track.track.walk c.in_ok-track.track.list =
-    subst (λ (l : List VertexName). StaysWithin s c.args.cut.now.on.split.now 0 (numbers l) c.push.new.self c.in_ok-track.track.walk
-    c.in_ok-track.track.list) c.deref.ensures.value c.in_ok-track.ensures.within in
+    (on.goes (v ∷ []) [] refl (subst (LeadsAtPeak s.mesh (v ∷ []) c.push.new.self) (sym (append-nil corners)) noted)) in
     let few : IsShort (darts_of s) 0 c.in_ok-track.track.walk c.push.new.self c.in_ok-track.track.list =
-    short_within s c.args.cut.now.on.split.now c.requires.valid c.requires.on.split 0 (darts_of s) corners c.in_ok-track.track.walk
-    c.push.new.self c.in_ok-track.track.list (round.light c.requires.on.split) stays in
+    short_within c.requires.surface.valid c.requires.on.split (darts_of s) (round.light c.requires.on.split) on in
     let begun : c.push.new.self.moves ≡ Across 0 c.step_from-step.result.face c.step_from-step.result.corner
     (not c.step_from-step.result.forward) 0 ∷ [] =
     ap (λ (l : PeakedMoves). l.moves) c.in_ok-push.ensures.ok ∙ ap (λ (l : PeakedMoves). l.moves ++ c.move_round.result ∷ [])
@@ -120,7 +112,7 @@ returns c =
       freely = λ root ways h.
           round_freely s c.args.cut.now.on.split.now c.args.cut.now.polygon.now c.args.back c.step_from-step.result corners
           c.new-moves.result c.push.new.self c.in_ok-track.track
-          c.requires.valid c.requires.on.split c.requires.polygon c.requires.some round led begun c.in_ok-track.ensures.leaves
+          c.requires.surface.valid c.requires.on.split c.requires.surface.cut c.requires.surface.some round led begun on.leaves
           c.in_ok-track.ensures.off_cotree root ways h;
     } in
     IfOk-weaker c.finish.result _ _

@@ -1,26 +1,23 @@
-use Rattle.move_lifting.proofs.Common.{leads_nowhere, ◌≡◌, List, [], length, ℕ, sym, ap, ◌∙◌, subst, arith, refl, append-nil, All-nil, IfOk-weaker, All, list_keeps_ends, FaceList, PeakedMoves, numbers}
+use Rattle.move_lifting.proofs.Common.{◌≡◌, List, [], ◌++◌, length, ℕ, sym, ap, ◌∙◌, subst, arith, IfOk-weaker, All, list_keeps_ends, FaceList, PeakedMoves, numbers}
 use Rattle.move_lifting.specs.Lifts.{LeadsAtPeak, IsRemoval}
 use Rattle.move_lifting.specs.declared.lifted.Lifted.{Lifted}
 use Rattle.move_lifting.proofs.MoveLemmas.{removals_peak}
 use Rattle.move_lifting.proofs.lifted.reduce_free.Goals as goal
 use Rattle.move_lifting.proofs.lifted.reduce_free.Goals.{In_ok-track}
-use Rattle.move_lifting.proofs.ExpandLemmas.{length-numbers}
+use Rattle.move_lifting.proofs.ExpandLemmas.{led_whole, length-numbers}
 
 -- the moves lead, and take spurs out alone
 leads : (c : In_ok-track) (mesh : FaceList) → LeadsAtPeak mesh c.args.walk.now c.in_ok-track.track.list c.in_ok-track.track.walk
 leads c mesh =
-    let walk : List ℕ = c.args.walk.now in
-    let read : numbers c.deref.result.now ≡ walk = ap numbers c.deref.ensures.value ∙ c.in_ok-vertices.ensures in
-    let begun : LeadsAtPeak mesh walk c.new-moves.result walk =
-    leads_nowhere mesh walk c.new-moves.result
-    (subst (λ (n : ℕ). c.new-moves.result ≡ record { moves = []; peak = n }) c.darts.ensures.count c.new-moves.ensures) in
-    subst (LeadsAtPeak mesh walk c.in_ok-track.track.list) (append-nil c.in_ok-track.track.walk)
-    (c.in_ok-track.ensures.leads mesh walk [] refl (subst (LeadsAtPeak mesh walk c.new-moves.result) (sym (append-nil _ ∙ read)) begun))
+    led_whole mesh c.args.walk.now (numbers c.deref.result.now) c.new-moves.result c.in_ok-track.track
+    (ap numbers c.deref.ensures.value ∙ c.in_ok-vertices.ensures)
+    (subst (λ (n : ℕ). c.new-moves.result ≡ record { moves = []; peak = n }) c.darts.ensures.count c.new-moves.ensures)
+    (c.in_ok-track.ensures.leads mesh)
 
 removals : (c : In_ok-track) → All IsRemoval c.in_ok-track.track.list.moves
 removals c =
-    c.in_ok-track.ensures.removals
-    (subst (All IsRemoval) (sym (ap (λ (l : PeakedMoves). l.moves) c.new-moves.ensures)) (All-nil IsRemoval))
+    let more = c.in_ok-track.ensures.removals in
+    subst (All IsRemoval) (sym (more.1 ∙ ap (λ (l : PeakedMoves). l.moves ++ more.0) c.new-moves.ensures)) more.2
 
 pub reduce_all-requires-clause-room : goal.reduce_all-requires-clause-room
 reduce_all-requires-clause-room c =

@@ -2,7 +2,8 @@ use Rattle.move_lifting.proofs.Common.{◌≡◌, ℕ, ◌+◌, ◌-◌, ◌<◌
 use Rattle.move_lifting.specs.Lifts.{LeadsAtPeak}
 use Rattle.move_lifting.specs.Tracks.{last_of}
 use Rattle.move_lifting.proofs.CloseLemmas.{goes_on_back}
-use Rattle.move_lifting.proofs.ExpandLemmas.{one_pending, length-numbers, last-push}
+use Rattle.move_lifting.proofs.ExpandLemmas.{one_pending, length-numbers}
+use Rattle.move_lifting.proofs.LedLemmas.{last-push}
 use Rattle.move_lifting.proofs.lifting.append_back.Goals as goal
 
 pub loop-done-preserved : goal.loop-done-preserved

@@ -1,4 +1,4 @@
-use Rattle.move_lifting.proofs.Common.{places_within, HaveFewerDarts, fewer_darts, left_together, left_apart, left_leads, darts_of, ◌≡◌, ℕ, ◌+◌, ◌*◌, ◌≤◌, length, sym, ap, subst, arith, mul-le-mul_right, length-map, IfSome, MatchOption, FaceList, Homotopic, PeakedMoves, raised, darts, AreWalkPair}
+use Rattle.move_lifting.proofs.Common.{places_within, HaveFewerDarts, fewer_darts, left_together, left_apart, left_leads, darts_of, ◌≡◌, ℕ, ◌+◌, ◌*◌, ◌≤◌, length, sym, ap, subst, arith, mul-le-mul_right, length-map, FaceList, Homotopic, PeakedMoves, raised, darts, AreWalkPair}
 use Rattle.move_lifting.specs.Lifts.{HasLowPeak, IsShortList, LeadsAtPeak}
 use Rattle.move_lifting.specs.declared.expanding.TheConstants.{MOST_LIFTED_DARTS}
 use Rattle.move_lifting.proofs.BoundLemmas.{three_darts, low_around, low_most}
@@ -26,14 +26,12 @@ lift_between-requires-clause-walks c = together (goal.at.lift_between-requires-c
 leads : (c : In-Some)
     → LeadsAtPeak c.args.surface.now.mesh c.in_ok-first.first c.in-Some.list c.in_ok-second.second
 leads c =
-    subst (λ o. MatchOption o (Homotopic c.args.surface.now.mesh c.in_ok-first.first c.in_ok-second.second → ⊥)
-    (λ l. LeadsAtPeak c.args.surface.now.mesh c.in_ok-first.first l c.in_ok-second.second)) c.in-Some.is c.in_ok-list.ensures.list
+    rw c.in-Some.is at c.in_ok-list.ensures.list
 
 low : (c : In-Some)
     → HasLowPeak (darts_of c.args.surface.now) (darts c.in_ok-first.first + darts c.in_ok-second.second) c.in-Some.list
 low c =
-    subst (λ o. IfSome o (HasLowPeak (darts_of c.args.surface.now) (darts c.in_ok-first.first + darts c.in_ok-second.second)))
-    c.in-Some.is c.in_ok-list.ensures.low
+    rw c.in-Some.is at c.in_ok-list.ensures.low
 
 pub put_back-requires-clause-places : goal.put_back-requires-clause-places
 put_back-requires-clause-places c =
@@ -64,8 +62,7 @@ pub returns-clause-list : goal.returns-clause-list
 returns-clause-list c =
     let mesh : FaceList = c.args.surface.now.mesh in
     let apart : Homotopic mesh c.in_ok-first.first c.in_ok-second.second → ⊥ =
-    subst (λ o. MatchOption o (Homotopic mesh c.in_ok-first.first c.in_ok-second.second → ⊥)
-    (λ l. LeadsAtPeak mesh c.in_ok-first.first l c.in_ok-second.second)) c.in-None.is c.in_ok-list.ensures.list in
+    rw c.in-None.is at c.in_ok-list.ensures.list in
     left_apart mesh c.args.first.now c.args.second.now c.of-common.result c.in_ok-first.first c.in_ok-second.second c.requires.first
     c.requires.second c.of-common.ensures (record { near_is = c.in_ok-first.ensures; far_is = c.in_ok-second.ensures }) apart
 
@@ -92,7 +89,7 @@ returns-in-Some-clause-short c sphere =
     let near : ℕ = darts c.in_ok-first.first + darts c.in_ok-second.second in
     let all : ℕ = darts c.args.first.now + darts c.args.second.now in
     let short : IsShortList (darts_of s) near c.in-Some.list =
-    subst (λ o. MatchOption o ⊥ (IsShortList (darts_of s) near)) c.in-Some.is (c.in_ok-list.ensures.short sphere) in
+    rw c.in-Some.is at (c.in_ok-list.ensures.short sphere) in
     let fewer = fewer (goal.at.returns-in-Some-clause-short c).In_ok-second in
     let less : near ≤ all = omega (arith, fewer.in_near, fewer.in_far) in
     omega (
@@ -105,6 +102,4 @@ returns-in-Some-clause-short c sphere =
 
 pub returns-clause-short : goal.returns-clause-short
 returns-clause-short c sphere =
-    subst (λ o. MatchOption o ⊥
-    (IsShortList (darts_of c.args.surface.now) (darts c.in_ok-first.first + darts c.in_ok-second.second))) c.in-None.is
-    (c.in_ok-list.ensures.short sphere)
+    rw c.in-None.is at (c.in_ok-list.ensures.short sphere)

@@ -1,7 +1,7 @@
-use Rattle.move_lifting.proofs.Common.{darts_of, spokes_along, PathLeads, ◌≡◌, ℕ, ◌+◌, ◌*◌, ◌<◌, ◌≤◌, true, List, [], length, drop, refl, sym, ap, ◌∙◌, subst, arith, both_ways, length-drop, PeakedMoves, numbers, IsWalk, darts, VertexName}
+use Rattle.move_lifting.proofs.Common.{darts_of, spokes_along, PathLeads, ◌≡◌, ℕ, ◌+◌, ◌*◌, ◌≤◌, true, List, [], length, drop, sym, ap, ◌∙◌, subst, arith, both_ways, length-drop, PeakedMoves, numbers, darts}
 use Rattle.move_lifting.specs.Contractions.{IsLedFrom}
-use Rattle.move_lifting.specs.Lifts.{LeadsAtPeak, HasLowPeak}
-use Rattle.move_lifting.specs.Loads.{StaysWithin}
+use Rattle.move_lifting.specs.Lifts.{HasLowPeak}
+use Rattle.move_lifting.specs.Loads.{IsLedOn}
 use Rattle.move_lifting.specs.Tracks.{GoesOn, TrackView}
 use Rattle.move_lifting.proofs.BoundLemmas.{IsShort, short_walk, three_darts, is_few, is_low}
 use Rattle.move_lifting.proofs.ExpandLemmas.{length-numbers}
@@ -9,6 +9,7 @@ use Rattle.move_lifting.proofs.LiftLemmas.{IsClosed, closed_is, IsLedOff, off_co
 use Rattle.move_lifting.proofs.ShortStepLemmas.{walk_spokes}
 use Rattle.move_lifting.proofs.lifting.lift_between.Goals as goal
 use Rattle.move_lifting.proofs.lifting.lift_between.Goals.{In_ok-begun, In_ok-closed, In_ok-reduction}
+use Rattle.move_lifting.specs.Cuts.{IsCutSurface}
 
 -- the closed walk leads on from the first walk, with the second behind it
 closed : (c : In_ok-closed)
@@ -19,8 +20,7 @@ closed c =
     c.in_ok-closed.ensures.vertices c.in_ok-closed.ensures.moves
 
 led : (c : In_ok-closed)
-    → IsLedFrom c.args.on.now.surface.now.mesh c.darts-behind.result
-    (record { walk = numbers c.in_ok-closed.closed.items; list = c.in_ok-closed.moves; spare = 0 })
+    → IsLedFrom c.args.on.now.surface.now.mesh c.darts-behind.result (numbers c.in_ok-closed.closed.items) c.in_ok-closed.moves
 led c = record {
   first = c.args.first.now;
   rest = drop 1 c.args.second.now;
@@ -39,15 +39,13 @@ lead_in_passes-requires-clause-led c = led (goal.at.lead_in_passes-requires-clau
 
 pub returns-then-len-eq1-clause-list : goal.returns-then-len-eq1-clause-list
 returns-then-len-eq1-clause-list c =
-    second_there c.args.on.now.surface.now.mesh c.args.first.now (numbers c.in_ok-closed.closed.items) c.args.second.now
-    c.in_ok-closed.moves (closed (goal.at.returns-then-len-eq1-clause-list c).In_ok-closed)
+    second_there (numbers c.in_ok-closed.closed.items) (closed (goal.at.returns-then-len-eq1-clause-list c).In_ok-closed)
     (omega (arith, length-numbers c.in_ok-closed.closed.items, c.len.ensures, c.if-len-eq1.true, c.in_ok-closed.closed.ok.0))
     c.requires.walks.second_walk.starts
 
 pub of-requires-clause-walk : goal.of-requires-clause-walk
 of-requires-clause-walk c =
-    subst (λ (l : List VertexName). IsWalk c.args.on.now.surface.now.mesh (numbers l)) (sym c.deref.ensures.value)
-    (closed (goal.at.of-requires-clause-walk c).In_ok-closed).walk
+    rw c.deref.ensures.value (closed (goal.at.of-requires-clause-walk c).In_ok-closed).walk
 
 pub lead_in_passes-requires-2-clause-led : goal.lead_in_passes-requires-2-clause-led
 lead_in_passes-requires-2-clause-led c = led (goal.at.lead_in_passes-requires-2-clause-led c).In_ok-closed
@@ -57,17 +55,22 @@ returns-then-degree-eq0-clause-list c =
     let k = closed (goal.at.returns-then-degree-eq0-clause-list c).In_ok-closed in
     let off : IsLedOff c.args.on.now.surface.now c.args.on.now.split.now c.args.first.now (numbers c.in_ok-closed.closed.items)
     c.args.second.now c.in_ok-closed.moves c.in_ok-tree.tree =
-    off_cotree c.args.on.now.surface.now c.args.on.now.split.now c.args.first.now c.args.second.now c.in_ok-closed.closed.items
-    c.in_ok-closed.closed.items c.in_ok-closed.moves c.in_ok-tree.tree c.darts-behind.result c.requires.walks k refl
-    c.darts-behind.ensures.count c.in_ok-tree.ensures.leads c.in_ok-tree.ensures.leaves c.in_ok-tree.ensures.some
-    c.in_ok-tree.ensures.last in
+    off_cotree c.in_ok-tree.tree c.darts-behind.result c.requires.walks k c.darts-behind.ensures.count c.in_ok-tree.ensures.led in
     let sphere : c.args.on.now.split.now.genus ≡ 0 =
     omega (arith, c.requires.cut.degree, c.degree.ensures.degree, c.if-degree-eq0.true) in
-    subst (λ (l : PeakedMoves). LeadsAtPeak c.args.on.now.surface.now.mesh c.args.first.now l c.args.second.now) (sym c.into_moves.ensures)
-    (second_left c.args.on.now.surface.now c.args.on.now.split.now c.in_ok-tree.ensures.valid c.requires.on.split sphere
-    c.args.first.now (numbers c.in_ok-closed.closed.items) c.args.second.now c.in_ok-closed.moves c.in_ok-tree.tree
+    rw c.into_moves.ensures (second_left c.args.on.now.surface.now c.args.on.now.split.now c.in_ok-tree.ensures.valid c.requires.on.split
+    sphere c.args.first.now (numbers c.in_ok-closed.closed.items) c.args.second.now c.in_ok-closed.moves c.in_ok-tree.tree
     c.requires.walks.first_walk c.requires.walks.second_walk.starts c.requires.walks.ends.starts k.led off.goes
-    c.in_ok-tree.ensures.off_cotree c.in_ok-tree.ensures.no_spur c.in_ok-tree.ensures.some off.last)
+    c.in_ok-tree.ensures.off_cotree c.in_ok-tree.ensures.no_spur c.in_ok-tree.ensures.led.some off.last)
+
+-- the polygon is cut from the surface, and has sides
+is_cut : (c : In_ok-reduction) → IsCutSurface c.args.on.now.surface.now c.args.on.now.split.now c.args.polygon.now
+is_cut c = record {
+  valid = c.requires.valid;
+  tree = c.requires.on.split;
+  cut = c.requires.cut;
+  some = omega (arith, c.degree.ensures.degree, c.if-degree-eq0.false);
+}
 
 -- the steps of the reduction go round the wheel that it has
 round_wheel : (c : In_ok-reduction)
@@ -75,8 +78,7 @@ round_wheel : (c : In_ok-reduction)
     c.in_ok-reduction.ensures.reduction.end
 round_wheel c =
     let red = c.in_ok-reduction.ensures.reduction in
-    subst (λ (places : List ℕ). PathLeads places c.in_ok-reduction.reduction.spokes.items c.in_ok-reduction.reduction.steps.items red.end)
-    (sym red.wheel) red.leads
+    rw red.wheel red.leads
 
 -- it begins with at most two spokes for each dart
 few_spokes : (c : In_ok-reduction)
@@ -96,11 +98,9 @@ pub returns-then-not-leaves_nothing-clause-list : goal.returns-then-not-leaves_n
 returns-then-not-leaves_nothing-clause-list c = λ homotopic.
     let at = goal.at.returns-then-not-leaves_nothing-clause-list c in
     let k = closed at.In_ok-closed in
-    let some_sides : 0 < c.args.polygon.now.degree = omega (arith, c.degree.ensures.degree, c.if-degree-eq0.false) in
     let red = c.in_ok-reduction.ensures.reduction in
     let none : red.end ≡ [] =
-    homotopic_leaves_nothing c.args.on.now.surface.now c.args.on.now.split.now c.args.polygon.now c.in_ok-reduction.ensures.valid
-    c.requires.on.split c.requires.cut some_sides c.args.first.now (numbers c.in_ok-closed.closed.items) c.args.second.now
+    homotopic_leaves_nothing (is_cut at.In_ok-reduction) c.args.first.now (numbers c.in_ok-closed.closed.items) c.args.second.now
     (numbers c.deref.result.now) c.in_ok-closed.moves c.in_ok-reduction.reduction red (ap numbers c.deref.ensures.value)
     c.requires.walks.first_walk k.some c.requires.walks.second_walk.starts k.meets k.led homotopic in
     let yes : c.leaves_nothing.result ≡ true = (c.leaves_nothing.ensures red.end (round_wheel at.In_ok-reduction)).1 none in
@@ -109,11 +109,9 @@ returns-then-not-leaves_nothing-clause-list c = λ homotopic.
 pub contract-requires-clause-reduction : goal.contract-requires-clause-reduction
 contract-requires-clause-reduction c =
     let at = goal.at.contract-requires-clause-reduction c in
-    let some_sides : 0 < c.args.polygon.now.degree = omega (arith, c.degree.ensures.degree, c.if-degree-eq0.false) in
     let red = c.in_ok-reduction.ensures.reduction in
     let none : red.end ≡ [] = (c.leaves_nothing.ensures red.end (round_wheel at.In_ok-reduction)).0 c.if-not-leaves_nothing.false in
-    steps_to_nothing c.args.on.now.surface.now c.args.on.now.split.now c.args.polygon.now c.in_ok-reduction.ensures.valid
-    c.requires.on.split c.requires.cut some_sides (numbers c.in_ok-closed.closed.items) (numbers c.deref.result.now)
+    steps_to_nothing (is_cut at.In_ok-reduction) (numbers c.in_ok-closed.closed.items) (numbers c.deref.result.now)
     c.in_ok-reduction.reduction red (ap numbers c.deref.ensures.value) (closed at.In_ok-closed).walk none
 
 pub contract-requires-clause-few : goal.contract-requires-clause-few
@@ -130,16 +128,12 @@ led_off : (c : In_ok-begun)
     → IsLedOff c.args.on.now.surface.now c.args.on.now.split.now c.args.first.now (numbers c.in_ok-closed.closed.items)
     c.args.second.now c.in_ok-closed.moves c.in_ok-begun.begun
 led_off c k =
-    off_cotree c.args.on.now.surface.now c.args.on.now.split.now c.args.first.now c.args.second.now c.in_ok-closed.closed.items
-    c.in_ok-closed.closed.items c.in_ok-closed.moves c.in_ok-begun.begun c.darts-behind.result c.requires.walks k refl
-    c.darts-behind.ensures.count c.in_ok-begun.ensures.leads c.in_ok-begun.ensures.leaves c.in_ok-begun.ensures.some
-    c.in_ok-begun.ensures.last
+    off_cotree c.in_ok-begun.begun c.darts-behind.result c.requires.walks k c.darts-behind.ensures.count c.in_ok-begun.ensures.led
 
 pub contract-requires-clause-led : goal.contract-requires-clause-led
 contract-requires-clause-led c =
     let at = goal.at.contract-requires-clause-led c in
-    subst (λ n. IsLedFrom c.args.on.now.surface.now.mesh n c.in_ok-begun.begun) (sym c.darts-behind.ensures.count)
-    (led_off at.In_ok-begun (closed at.In_ok-closed)).begun.led
+    rw c.darts-behind.ensures.count (led_off at.In_ok-begun (closed at.In_ok-closed)).begun.led
 
 pub contract-requires-clause-closed : goal.contract-requires-clause-closed
 contract-requires-clause-closed c =
@@ -151,20 +145,15 @@ contract-requires-clause-spokes c =
     let at = goal.at.contract-requires-clause-spokes c in
     let k = closed at.In_ok-closed in
     let off = led_off at.In_ok-begun k in
-    let some_sides : 0 < c.args.polygon.now.degree = omega (arith, c.degree.ensures.degree, c.if-degree-eq0.false) in
-    begun_freely c.args.on.now.surface.now c.args.on.now.split.now c.args.polygon.now c.in_ok-reduction.ensures.valid c.requires.on.split
-    c.requires.cut some_sides c.args.first.now (numbers c.in_ok-closed.closed.items) c.args.second.now (numbers c.deref.result.now)
-    c.in_ok-closed.moves c.in_ok-begun.begun c.in_ok-reduction.reduction c.in_ok-reduction.ensures.reduction
+    begun_freely (is_cut at.In_ok-reduction) c.args.first.now (numbers c.in_ok-closed.closed.items) c.args.second.now
+    (numbers c.deref.result.now) c.in_ok-closed.moves c.in_ok-begun.begun c.in_ok-reduction.reduction c.in_ok-reduction.ensures.reduction
     (ap numbers c.deref.ensures.value) c.requires.walks.first_walk k.some k.meets k.led off.begun c.in_ok-begun.ensures.off_cotree
     off.last
 
 pub returns-clause-list : goal.returns-clause-list
 returns-clause-list c =
     let at = goal.at.returns-clause-list c in
-    subst (λ (l : PeakedMoves). LeadsAtPeak c.args.on.now.surface.now.mesh c.args.first.now l c.args.second.now)
-    (sym c.into_moves-list.ensures)
-    (second_stays c.args.on.now.surface.now c.args.on.now.split.now c.args.first.now (numbers c.in_ok-closed.closed.items)
-    c.args.second.now c.in_ok-begun.begun c.in_ok-contracted.contracted (led_off at.In_ok-begun (closed at.In_ok-closed)).begun
+    rw c.into_moves-list.ensures (second_stays c.in_ok-contracted.contracted (led_off at.In_ok-begun (closed at.In_ok-closed)).begun
     c.requires.walks.second_walk.starts
     (subst (λ (n : ℕ). GoesOn c.args.on.now.surface.now.mesh n c.in_ok-begun.begun.walk c.in_ok-begun.begun.list
     c.in_ok-contracted.contracted.walk c.in_ok-contracted.contracted.list) c.darts-behind.ensures.count c.in_ok-contracted.ensures.leads)
@@ -179,25 +168,24 @@ returns-then-len-eq1-clause-low c =
 
 -- what is left of the closed walk off the cotree is short
 left_short : (c : In_ok-closed) (track : TrackView)
-    → StaysWithin c.args.on.now.surface.now c.args.on.now.split.now c.darts-behind.result (numbers c.in_ok-closed.closed.items)
+    → IsLedOn c.args.on.now.surface.now c.args.on.now.split.now c.darts-behind.result (numbers c.in_ok-closed.closed.items)
     c.in_ok-closed.moves track.walk track.list
     → IsShort (darts (numbers c.in_ok-closed.closed.items) * darts_of c.args.on.now.surface.now) c.darts-behind.result track.walk
     c.in_ok-closed.moves track.list
-left_short c track within =
-    short_walk c.args.on.now.surface.now c.args.on.now.split.now c.requires.valid c.requires.on.split c.darts-behind.result
-    (numbers c.in_ok-closed.closed.items) track.walk c.in_ok-closed.moves track.list (closed c).walk within
+left_short c track led =
+    short_walk c.requires.valid c.requires.on.split (closed c).walk led
 
 -- and so its peak is low
 left_low : (c : In_ok-closed) (track : TrackView)
-    → StaysWithin c.args.on.now.surface.now c.args.on.now.split.now c.darts-behind.result (numbers c.in_ok-closed.closed.items)
+    → IsLedOn c.args.on.now.surface.now c.args.on.now.split.now c.darts-behind.result (numbers c.in_ok-closed.closed.items)
     c.in_ok-closed.moves track.walk track.list
     → HasLowPeak (darts_of c.args.on.now.surface.now) (darts c.args.first.now + darts c.args.second.now) track.list
-left_low c track within =
+left_low c track led =
     is_low (darts_of c.args.on.now.surface.now) (darts c.args.first.now + darts c.args.second.now)
     (darts (numbers c.in_ok-closed.closed.items)) track.list.peak (three_darts c.args.on.now.surface.now c.requires.valid) (few_darts c)
     (omega (
       arith,
-      (left_short c track within).peak,
+      (left_short c track led).peak,
       c.in_ok-joined.ensures.peak,
       ap (λ (l : PeakedMoves). l.peak) c.in_ok-closed.ensures.moves,
       c.darts-behind.ensures.count,
@@ -206,7 +194,7 @@ left_low c track within =
 pub returns-then-degree-eq0-clause-low : goal.returns-then-degree-eq0-clause-low
 returns-then-degree-eq0-clause-low c =
     let at = (goal.at.returns-then-degree-eq0-clause-low c).In_ok-closed in
-    omega (arith, left_low at c.in_ok-tree.tree c.in_ok-tree.ensures.within, ap (λ (l : PeakedMoves). l.peak) c.into_moves.ensures)
+    omega (arith, left_low at c.in_ok-tree.tree c.in_ok-tree.ensures.led, ap (λ (l : PeakedMoves). l.peak) c.into_moves.ensures)
 
 pub returns-clause-low : goal.returns-clause-low
 returns-clause-low c =
@@ -217,7 +205,7 @@ returns-clause-low c =
     omega (arith, few_darts at.In_ok-closed, few_spokes at.In_ok-reduction (closed at.In_ok-closed)) in
     let low : 2 * c.in_ok-contracted.contracted.list.peak ≤ (3 * all + 7) * n =
     c.in_ok-contracted.ensures.peak all spokes ((3 * all + 7) * n)
-    (left_low at.In_ok-closed c.in_ok-begun.begun c.in_ok-begun.ensures.within)
+    (left_low at.In_ok-closed c.in_ok-begun.begun c.in_ok-begun.ensures.led)
     (omega (arith, room_left all n, c.darts-behind.ensures.count)) in
     omega (arith, low, ap (λ (l : PeakedMoves). l.peak) c.into_moves-list.ensures)
   where
@@ -237,7 +225,7 @@ pub returns-then-degree-eq0-clause-short : goal.returns-then-degree-eq0-clause-s
 returns-then-degree-eq0-clause-short c sphere =
     let at = (goal.at.returns-then-degree-eq0-clause-short c).In_ok-closed in
     let s = c.args.on.now.surface.now in
-    let short = left_short at c.in_ok-tree.tree c.in_ok-tree.ensures.within in
+    let short = left_short at c.in_ok-tree.tree c.in_ok-tree.ensures.led in
     is_few (darts_of s) (darts c.args.first.now + darts c.args.second.now) (darts c.args.second.now)
     (darts (numbers c.in_ok-closed.closed.items))
     (length c.in_ok-closed.moves.moves) (length c.into_moves.result.moves)

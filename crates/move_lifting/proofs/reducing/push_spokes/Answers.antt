@@ -1,4 +1,4 @@
-use Rattle.move_lifting.proofs.Common.{next_of, rotations_of, IsDartFrom, label_of, side_at, last_side, ◌≡◌, ◌≢◌, ℕ, ◌-◌, Bool, true, false, not, eqb, List, ◌++◌, refl, ap, sym, ◌∙◌, subst, eq-eqb, eqb-true, both_ways, append-nil, IfSome, Option, DartName}
+use Rattle.move_lifting.proofs.Common.{next_of, label_of, side_at, last_side, ◌≡◌, ◌≢◌, ℕ, ◌-◌, Bool, true, false, not, eqb, List, ◌++◌, refl, ap, sym, ◌∙◌, eq-eqb, eqb-true, both_ways, append-nil}
 use Rattle.move_lifting.proofs.ReductionLemmas.{none_of_dart}
 use Rattle.move_lifting.proofs.reducing.push_spokes.Goals as goal
 
@@ -22,8 +22,7 @@ returns-else-ne c =
     ∙ ap (label_of polygon) c.next.ensures.next in
     record {
       dart = d;
-      from = subst (λ (r : Option DartName). IfSome r (λ dart. IsDartFrom (rotations_of s) c.args.from.0 c.args.to.0 dart.0))
-          c.unwrap-dart.ensures c.dart_between.ensures.leads;
+      from = rw c.unwrap-dart.ensures at c.dart_between.ensures.leads;
       come = sym (append-nil c.args.spokes.now.items) ∙ ap (λ (l : List ℕ). c.args.spokes.now.items ++ l)
           (sym (none_of_dart s polygon d not_last one_label));
     }

@@ -1,4 +1,4 @@
-use Rattle.move_lifting.proofs.Common.{backward, ◌≡◌, ℕ, ◌<◌, ◌-◌, ◌++◌, List, length, take, drop, get_or, refl, ap, sym, ◌∙◌, subst, arith, on_ok_weaker, AreFreelyEqual, numbers, VertexName}
+use Rattle.move_lifting.proofs.Common.{backward, ◌≡◌, ℕ, ◌<◌, ◌-◌, ◌++◌, List, length, take, drop, get_or, refl, ap, ◌∙◌, subst, arith, on_ok_weaker, AreFreelyEqual, numbers, VertexName}
 use Rattle.move_lifting.proofs.ExpandLemmas.{length-numbers}
 use Rattle.move_lifting.proofs.LayLemmas.{laid_two, behind_first}
 use Rattle.move_lifting.proofs.TreeUpLemmas.{way_some}
@@ -12,7 +12,7 @@ some c =
 
 pub back_along-requires : goal.back_along-requires
 back_along-requires c =
-    subst (λ (l : List VertexName). 0 < length l) (sym c.deref.ensures.value)
+    rw c.deref.ensures.value
     (way_some c.args.on.now.surface.now c.args.on.now.split.now c.requires.split c.args.to.0 c.in_ok-way.way.items c.in_ok-way.ensures)
 
 pub slice_bounds-put_all-count : goal.slice_bounds-put_all-count

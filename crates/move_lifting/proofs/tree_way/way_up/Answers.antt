@@ -13,7 +13,7 @@ loop-step-init c = record {
 
 pub parent-requires : goal.parent-requires
 parent-requires c =
-    used_below c.args.surface.now c.args.split.now c.faces.ensures.valid c.requires.split c.loop-step.last.0 c.loop-step.invariant.used
+    used_below c.faces.ensures.valid c.requires.split c.loop-step.last.0 c.loop-step.invariant.used
 
 pub loop-step-preserved : goal.loop-step-preserved
 loop-step-preserved c =
@@ -22,7 +22,7 @@ loop-step-preserved c =
     let last : c.origin-last.result.0 ≡ origin_of s (twin_of s d) = c.origin-last.ensures ∙ ap (origin_of s) c.twin.ensures.twin in
     record {
       used = subst (λ (v : ℕ). is_used s.mesh v ≡ true) (sym last)
-          (used_parent s c.args.split.now c.faces.ensures.valid c.requires.split c.loop-step.last.0 d (sym c.in-Some.ensures));
+          (used_parent c.faces.ensures.valid c.requires.split c.loop-step.last.0 d (sym c.in-Some.ensures));
       long = omega (
         arith,
         one_longer c.push.new.self.items c.loop-step.way.items c.loop-step.last c.in_ok-push.ensures.items,
@@ -30,7 +30,7 @@ loop-step-preserved c =
       );
       so_far = λ root ways h.
           subst (λ (v : ℕ). c.args.start.0 ∷ ways c.args.start.0 ≡ numbers c.push.new.self.items ++ (v ∷ ways v)) (sym last)
-          (one_up_more s c.args.split.now c.faces.ensures.valid c.requires.split root ways h c.loop-step.last.0 d
+          (one_up_more c.faces.ensures.valid c.requires.split root ways h c.loop-step.last.0 d
           (c.args.start.0 ∷ ways c.args.start.0)
           (numbers c.loop-step.way.items) (numbers c.push.new.self.items) c.loop-step.invariant.used (sym c.in-Some.ensures)
           (one_pending c.push.new.self.items c.loop-step.way.items c.loop-step.last c.in_ok-push.ensures.items)
@@ -43,13 +43,13 @@ returns-in_default c root ways h =
     let v : ℕ = c.loop-step.last.0 in
     one_pending c.push.new.self.items c.loop-step.way.items c.loop-step.last c.in_ok-push.ensures.items
     ∙ ap (λ (l : List ℕ). numbers c.loop-step.way.items ++ (v ∷ l))
-    (sym (ends_up s c.args.split.now c.faces.ensures.valid c.requires.split root ways h v c.loop-step.invariant.used
+    (sym (ends_up c.faces.ensures.valid c.requires.split root ways h v c.loop-step.invariant.used
     (sym c.in_default.ensures)))
     ∙ sym (c.loop-step.invariant.so_far root ways h)
 
 pub returns : goal.returns
 returns c =
-    absurd (way_ends c.args.surface.now c.args.split.now c.faces.ensures.valid c.requires.split c.args.start.0 c.loop-step.last.0
+    absurd (way_ends c.faces.ensures.valid c.requires.split c.args.start.0 c.loop-step.last.0
     c.loop-step._step
     (numbers c.loop-step.way.items) c.requires.used (length-numbers c.loop-step.way.items ∙ c.loop-step.invariant.long)
     (omega (arith, c.loop-step-test.false, c.count-step-end.ensures.count, ap (λ (m : FaceList). m.count) c.faces.ensures.mesh))

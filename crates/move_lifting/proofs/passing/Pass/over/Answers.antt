@@ -1,8 +1,7 @@
 use Rattle.move_lifting.proofs.Common.{◌≡◌, ℕ, ◌+◌, ◌-◌, ◌<◌, List, length, get_or, ap, ◌∙◌, arith, get_or-map, is_edge, numbers, VertexName}
 use Rattle.move_lifting.specs.Tracks.{TrackView}
-use Rattle.move_lifting.proofs.ExpandLemmas.{edge_to, led_first, led_more, led_all, led_all_within, length-numbers}
+use Rattle.move_lifting.proofs.ExpandLemmas.{edge_to, led_first, led_more, led_all, length-numbers}
 use Rattle.move_lifting.proofs.passing.Pass.over.Goals as goal
-use Rattle.move_lifting.proofs.passing.Pass.over.Goals.{After-loop-place}
 
 pub loop-place-init : goal.loop-place-init
 loop-place-init c =
@@ -33,31 +32,15 @@ loop-place-preserved c =
     let long : length walk ≡ length c.args.walk.now = length-numbers c.args.walk.now in
     let here : n < length walk = omega arith in
     record {
-      led = led_more c.args.self.now.on.now.surface.now c.args.self.now.on.now.split.now c.args.self.now.behind walk c.args.moves
-          c.loop-place.track c.step.new.track n _ (length c.args.walk.now - n - 1 + c.args.self.now.behind) c.loop-place.invariant.led here
-          (get_or-map (λ (x : VertexName). x.0) c.args.walk.now n _ 0 within) (omega arith) c.in_ok-step.ensures.leads
-          c.in_ok-step.ensures.some c.in_ok-step.ensures.no_spur c.in_ok-step.ensures.last c.in_ok-step.ensures.leaves
-          c.in_ok-step.ensures.within;
+      led = led_more c.step.new.track _ (length c.args.walk.now - n - 1 + c.args.self.now.behind) c.loop-place.invariant.led here
+          (get_or-map (λ (x : VertexName). x.0) c.args.walk.now n _ 0 within) (omega arith) c.in_ok-step.ensures.led
+          c.in_ok-step.ensures.no_spur;
       pending = c.in_ok-step.ensures.pending;
       few = omega (arith, c.in_ok-step.ensures.few, within);
       cells = omega (arith, c.in_ok-step.ensures.spare, within);
     }
 
--- the whole walk is led
-all : (c : After-loop-place) → c.loop-place.place ≡ length (numbers c.args.walk.now)
-all c = omega (arith, c.loop-place-test.false, c.loop-place.auto.place-end, length-numbers c.args.walk.now, c.requires.walk.starts)
-
-pub returns-clause-leads : goal.returns-clause-leads
-returns-clause-leads c =
-    (led_all c.args.self.now.on.now.surface.now c.args.self.now.on.now.split.now c.args.self.now.behind (numbers c.args.walk.now)
-    c.args.moves c.loop-place.track c.loop-place.place c.loop-place.invariant.led (all (goal.at.returns-clause-leads c).After-loop-place)).0
-
-pub returns-clause-last : goal.returns-clause-last
-returns-clause-last c =
-    (led_all c.args.self.now.on.now.surface.now c.args.self.now.on.now.split.now c.args.self.now.behind (numbers c.args.walk.now)
-    c.args.moves c.loop-place.track c.loop-place.place c.loop-place.invariant.led (all (goal.at.returns-clause-last c).After-loop-place)).1
-
-pub returns-clause-within : goal.returns-clause-within
-returns-clause-within c =
-    led_all_within c.args.self.now.on.now.surface.now c.args.self.now.on.now.split.now c.args.self.now.behind (numbers c.args.walk.now)
-    c.args.moves c.loop-place.track c.loop-place.place c.loop-place.invariant.led (all (goal.at.returns-clause-within c).After-loop-place)
+pub returns-clause-led : goal.returns-clause-led
+returns-clause-led c =
+    led_all c.loop-place.invariant.led
+    (omega (arith, c.loop-place-test.false, c.loop-place.auto.place-end, length-numbers c.args.walk.now, c.requires.walk.starts))

@@ -1,13 +1,13 @@
-use Rattle.move_lifting.proofs.Common.{OrientedMesh, ℕ, ◌+◌, ◌≤◌, List, [], ◌∷◌, ◌++◌, length, ap, ◌∙◌, subst, arith, on_ok_weaker, reverse, Result, Ok, Err, OnOk, FaceList, face_at, numbers, SplitView}
-use Rattle.move_lifting.specs.Crossings.{IsFaceBelow, IsCrossed}
+use Rattle.move_lifting.proofs.Common.{◌≡◌, ℕ, ◌+◌, ◌≤◌, List, ◌∷◌, [], ◌++◌, length, ap, subst, arith, length-append, on_ok_weaker, reverse, Result, Ok, Err, OnOk, FaceList, face_at, numbers, VertexName}
+use Rattle.move_lifting.specs.Crossings.{IsFaceBelow, IsCrossed, beyond}
+use Rattle.move_lifting.specs.Loads.{IsLedOn}
 use Rattle.move_lifting.specs.Tracks.{TrackView, last_of}
 use Rattle.move_lifting.specs.declared.expanding.TheConstants.{MOST_PASSED_ENTRIES}
-use Rattle.move_lifting.proofs.ExpandLemmas.{length-numbers}
-use Rattle.move_lifting.proofs.LeavingLemmas.{leave_on, removed_leave}
-use Rattle.move_lifting.proofs.PassLemmas.{IsCrossedOnce, crossed_on, crossed_once, on_both}
-use Rattle.move_lifting.proofs.WithinLemmas.{within_on, within_put}
+use Rattle.move_lifting.proofs.ExpandLemmas.{length-numbers, crossed_led, rest_of_step}
+use Rattle.move_lifting.proofs.PassLemmas.{crossed_on}
 use Rattle.move_lifting.proofs.passing.Pass.step.Goals as goal
 use Rattle.move_lifting.proofs.passing.Pass.step.Goals.{In_ok-cross-in-Some}
+use Rattle.move_lifting.proofs.LedLemmas.{led_after, led_put}
 
 -- the rest of the face below is pending in place of the step
 crossed : (c : In_ok-cross-in-Some)
@@ -18,18 +18,37 @@ crossed c =
     c.args.track.now c.reserve.new.self c.cross.new.track (numbers c.args.pending.now.items) (numbers c.cross.new.pending.items)
     c.faces-faces.ensures.mesh c.in_ok-reserve-in-Some.ensures c.in_ok-cross-in-Some.ensures.crossed
 
--- so the pass crossed the edge once
-once : (c : In_ok-cross-in-Some)
-    → IsCrossedOnce c.args.self.now.on.now.surface.now c.args.self.now.on.now.split.now (c.args.left + c.args.self.now.behind)
-    c.args.to.0 c.in-Some.step c.args.track.now c.cross.new.track (numbers c.cross.new.pending.items)
-once c =
-    let s : OrientedMesh = c.args.self.now.on.now.surface.now in
-    let split : SplitView = c.args.self.now.on.now.split.now in
-    let under : IsFaceBelow s split (last_of c.args.track.now.walk) c.args.to.0 c.in-Some.step =
-    subst (λ (x : ℕ). IsFaceBelow s split x c.args.to.0 c.in-Some.step) c.last.ensures.vertex c.in-Some.ensures.below in
-    crossed_once s split c.faces-faces.ensures.valid (c.args.left + c.args.self.now.behind) c.args.to.0 c.in-Some.step c.args.track.now
-    c.cross.new.track (numbers c.args.pending.now.items) (numbers c.cross.new.pending.items) (ap numbers c.requires.pending)
-    c.requires.some under (crossed c)
+-- below the edge that the step goes along
+under : (c : In_ok-cross-in-Some)
+    → IsFaceBelow c.args.self.now.on.now.surface.now c.args.self.now.on.now.split.now (last_of c.args.track.now.walk) c.args.to.0
+    c.in-Some.step
+under c =
+    subst (λ (x : ℕ). IsFaceBelow c.args.self.now.on.now.surface.now c.args.self.now.on.now.split.now x c.args.to.0 c.in-Some.step)
+    c.last.ensures.vertex c.in-Some.ensures.below
+
+-- so the walk is led on
+led : (c : In_ok-cross-in-Some)
+    → IsLedOn c.args.self.now.on.now.surface.now c.args.self.now.on.now.split.now (c.args.left + c.args.self.now.behind)
+    (c.args.track.now.walk ++ c.args.to.0 ∷ []) c.args.track.now.list
+    (c.cross.new.track.walk ++ reverse (numbers c.cross.new.pending.items)) c.cross.new.track.list
+led c =
+    crossed_led c.faces-faces.ensures.valid.faces c.args.to.0 c.requires.some (under c)
+    (subst (λ (l : List VertexName). IsCrossed c.args.self.now.on.now.surface.now.mesh c.in-Some.step
+    (c.args.left + c.args.self.now.behind) c.args.track.now (numbers l) c.cross.new.track (numbers c.cross.new.pending.items))
+    c.requires.pending (crossed c))
+
+-- so many vertices are pending
+come : (c : In_ok-cross-in-Some)
+    → length c.cross.new.pending.items + 1 ≡ length (face_at c.args.self.now.on.now.surface.now.mesh c.in-Some.step.face.0)
+come c =
+    omega (
+      arith,
+      (rest_of_step c.faces-faces.ensures.valid.faces (under c)).long,
+      ap (λ (l : List ℕ). length l) (crossed c).comes,
+      length-append (numbers c.args.pending.now.items) (beyond c.args.self.now.on.now.surface.now.mesh c.in-Some.step),
+      ap (λ (l : List VertexName). length (numbers l)) c.requires.pending,
+      length-numbers c.cross.new.pending.items,
+    )
 
 -- with what is pending, and what is left of the walk, there are few entries
 few : (c : In_ok-cross-in-Some)
@@ -38,8 +57,7 @@ few c =
     omega (
       arith,
       ap (λ (l : List ℕ). length l) (crossed c).walk,
-      (once c).long,
-      length-numbers c.cross.new.pending.items,
+      come c,
       c.in-Some.ensures.room,
       c.place.ensures,
       c.requires.some,
@@ -50,8 +68,7 @@ spared : (c : In_ok-cross-in-Some) → c.args.left + length c.cross.new.pending.
 spared c =
     omega (
       arith,
-      (once c).long,
-      length-numbers c.cross.new.pending.items,
+      come c,
       c.in_ok-cross-in-Some.ensures.spare,
       ap (λ (t : TrackView). t.spare) c.in_ok-reserve-in-Some.ensures,
       c.sides.ensures,
@@ -70,52 +87,31 @@ returns-in_ok-cross-in-Some-clause-spare c =
     let at = (goal.at.returns-in_ok-cross-in-Some-clause-spare c).In_ok-cross-in-Some in
     on_both c.put_pending.result (λ long cells. omega (arith, long, cells, spared at)) c.put_pending.ensures.long
     c.put_pending.ensures.cells
-
-pub returns-in_ok-cross-in-Some-clause-last : goal.returns-in_ok-cross-in-Some-clause-last
-returns-in_ok-cross-in-Some-clause-last c =
-    let at = (goal.at.returns-in_ok-cross-in-Some-clause-last c).In_ok-cross-in-Some in
-    on_ok_weaker c.put_pending.result (λ e. e ∙ (once at).last) c.put_pending.ensures.last
+  where
+    on_both : {T E A B C : Type 0} (r : Result T E) → (A → B → C) → OnOk r A → OnOk r B → OnOk r C
+    on_both (Ok x) f a b = f a b
+    on_both (Err y) f a b = tt
 
 pub returns-in_ok-cross-in-Some-clause-few : goal.returns-in_ok-cross-in-Some-clause-few
 returns-in_ok-cross-in-Some-clause-few c =
     let at = (goal.at.returns-in_ok-cross-in-Some-clause-few c).In_ok-cross-in-Some in
     on_ok_weaker c.put_pending.result (λ long. omega (arith, long, few at)) c.put_pending.ensures.long
 
-pub returns-in_ok-cross-in-Some-clause-leads : goal.returns-in_ok-cross-in-Some-clause-leads
-returns-in_ok-cross-in-Some-clause-leads c =
-    let at = (goal.at.returns-in_ok-cross-in-Some-clause-leads c).In_ok-cross-in-Some in
+pub returns-in_ok-cross-in-Some-clause-led : goal.returns-in_ok-cross-in-Some-clause-led
+returns-in_ok-cross-in-Some-clause-led c =
+    let at = (goal.at.returns-in_ok-cross-in-Some-clause-led c).In_ok-cross-in-Some in
     on_ok_weaker c.put_pending.result
-    (λ goes first rest l h. goes c.args.self.now.on.now.surface.now.mesh first rest l ((once at).goes first rest l h))
-    c.put_pending.ensures.leads
+    (λ put. led_after (led at) (put c.args.self.now.on.now.surface.now c.args.self.now.on.now.split.now)) c.put_pending.ensures.led
 
-pub returns-in_ok-cross-in-Some-clause-leaves : goal.returns-in_ok-cross-in-Some-clause-leaves
-returns-in_ok-cross-in-Some-clause-leaves c =
-    let s : OrientedMesh = c.args.self.now.on.now.surface.now in
-    let split : SplitView = c.args.self.now.on.now.split.now in
-    let at = (goal.at.returns-in_ok-cross-in-Some-clause-leaves c).In_ok-cross-in-Some in
-    on_ok_weaker c.put_pending.result
-    (λ more. leave_on s split c.args.track.now.list.moves c.cross.new.track.list.moves c.put_pending.new.track.list.moves (once at).leaves
-    (removed_leave s split c.cross.new.track.list.moves c.put_pending.new.track.list.moves more)) c.put_pending.ensures.removals
-
-pub returns-in_ok-cross-in-Some-clause-within : goal.returns-in_ok-cross-in-Some-clause-within
-returns-in_ok-cross-in-Some-clause-within c =
-    let s : OrientedMesh = c.args.self.now.on.now.surface.now in
-    let split : SplitView = c.args.self.now.on.now.split.now in
-    let at = (goal.at.returns-in_ok-cross-in-Some-clause-within c).In_ok-cross-in-Some in
-    on_ok_weaker c.put_pending.result
-    (λ stays. within_on s split (c.args.left + c.args.self.now.behind) (c.args.track.now.walk ++ c.args.to.0 ∷ [])
-    (c.cross.new.track.walk ++ reverse (numbers c.cross.new.pending.items)) c.put_pending.new.track.walk c.args.track.now.list
-    c.cross.new.track.list c.put_pending.new.track.list (once at).within (stays s split)) c.put_pending.ensures.within
-
-pub returns-in-None-clause-leads : goal.returns-in-None-clause-leads
-returns-in-None-clause-leads c = on_ok_weaker c.put.result (λ goes. goes c.args.self.now.on.now.surface.now.mesh) c.put.ensures.leads
-
-pub returns-in-None-clause-within : goal.returns-in-None-clause-within
-returns-in-None-clause-within c =
-    all_ok c.put.result
-    (within_put c.args.self.now.on.now.surface.now c.args.self.now.on.now.split.now (c.args.left + c.args.self.now.behind) c.args.to.0
-    c.args.track.now c.put.new.self) c.put.ensures.shape c.put.ensures.some c.put.ensures.count c.put.ensures.peak
+pub returns-in-None-clause-led : goal.returns-in-None-clause-led
+returns-in-None-clause-led c =
+    let put = c.put.ensures in
+    all_ok c.put.result put.leads put.some put.last put.more put.shape put.count put.peak
+    (λ leads. led_put (c.args.left + c.args.self.now.behind) c.args.to.0 c.args.track.now c.put.new.self
+    (leads c.args.self.now.on.now.surface.now.mesh))
   where
-    all_ok : {T E A B C D F : Type 0} (r : Result T E) → (A → B → C → D → F) → OnOk r A → OnOk r B → OnOk r C → OnOk r D → OnOk r F
-    all_ok (Ok x) f a b c d = f a b c d
-    all_ok (Err y) f a b c d = tt
+    all_ok : {T E A B C D F G H I : Type 0} (r : Result T E)
+        → OnOk r A → OnOk r B → OnOk r C → OnOk r D → OnOk r F → OnOk r G → OnOk r H
+        → (A → B → C → D → F → G → H → I) → OnOk r I
+    all_ok (Ok x) a b c d f g h all = all a b c d f g h
+    all_ok (Err y) a b c d f g h all = tt

@@ -1,7 +1,6 @@
-use Rattle.move_lifting.proofs.Common.{[], ◌∷◌}
 use Rattle.move_lifting.proofs.ChainLemmas.{alone_pushed}
 use Rattle.move_lifting.proofs.pooled_walk.PooledWalk.push.Goals as goal
 
 pub invariant_of-self : goal.invariant_of-self
 invariant_of-self c =
-    alone_pushed c.self.inside.pool c.push_vertex.new.pool c.self.inside.chain (c.args.vertex.0 ∷ []) c.self.invariant c.push_vertex.ensures
+    alone_pushed c.self.invariant c.push_vertex.ensures

@@ -43,12 +43,11 @@ put c =
     let back : List ℕ = numbers c.args.back.now in
     let piece = c.start_chain-piece.result in
     let around : IsPushed c.push_all.new.pool c.push_all-2.new.pool piece (turn ++ back) =
-    pushed_both c.push_all.new.pool c.push_turn.new.pool c.push_all-2.new.pool piece turn back c.push_turn.ensures c.push_all-2.ensures in
+    pushed_both c.push_turn.ensures c.push_all-2.ensures in
     put_in c.self.inside.pool c.start_chain-piece.new.self c.push_all-2.new.pool c.splice.new.self c.self.inside.chain piece c.args.place
     (there ++ (turn ++ back)) c.self.invariant c.start_chain-piece.ensures.was c.start_chain-piece.ensures.list
     c.start_chain-piece.ensures.spare
-    (pushed_both c.start_chain-piece.new.self c.push_all.new.pool c.push_all-2.new.pool piece there (turn ++ back)
-    c.push_all.ensures around)
+    (pushed_both c.push_all.ensures around)
     (omega (arith, c.requires.place, ap (λ (p : Pooled). length p.walk) c.self.view_is))
     c.splice.ensures.list c.splice.ensures.gone c.splice.ensures.others c.splice.ensures.spare
 

@@ -22,16 +22,14 @@ loop-spoke-init c =
     c.side.result.0 c.degree-degree.result
     c.origin-start.ensures c.side.ensures c.degree-degree.ensures.degree) in
     none_made s split polygon c.args.named.now c.new-walks.result (numbers c.in_ok-walk.walk.items) c.new-walks.ensures
-    (first_spoke s split c.requires.cut.valid c.requires.cut.on.split polygon c.requires.cut.polygon c.requires.cut.some
+    (first_spoke c.requires.cut.surface
     (numbers c.in_ok-walk.walk.items) alone)
 
 pub go_round-requires-clause-some : goal.go_round-requires-clause-some
 go_round-requires-clause-some c =
     omega (
       arith,
-      spoke_some c.args.cut.now.on.surface.now c.args.cut.now.on.split.now c.requires.cut.valid c.requires.cut.on.split
-          c.args.cut.now.polygon.now c.requires.cut.polygon c.requires.cut.some c.loop-spoke.spoke (numbers c.loop-spoke.walk.items)
-          c.loop-spoke.invariant.own,
+      spoke_some c.requires.cut.surface c.loop-spoke.invariant.own,
       length-numbers c.loop-spoke.walk.items,
     )
 
@@ -41,8 +39,7 @@ go_round-requires-clause-start c =
     (start_is c.args.cut.now.on.surface.now c.args.cut.now.polygon.now c.origin-start.result.0
     c.side.result.0 c.degree-degree.result
     c.origin-start.ensures c.side.ensures c.degree-degree.ensures.degree)
-    ∙ last_used c.args.cut.now.on.surface.now c.args.cut.now.on.split.now c.requires.cut.valid c.args.cut.now.polygon.now
-    c.requires.cut.polygon c.requires.cut.some
+    ∙ last_used c.requires.cut.surface
 
 pub loop-spoke-preserved : goal.loop-spoke-preserved
 loop-spoke-preserved c =
@@ -52,8 +49,7 @@ loop-spoke-preserved c =
     let more : c.push_if.new.self ≡ c.loop-spoke.walks ++ (if marked then walk else []) ∷ [] =
     c.in_ok-push_if.ensures
     ∙ ap (λ (l : List VertexName). c.loop-spoke.walks ++ (if marked then numbers l else []) ∷ []) c.deref.ensures.value in
-    made_more c.args.cut.now.on.surface.now c.args.cut.now.on.split.now c.requires.cut.valid c.requires.cut.on.split polygon
-    c.requires.cut.polygon c.requires.cut.some c.args.named.now c.loop-spoke.spoke c.side-in-loop-spoke.result.0
+    made_more c.requires.cut.surface c.args.named.now c.loop-spoke.spoke c.side-in-loop-spoke.result.0
     c.origin-start.result.0 c.loop-spoke.walks c.push_if.new.self walk (numbers c.go_round.new.walk.items) marked
     c.side-in-loop-spoke.ensures (start_is c.args.cut.now.on.surface.now c.args.cut.now.polygon.now c.origin-start.result.0
     c.side.result.0 c.degree-degree.result

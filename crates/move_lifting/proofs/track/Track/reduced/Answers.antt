@@ -13,8 +13,7 @@ pub put_next-requires-clause-next : goal.put_next-requires-clause-next
 put_next-requires-clause-next c =
     omega (
       arith,
-      in_place_next c.args.behind c.args.laid.walk c.args.moves c.loop-read.track c.loop-read.front c.loop-read._read c.loop-read.invariant
-          (omega (arith, c.loop-read-test.true, c.len-entries.ensures.count)),
+      in_place_next c.loop-read.invariant (omega (arith, c.loop-read-test.true, c.len-entries.ensures.count)),
       c.loop-read-test.true,
       c.len-entries.ensures.count,
     )
@@ -23,8 +22,7 @@ pub put_next-requires-clause-room : goal.put_next-requires-clause-room
 put_next-requires-clause-room c =
     omega (
       arith,
-      in_place_short c.args.behind c.args.laid.walk c.args.moves c.loop-read.track c.loop-read.front c.loop-read._read c.loop-read.invariant
-          (omega (arith, c.loop-read-test.true, c.len-entries.ensures.count)),
+      in_place_short c.loop-read.invariant (omega (arith, c.loop-read-test.true, c.len-entries.ensures.count)),
       c.requires.room,
     )
 
@@ -33,15 +31,14 @@ put_next-requires-clause-no_spur c = c.loop-read.invariant.so_far.no_spur
 
 pub loop-read-preserved : goal.loop-read-preserved
 loop-read-preserved c =
-    in_place_more c.args.behind c.args.laid.walk c.args.moves c.loop-read.track c.put_next.new.self c.loop-read.front c.in_ok-front.front
-    c.loop-read._read c.loop-read.invariant (omega (arith, c.loop-read.auto._read))
+    in_place_more c.loop-read.invariant (omega (arith, c.loop-read.auto._read))
     (omega (arith, c.loop-read-test.true, c.len-entries.ensures.count)) c.in_ok-front.ensures
 
 done : (c : After-loop-read) → IsReduced c.args.behind c.args.laid.walk c.args.moves c.loop-read.track
 done c =
     let all : c.loop-read._read ≡ length c.args.laid.walk =
     omega (arith, c.loop-read-test.false, c.loop-read.auto._read-end, c.len-entries.ensures.count, c.len-entries.ensures.some) in
-    in_place_all c.args.behind c.args.laid.walk c.args.moves c.loop-read.track c.loop-read.front c.loop-read._read c.loop-read.invariant all
+    in_place_all c.loop-read.invariant all
 
 pub returns-clause-leads : goal.returns-clause-leads
 returns-clause-leads c = (done c).goes
