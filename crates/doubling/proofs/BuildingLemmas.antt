@@ -1,31 +1,17 @@
 -- The double as it is built: what is a face of it, how far a step comes, and when there is no room.
-use Rattle.doubling.proofs.Common.{◌≡◌, ◌≢◌, inl, inr, ℕ, zero, suc, ◌+◌, ◌-◌, ◌<◌, ◌≤◌, true, false, List, [], ◌∷◌, ◌++◌, length, map, get_or, take, drop, refl, ap, sym, ◌∙◌, subst, arith, append_assoc, append-nil, map-append, length-map, get_or-map, get_or_default, take_more, take_all, take-append-drop, filter-append, filter, sum_by, back_within, there_and_back, side_of_number-is, side_below, next_within, IsSide, first_side, FaceList, FaceSide, PendingFace, IsFace, face_at, all_sides, next_corner, total_sides, numbers, Side}
-use Rattle.std.proofs.lemmas.List.Sums.{sum_by-append, sum_by_push}
+use Rattle.doubling.proofs.Common.{begun, with_mirrors, with_quads, with_face, HasNoRoom, EndsEarly, mirror, mirror_face, is_rim, rim_quad, double_of, DoubleFault, ◌≡◌, ◌≢◌, inl, inr, ℕ, zero, suc, ◌+◌, ◌-◌, ◌<◌, ◌≤◌, true, false, List, [], ◌∷◌, ◌++◌, length, map, get_or, take, drop, refl, ap, sym, ◌∙◌, subst, arith, append_assoc, common_steps, length-map, get_or-map, get_or_default, take_more, take-append-drop, filter, sum_by, back_within, there_and_back, side_of_number-is, side_below, next_within, IsSide, first_side, FaceList, FaceSide, PendingFace, IsFace, face_at, all_sides, next_corner, total_sides, numbers, Side}
 use Rattle.surf_model.proofs.NumberLemmas.{face_side, length-all_sides}
 use Rattle.surf_model.specs.declared.names.VertexName.{VertexName}
-use Rattle.doubling.specs.Building.{begun, with_mirrors, with_quads, with_face, HasNoRoom, EndsEarly}
-use Rattle.doubling.specs.Doubles.{mirror, mirror_face, is_rim, rim_quad, double_of}
-use Rattle.doubling.specs.declared.fault.DoubleFault.{DoubleFault}
 use Rattle.doubling.proofs.DoubleFaces.{length-mirror_face, mirror_corner, mirror_next}
 
 -- ---- faces of the double
 
 pub face_more : (count : ℕ) (ring : List ℕ) → IsFace count ring → IsFace (count + count) ring
-face_more count ring h =
-    record { polygon = h.polygon; in_range = λ k d l. omega (arith, h.in_range k d l); neighbours = h.neighbours }
+face_more count ring h = grind arith
 
 mirrors_differ : (count : ℕ) (ring : List ℕ) (t : ℕ) → IsFace count ring → t < length ring
     → get_or (mirror_face count ring) t 0 ≢ get_or (mirror_face count ring) (next_corner true (length ring) t) 0
-mirrors_differ count ring t h l same =
-    let m : ℕ = length ring in
-    let under : ℕ = m - 1 - t in
-    let before : ℕ = next_corner false m under in
-    let within : under < m = omega arith in
-    let there : get_or (mirror_face count ring) (next_corner true m t) 0 ≡ mirror count (get_or ring before 0) =
-    mirror_corner count ring (next_corner true m t) (next_within m t l)
-    ∙ ap (λ k. mirror count (get_or ring k 0)) (mirror_next true m t l) in
-    let equal : get_or ring before 0 ≡ get_or ring under 0 = omega (arith, mirror_corner count ring t l, there, same) in
-    h.neighbours before (back_within m under within) (equal ∙ ap (λ k. get_or ring k 0) (sym (there_and_back m under within)))
+mirrors_differ count ring t h l same = grind (arith, mirror_corner, next_within, mirror_next, back_within, there_and_back)
 
 pub face_mirror : (count : ℕ) (ring : List ℕ) → IsFace count ring → IsFace (count + count) (mirror_face count ring)
 face_mirror count ring h =
@@ -88,9 +74,7 @@ mirrors_first mesh n =
     )
 
 quads-append : (mesh : FaceList) (xs ys : List FaceSide) → quads mesh (xs ++ ys) ≡ quads mesh xs ++ quads mesh ys
-quads-append mesh xs ys =
-    ap (map (rim_quad mesh.count)) (filter-append (is_rim mesh) xs ys)
-    ∙ map-append (rim_quad mesh.count) (filter (is_rim mesh) xs) (filter (is_rim mesh) ys)
+quads-append mesh xs ys = grind (arith, common_steps)
 
 pub quads_first : (mesh : FaceList) (n : ℕ) → ComeFirst mesh (with_quads mesh n).mesh.faces
 quads_first mesh n =
@@ -136,39 +120,20 @@ no_quad_here mesh side is = rw is refl
 pub quads_more : (mesh : FaceList) (side : Side) → IsSide mesh side → is_rim mesh (whole_side mesh side) ≡ true
     → with_face (with_quads mesh (first_side mesh side.face.0 + side.at)) (rim_quad mesh.count (whole_side mesh side))
     ≡ with_quads mesh (first_side mesh side.face.0 + side.at + 1)
-quads_more mesh side is rim =
-    let some : List FaceSide = take (first_side mesh side.face.0 + side.at) (all_sides mesh) in
-    ap (begun mesh)
-    (append_assoc (mesh.faces ++ mirrors mesh) (quads mesh some) (rim_quad mesh.count (whole_side mesh side) ∷ [])
-    ∙ ap (λ (l : List (List ℕ)). mesh.faces ++ mirrors mesh ++ l)
-    (ap (λ (l : List (List ℕ)). quads mesh some ++ l) (sym (quad_here mesh (whole_side mesh side) rim))
-    ∙ sym (quads-append mesh some (whole_side mesh side ∷ [])) ∙ ap (quads mesh) (sym (side_more mesh side is))))
+quads_more mesh side is rim = grind (arith, common_steps, first_side, whole_side, quad_here, quads-append, side_more)
 
 pub quads_same : (mesh : FaceList) (side : Side) → IsSide mesh side → is_rim mesh (whole_side mesh side) ≡ false
     → with_quads mesh (first_side mesh side.face.0 + side.at) ≡ with_quads mesh (first_side mesh side.face.0 + side.at + 1)
-quads_same mesh side is rim =
-    let some : List FaceSide = take (first_side mesh side.face.0 + side.at) (all_sides mesh) in
-    ap (λ (l : List (List ℕ)). begun mesh (mesh.faces ++ mirrors mesh ++ l))
-    (sym (append-nil (quads mesh some))
-    ∙ ap (λ (l : List (List ℕ)). quads mesh some ++ l) (sym (no_quad_here mesh (whole_side mesh side) rim))
-    ∙ sym (quads-append mesh some (whole_side mesh side ∷ [])) ∙ ap (quads mesh) (sym (side_more mesh side is)))
+quads_same mesh side is rim = grind (arith, common_steps, first_side, no_quad_here, whole_side, quads-append, side_more)
 
 pub quads_all : (mesh : FaceList) (n : ℕ) → total_sides mesh ≤ n → (with_quads mesh n).mesh ≡ double_of mesh
-quads_all mesh n l =
-    ap (λ (s : List FaceSide). (begun mesh (mesh.faces ++ mirrors mesh ++ quads mesh s)).mesh)
-    (take_all n (all_sides mesh) (omega (arith, l, length-all_sides mesh)))
+quads_all mesh n l = grind (arith, common_steps, length-all_sides)
 
 -- ---- no room
 
 no_room : (mesh : FaceList) (faces : List (List ℕ)) (face : List ℕ) → ComeFirst mesh (faces ++ face ∷ [])
     → sum_by length faces + length face ≤ total_sides (double_of mesh)
-no_room mesh faces face first =
-    omega (
-      arith,
-      sum_by_push {X = List ℕ} length faces face,
-      sum_by-append {X = List ℕ} length (faces ++ face ∷ []) first.0,
-      ap (λ (fs : List (List ℕ)). sum_by length fs) first.1,
-    )
+no_room mesh faces face first = grind (arith, common_steps)
 
 pub more_room : (few many : ℕ) (fault : DoubleFault) → few ≤ many → HasNoRoom few fault → HasNoRoom many fault
 more_room few many fault l (inl none) = inl none
@@ -177,14 +142,7 @@ more_room few many fault l (inr over) = inr (over.0, omega (arith, over.1))
 -- where a face of the double has no room, the double has none
 pub ends_early : (mesh : FaceList) (seen more : PendingFace) (face : List ℕ) (n : ℕ) (fault : DoubleFault) → n ≡ length face
     → with_face seen face ≡ more → ComeFirst mesh more.mesh.faces → HasNoRoom (total_sides seen.mesh + n) fault → EndsEarly mesh fault
-ends_early mesh seen more face n fault size is first h =
-    more_room (total_sides seen.mesh + n) (total_sides (double_of mesh)) fault
-    (omega (
-      arith,
-      size,
-      no_room mesh seen.mesh.faces face
-          (subst (λ (p : PendingFace). ComeFirst mesh p.mesh.faces) (sym is) first),
-    )) h
+ends_early mesh seen more face n fault size is first h = grind (arith, more_room, no_room)
 
 -- ---- what calls put
 
@@ -192,10 +150,7 @@ ends_early mesh seen more face n fault size is first h =
 pub corner_more : (old start new : PendingFace) (list : List ℕ) (i v : ℕ) → old ≡ record { mesh = start.mesh; pending = take i list }
     → new ≡ record old { pending = old.pending ++ v ∷ [] } → i < length list → get_or list i 0 ≡ v
     → new ≡ record { mesh = start.mesh; pending = take (i + 1) list }
-corner_more old start new list i v from put l is =
-    put ∙ ap (λ (p : PendingFace). record p { pending = p.pending ++ v ∷ [] }) from
-    ∙ ap (λ (p : List ℕ). record { mesh = start.mesh; pending = p })
-    (ap (λ w. take i list ++ w ∷ []) (sym is) ∙ sym (take_more list i 0 l))
+corner_more old start new list i v from put l is = grind (arith, common_steps)
 
 pub length-numbers : (ring : List VertexName) → length (numbers ring) ≡ length ring
 length-numbers ring = length-map ring (λ (v : VertexName). v.0)
@@ -204,25 +159,17 @@ length-numbers ring = length-map ring (λ (v : VertexName). v.0)
 pub mirror_stands : (old start : PendingFace) (count i : ℕ) (ring : List ℕ)
     → old ≡ record { mesh = start.mesh; pending = take i (mirror_face count ring) } → length ring ≤ i
     → old ≡ record { mesh = start.mesh; pending = mirror_face count ring }
-mirror_stands old start count i ring from l =
-    from ∙ ap (λ (p : List ℕ). record { mesh = start.mesh; pending = p })
-    (take_all i (mirror_face count ring) (omega (arith, l, length-mirror_face count ring)))
+mirror_stands old start count i ring from l = grind (arith, common_steps, length-mirror_face)
 
 pub mirror_closes : (old start : PendingFace) (count : ℕ) (ring : List ℕ)
     → old ≡ record { mesh = start.mesh; pending = mirror_face count ring } → start.mesh.count ≡ count + count → IsFace count ring
     → IsFace old.mesh.count old.pending
-mirror_closes old start count ring from is h =
-    subst (λ (p : PendingFace). IsFace p.mesh.count p.pending) (sym from)
-    (subst (λ n. IsFace n (mirror_face count ring)) (sym is) (face_mirror count ring h))
+mirror_closes old start count ring from is h = grind (arith, face_mirror)
 
 pub mirror_next_face : (mesh : FaceList) (n count : ℕ) (seen : PendingFace) (ring : List ℕ) → seen ≡ with_mirrors mesh n
     → count ≡ mesh.count → ring ≡ face_at mesh n → n < length mesh.faces
     → with_face seen (mirror_face count ring) ≡ with_mirrors mesh (n + 1)
-mirror_next_face mesh n count seen ring from size is l =
-    ap (λ (p : PendingFace). with_face p (mirror_face count ring)) from
-    ∙ ap (λ k. with_face (with_mirrors mesh n) (mirror_face k ring)) size
-    ∙ ap (λ (r : List ℕ). with_face (with_mirrors mesh n) (mirror_face mesh.count r)) is
-    ∙ mirrors_more mesh n l
+mirror_next_face mesh n count seen ring from size is l = grind (arith, mirrors_more)
 
 -- the quad of a side, from what was read of it
 pub quad_is : (mesh : FaceList) (side : Side) (head tail other_tail other_head count next size : ℕ)
@@ -231,19 +178,10 @@ pub quad_is : (mesh : FaceList) (side : Side) (head tail other_tail other_head c
     → other_tail ≡ mirror count tail → other_head ≡ mirror count head
     → head ∷ tail ∷ other_tail ∷ other_head ∷ [] ≡ rim_quad mesh.count (whole_side mesh side)
 quad_is mesh side head tail other_tail other_head count next size is_head is_next is_size is_tail is_count is_other_tail is_other_head =
-    let at_head : head ≡ (whole_side mesh side).head =
-    is_head ∙ ap (λ k. get_or (face_at mesh side.face.0) k 0) (is_next ∙ ap (λ m. next_corner true m side.at) is_size) in
-    let low : other_tail ≡ mirror mesh.count (whole_side mesh side).tail = omega arith in
-    let high : other_head ≡ mirror mesh.count (whole_side mesh side).head = omega arith in
-    ap (λ x. x ∷ tail ∷ other_tail ∷ other_head ∷ []) at_head
-    ∙ ap (λ x. (whole_side mesh side).head ∷ x ∷ other_tail ∷ other_head ∷ []) is_tail
-    ∙ ap (λ x. (whole_side mesh side).head ∷ (whole_side mesh side).tail ∷ x ∷ other_head ∷ []) low
-    ∙ ap (λ x. (whole_side mesh side).head ∷ (whole_side mesh side).tail ∷ mirror mesh.count (whole_side mesh side).tail ∷ x ∷ []) high
+    grind (arith, whole_side)
 
 pub quad_next : (mesh : FaceList) (side : Side) (seen : PendingFace) (ring : List ℕ) → IsSide mesh side
     → is_rim mesh (whole_side mesh side) ≡ true → seen ≡ with_quads mesh (first_side mesh side.face.0 + side.at)
     → ring ≡ rim_quad mesh.count (whole_side mesh side)
     → with_face seen ring ≡ with_quads mesh (first_side mesh side.face.0 + side.at + 1)
-quad_next mesh side seen ring is rim from quad =
-    ap (λ (p : PendingFace). with_face p ring) from
-    ∙ ap (with_face (with_quads mesh (first_side mesh side.face.0 + side.at))) quad ∙ quads_more mesh side is rim
+quad_next mesh side seen ring is rim from quad = grind (arith, first_side, quads_more)

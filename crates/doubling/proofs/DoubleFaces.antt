@@ -1,6 +1,6 @@
 -- The faces of a double, each of one of three kinds, and their corners.
-use Rattle.doubling.proofs.Common.{◌≡◌, ◌⊎◌, inl, inr, ℕ, ◌+◌, ◌-◌, ◌<◌, Bool, true, false, not, List, [], ◌∷◌, ◌++◌, length, map, get_or, refl, ap, sym, ◌∙◌, subst, arith, length-append, cases_lt, nat_tests, length-map, get_or-map, get_or_append_left, get_or-append_right, get_or-reverse, length-reverse, All-filter, filter, step_edge, IsWholeSide, whole_side, tail_of, side_name, FaceList, FaceSide, face_at, all_sides, is_edge, next_corner}
-use Rattle.doubling.specs.Doubles.{mirror, mirror_face, is_rim, rim_quad, rim_quads, double_of}
+use Rattle.doubling.proofs.Common.{mirror, mirror_face, is_rim, rim_quad, rim_quads, double_of, ◌≡◌, ◌⊎◌, inl, inr, ℕ, ◌+◌, ◌-◌, ◌<◌, Bool, true, false, not, List, [], ◌∷◌, ◌++◌, length, map, get_or, refl, ap, sym, ◌∙◌, subst, arith, cases_lt, nat_tests, common_steps, length-map, get_or-map, get_or-append_right, get_or-reverse, length-reverse, filter, step_edge, IsWholeSide, whole_side, tail_of, side_name, FaceList, FaceSide, face_at, all_sides, is_edge, next_corner}
+use Rattle.std.proofs.lemmas.List.Elements.{All-filter}
 
 -- a face of the mesh
 pub record IsKept (mesh : FaceList) (f : ℕ) (ring : List ℕ) : Type 0 where
@@ -29,32 +29,19 @@ no_side = record { face = 0; at = 0; tail = 0; head = 0 }
 
 -- a face keeps its number
 pub kept_face : (mesh : FaceList) (f : ℕ) → f < length mesh.faces → face_at (double_of mesh) f ≡ face_at mesh f
-kept_face mesh f l =
-    let mirrors : List (List ℕ) = map (mirror_face mesh.count) mesh.faces in
-    get_or_append_left (mesh.faces ++ mirrors) (rim_quads mesh) [] f (omega (arith, l, length-append mesh.faces mirrors))
-    ∙ get_or_append_left mesh.faces mirrors [] f l
+kept_face mesh f l = grind (arith, common_steps)
 
 pub kept_below : (mesh : FaceList) (f : ℕ) → f < length mesh.faces → f < length (double_of mesh).faces
-kept_below mesh f l =
-    let mirrors : List (List ℕ) = map (mirror_face mesh.count) mesh.faces in
-    omega (arith, l, length-append mesh.faces mirrors, length-append (mesh.faces ++ mirrors) (rim_quads mesh))
+kept_below mesh f l = grind (arith, common_steps)
 
 first_size : (mesh : FaceList)
     → length (mesh.faces ++ map (mirror_face mesh.count) mesh.faces) ≡ length mesh.faces + length mesh.faces
-first_size mesh =
-    omega (arith, length-map mesh.faces (mirror_face mesh.count), length-append mesh.faces (map (mirror_face mesh.count) mesh.faces))
+first_size mesh = grind (arith, common_steps)
 
 -- behind them come the mirrors, and then the quads
 pub mirrored_face : (mesh : FaceList) (f : ℕ) → f < length mesh.faces
     → face_at (double_of mesh) (length mesh.faces + f) ≡ mirror_face mesh.count (face_at mesh f)
-mirrored_face mesh f l =
-    let n : ℕ = length mesh.faces in
-    let mirrors : List (List ℕ) = map (mirror_face mesh.count) mesh.faces in
-    let there : n + f - n ≡ f = omega arith in
-    get_or_append_left (mesh.faces ++ mirrors) (rim_quads mesh) [] (n + f) (omega (arith, l, first_size mesh))
-    ∙ get_or-append_right mesh.faces mirrors n (n + f) [] refl (omega arith)
-    ∙ ap (λ k. get_or mirrors k []) there
-    ∙ get_or-map (mirror_face mesh.count) mesh.faces f [] [] l
+mirrored_face mesh f l = grind (arith, common_steps, first_size)
 
 pub quad_face : (mesh : FaceList) (k : ℕ) → k < length (rims mesh)
     → face_at (double_of mesh) (length mesh.faces + length mesh.faces + k) ≡ rim_quad mesh.count (get_or (rims mesh) k no_side)
@@ -67,13 +54,7 @@ quad_face mesh k l =
     ∙ get_or-map (rim_quad mesh.count) (rims mesh) k no_side [] l
 
 pub double_size : (mesh : FaceList) → length (double_of mesh).faces ≡ length mesh.faces + length mesh.faces + length (rims mesh)
-double_size mesh =
-    omega (
-      arith,
-      first_size mesh,
-      length-map (rims mesh) (rim_quad mesh.count),
-      length-append (mesh.faces ++ map (mirror_face mesh.count) mesh.faces) (rim_quads mesh),
-    )
+double_size mesh = grind (arith, common_steps, first_size)
 
 -- a face of the double by its number
 pub record IsMirrorNumber (mesh : FaceList) (f : ℕ) : Type 0 where

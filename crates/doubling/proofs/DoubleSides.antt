@@ -1,27 +1,21 @@
 -- The sides of the double: those of the mesh, those of the mirrors, each over a side that it runs against, and four of each quad.
-use Rattle.doubling.proofs.Common.{◌≡◌, ◌⊎◌, inl, inr, ℕ, ◌+◌, ◌-◌, ◌<◌, true, false, List, length, get_or, ap, sym, ◌∙◌, subst, arith, step_within, back_within, there_and_back, IsSide, side_after, tail_of, head_of, side_name, FaceList, face_at, next_corner, Side, next_back}
+use Rattle.doubling.proofs.Common.{rim_quad, double_of, ◌≡◌, ◌⊎◌, inl, inr, ℕ, ◌+◌, ◌-◌, ◌<◌, true, false, List, length, get_or, ap, sym, ◌∙◌, subst, arith, common_steps, step_within, back_within, there_and_back, IsSide, side_after, tail_of, head_of, side_name, FaceList, face_at, next_corner, Side, next_back}
 use Rattle.connectivity.proofs.CornerLemmas.{after_in_mesh}
-use Rattle.doubling.specs.Doubles.{rim_quad, double_of}
 use Rattle.doubling.proofs.DoubleFaces.{rims, no_side, kept_face, kept_below, mirrored_face, quad_face, double_size, number_kinds, rim_whole, length-mirror_face, mirror_corner, mirror_next}
 
 -- ---- sides of the mesh
 
 pub kept_side : (mesh : FaceList) (side : Side) → IsSide mesh side → IsSide (double_of mesh) side
-kept_side mesh side h = record {
-  face = kept_below mesh side.face.0 h.face;
-  place = subst (λ (r : List ℕ). side.at < length r) (sym (kept_face mesh side.face.0 h.face)) h.place;
-}
+kept_side mesh side h = grind (arith, common_steps, kept_below, kept_face)
 
 pub kept_tail : (mesh : FaceList) (side : Side) → IsSide mesh side → tail_of (double_of mesh) side ≡ tail_of mesh side
 kept_tail mesh side h = ap (λ (r : List ℕ). get_or r side.at 0) (kept_face mesh side.face.0 h.face)
 
 pub kept_after : (mesh : FaceList) (side : Side) → IsSide mesh side → side_after (double_of mesh) side ≡ side_after mesh side
-kept_after mesh side h =
-    ap (λ (r : List ℕ). record { face = side.face; at = next_corner true (length r) side.at }) (kept_face mesh side.face.0 h.face)
+kept_after mesh side h = grind (arith, kept_face)
 
 pub kept_head : (mesh : FaceList) (side : Side) → IsSide mesh side → head_of (double_of mesh) side ≡ head_of mesh side
-kept_head mesh side h =
-    ap (tail_of (double_of mesh)) (kept_after mesh side h) ∙ kept_tail mesh (side_after mesh side) (after_in_mesh mesh side h)
+kept_head mesh side h = grind (arith, common_steps, kept_after, kept_tail, after_in_mesh)
 
 -- ---- mirrors
 
@@ -38,36 +32,18 @@ side_over mesh side = corner_over mesh (side_after mesh side)
 
 over_size : (mesh : FaceList) (corner : Side) → IsSide mesh corner
     → length (face_at (double_of mesh) (length mesh.faces + corner.face.0)) ≡ length (face_at mesh corner.face.0)
-over_size mesh corner h =
-    ap (λ (r : List ℕ). length r) (mirrored_face mesh corner.face.0 h.face)
-    ∙ length-mirror_face mesh.count (face_at mesh corner.face.0)
+over_size mesh corner h = grind (arith, mirrored_face, length-mirror_face)
 
 pub over_in_double : (mesh : FaceList) (corner : Side) → IsSide mesh corner → IsSide (double_of mesh) (corner_over mesh corner)
-over_in_double mesh corner h = record {
-  face = omega (arith, h.face, double_size mesh);
-  place = omega (arith, h.place, over_size mesh corner h);
-}
+over_in_double mesh corner h = grind (arith, double_size, over_size)
 
 pub over_tail : (mesh : FaceList) (corner : Side) → IsSide mesh corner
     → tail_of (double_of mesh) (corner_over mesh corner) ≡ tail_of mesh corner + mesh.count
-over_tail mesh corner h =
-    let m : ℕ = length (face_at mesh corner.face.0) in
-    let twice : m - 1 - (m - 1 - corner.at) ≡ corner.at = omega (arith, h.place) in
-    ap (λ (r : List ℕ). get_or r (m - 1 - corner.at) 0) (mirrored_face mesh corner.face.0 h.face)
-    ∙ mirror_corner mesh.count (face_at mesh corner.face.0) (m - 1 - corner.at) (omega (arith, h.place))
-    ∙ ap (λ t. get_or (face_at mesh corner.face.0) t 0 + mesh.count) twice
+over_tail mesh corner h = grind (arith, mirrored_face, mirror_corner)
 
 pub over_after : (mesh : FaceList) (side : Side) → IsSide mesh side
     → side_after (double_of mesh) (side_over mesh side) ≡ corner_over mesh side
-over_after mesh side h =
-    let m : ℕ = length (face_at mesh side.face.0) in
-    let next : ℕ = next_corner true m side.at in
-    let place : next_corner true m (m - 1 - next) ≡ m - 1 - side.at =
-    sym (mirror_next false m next (step_within true m side.at h.place))
-    ∙ ap (λ t. m - 1 - t) (next_back true m side.at h.place) in
-    ap (λ (n : ℕ). record { face = record { 0 = length mesh.faces + side.face.0 }; at = next_corner true n (m - 1 - next) })
-    (over_size mesh side h)
-    ∙ ap (λ (t : ℕ). record { face = record { 0 = length mesh.faces + side.face.0 }; at = t }) place
+over_after mesh side h = grind (arith, mirror_next, step_within, next_back, over_size)
 
 pub over_head : (mesh : FaceList) (side : Side) → IsSide mesh side
     → head_of (double_of mesh) (side_over mesh side) ≡ tail_of mesh side + mesh.count
@@ -116,10 +92,7 @@ pub rim_in_mesh : (mesh : FaceList) (k : ℕ) → k < length (rims mesh) → IsS
 rim_in_mesh mesh k l = (rim_whole mesh k l).1.side_of
 
 pub quad_in_double : (mesh : FaceList) (k i : ℕ) → k < length (rims mesh) → i < 4 → IsSide (double_of mesh) (quad_side mesh k i)
-quad_in_double mesh k i l b = record {
-  face = omega (arith, l, double_size mesh);
-  place = subst (λ (r : List ℕ). i < length r) (sym (quad_face mesh k l)) b;
-}
+quad_in_double mesh k i l b = grind (arith, double_size, quad_face)
 
 pub quad_tail : (mesh : FaceList) (k i : ℕ) → k < length (rims mesh)
     → tail_of (double_of mesh) (quad_side mesh k i) ≡ get_or (rim_quad mesh.count (get_or (rims mesh) k no_side)) i 0
@@ -127,12 +100,7 @@ quad_tail mesh k i l = ap (λ (r : List ℕ). get_or r i 0) (quad_face mesh k l)
 
 pub quad_after : (mesh : FaceList) (k i : ℕ) → k < length (rims mesh)
     → side_after (double_of mesh) (quad_side mesh k i) ≡ quad_side mesh k (next_corner true 4 i)
-quad_after mesh k i l =
-    ap (λ (r : List ℕ). record {
-      face = record { 0 = length mesh.faces + length mesh.faces + k };
-      at = next_corner true (length r) i;
-    })
-    (quad_face mesh k l)
+quad_after mesh k i l = grind (arith, quad_face)
 
 pub rim_tail : (mesh : FaceList) (k : ℕ) → k < length (rims mesh) → (get_or (rims mesh) k no_side).tail ≡ tail_of mesh (rim_side mesh k)
 rim_tail mesh k l = (rim_whole mesh k l).1.tail
@@ -192,10 +160,7 @@ side_kinds mesh side h =
       | inr others ↦ elim others [
         | inl is ↦
             (let m : ℕ = length (face_at mesh is.face) in
-            let size : length (face_at (double_of mesh) side.face.0) ≡ m =
-            ap (λ f. length (face_at (double_of mesh) f)) is.number
-            ∙ ap (λ (r : List ℕ). length r) (mirrored_face mesh is.face is.in_list)
-            ∙ length-mirror_face mesh.count (face_at mesh is.face) in
+            let size : length (face_at (double_of mesh) side.face.0) ≡ m = grind (arith, mirrored_face, length-mirror_face) in
             let within : m - 1 - side.at < m = omega (arith, h.place, size) in
             let place : side.at ≡ m - 1 - next_corner true m (next_corner false m (m - 1 - side.at)) =
             omega (arith, h.place, size, there_and_back m (m - 1 - side.at) within) in

@@ -1,6 +1,6 @@
 -- Chains of the double, folded: each face gets its own number less that of its mirror. Numbers of darts that are told by their folds do not
 -- see the quads, which are folded to spurs.
-use Rattle.doubling.proofs.Common.{IsChain, ◌≡◌, ℕ, suc, ◌+◌, ◌-◌, ◌<◌, true, false, List, [], ◌∷◌, ◌++◌, length, map, get_or, refl, ap, ap₂, sym, ◌∙◌, subst, arith, length-append, ℤ, pos, ◌+ℤ◌, nat_tests, length-map, get_or-map, nat_lt, if◌then◌else◌, ◌*ℤ◌, neg_ℤ, tail_used, head_used, used_below, Linked, links, round_linked, first_corner, FaceList, IsFaceList, face_at, all_sides, corners_from, IsWalk}
+use Rattle.doubling.proofs.Common.{mirror_face, rim_quads, double_of, fold, IsChain, ◌≡◌, ℕ, suc, ◌+◌, ◌-◌, ◌<◌, true, false, List, [], ◌∷◌, ◌++◌, length, map, get_or, refl, ap, ap₂, sym, ◌∙◌, subst, arith, ℤ, pos, ◌+ℤ◌, nat_tests, common_steps, length-map, get_or-map, nat_lt, if◌then◌else◌, ◌*ℤ◌, neg_ℤ, tail_used, head_used, used_below, Linked, links, round_linked, first_corner, FaceList, IsFaceList, face_at, all_sides, corners_from, IsWalk}
 use Rattle.homology.proofs.AlongLemmas.{IsOpposite, two_ways, round-sides}
 use Rattle.homology.proofs.BoundaryLemmas.{part_sum, part_sum-sum, face_parts, by_faces, boundary_is, share-opposite}
 use Rattle.homology.proofs.PairingLemmas.{chain_tells}
@@ -8,8 +8,6 @@ use Rattle.homology.proofs.RingLemmas.{times-opposite, opposite-times}
 use Rattle.homology.specs.Sums.{along, round, share}
 use Rattle.std.proofs.Math.IntN.{*ℤ-zero, zero-*ℤ}
 use Rattle.std.proofs.lemmas.Int.{ints}
-use Rattle.doubling.specs.Doubles.{mirror_face, rim_quads, double_of}
-use Rattle.doubling.specs.Folds.{fold}
 use Rattle.doubling.proofs.DoubleFaces.{IsRimQuad, rim_kind, length-mirror_face}
 use Rattle.doubling.proofs.RepeatLemmas.{fold_kept, fold_mirror, linked_folds}
 use Rattle.doubling.proofs.FoldedMoves.{mirror_round}
@@ -19,10 +17,7 @@ use Rattle.doubling.proofs.KeptMoves.{kept_walk}
 
 parts-append : (of_face : ℕ → ℤ) (number : ℕ → ℕ → ℤ) (n : ℕ) (xs ys : List (List ℕ))
     → face_parts of_face number n (xs ++ ys) ≡ face_parts of_face number n xs +ℤ face_parts of_face number (n + length xs) ys
-parts-append of_face number n [] ys =
-    let same : face_parts of_face number n ys ≡ face_parts of_face number (n + 0) ys =
-    ap (λ k. face_parts of_face number k ys) (omega arith) in
-    omega (arith, ints, same)
+parts-append of_face number n [] ys = grind arith
 parts-append of_face number n (x ∷ xs) ys =
     let more = parts-append of_face number (n + 1) xs ys in
     let same : face_parts of_face number (n + 1 + length xs) ys ≡ face_parts of_face number (n + length (x ∷ xs)) ys =
@@ -56,8 +51,7 @@ parts_none : (of_face : ℕ → ℤ) (number : ℕ → ℕ → ℤ) (n : ℕ) (x
 parts_none of_face number n [] h = refl
 parts_none of_face number n (x ∷ xs) h =
     let first : n + 0 ≡ n = omega arith in
-    let here : of_face n *ℤ along number (round x) ≡ pos 0 =
-    subst (λ i. of_face i *ℤ along number (round x) ≡ pos 0) first (h 0 (omega arith)) in
+    let here : of_face n *ℤ along number (round x) ≡ pos 0 = grind (arith, along, round) in
     let more = parts_none of_face number (n + 1) xs (λ k l.
     let second : n + suc k ≡ n + 1 + k = omega arith in
     subst (λ i. of_face i *ℤ along number (round (get_or xs k [])) ≡ pos 0) second (h (suc k) (omega arith))) in
@@ -69,24 +63,7 @@ by_kinds : (mesh : FaceList) (of_face : ℕ → ℤ) (number : ℕ → ℕ → �
     ≡ face_parts of_face number 0 mesh.faces
     +ℤ face_parts of_face number (length mesh.faces) (map (mirror_face mesh.count) mesh.faces)
     +ℤ face_parts of_face number (length mesh.faces + length mesh.faces) (rim_quads mesh)
-by_kinds mesh of_face number =
-    let n : ℕ = length mesh.faces in
-    let mirrors : List (List ℕ) = map (mirror_face mesh.count) mesh.faces in
-    let size : length mirrors ≡ n = length-map mesh.faces (mirror_face mesh.count) in
-    let second : face_parts of_face number (0 + n) mirrors ≡ face_parts of_face number n mirrors =
-    ap (λ k. face_parts of_face number k mirrors) (omega arith) in
-    let third : face_parts of_face number (0 + length (mesh.faces ++ mirrors)) (rim_quads mesh)
-    ≡ face_parts of_face number (n + n) (rim_quads mesh) =
-    ap (λ k. face_parts of_face number k (rim_quads mesh)) (omega (arith, size, length-append mesh.faces mirrors)) in
-    by_faces of_face number (double_of mesh)
-    ∙ omega (
-      arith,
-      ints,
-      parts-append of_face number 0 (mesh.faces ++ mirrors) (rim_quads mesh),
-      parts-append of_face number 0 mesh.faces mirrors,
-      second,
-      third,
-    )
+by_kinds mesh of_face number = grind (arith, common_steps, by_faces, parts-append)
 
 -- ---- numbers of folds
 
@@ -103,11 +80,7 @@ along-fold count number (u ∷ v ∷ walk) = ap (λ z. number (fold count u) (fo
 -- along edges of the mesh
 along_kept : (mesh : FaceList) (number : ℕ → ℕ → ℤ) (walk rest : List ℕ) (x : ℕ) → IsFaceList mesh → walk ≡ x ∷ rest → x < mesh.count
     → Linked mesh walk → along (of_fold mesh.count number) walk ≡ along number walk
-along_kept mesh number walk rest x valid begins l linked =
-    along-fold mesh.count number walk
-    ∙ ap (λ (w : List ℕ). along number (map (fold mesh.count) w)) begins
-    ∙ ap (along number) (linked_folds mesh x rest valid l (subst (Linked mesh) begins linked))
-    ∙ ap (along number) (sym begins)
+along_kept mesh number walk rest x valid begins l linked = grind (arith, along-fold, along, linked_folds)
 
 along_walk : (mesh : FaceList) (number : ℕ → ℕ → ℤ) (walk : List ℕ) → IsFaceList mesh → IsWalk mesh walk
     → along (of_fold mesh.count number) walk ≡ along number walk
@@ -148,8 +121,7 @@ along_quad mesh number ring valid opposite is =
     let v : ℕ = is.head in
     let low : fold mesh.count u ≡ u = fold_kept mesh.count u (used_below mesh u valid (tail_used mesh u v is.edge)) in
     let high : fold mesh.count v ≡ v = fold_kept mesh.count v (used_below mesh v valid (head_used mesh u v is.edge)) in
-    let spur : number v u +ℤ (number u u +ℤ (number u v +ℤ (number v v +ℤ pos 0))) ≡ pos 0 =
-    omega (arith, ints, opposite.back u v, opposite.back u u, opposite.back v v) in
+    let spur : number v u +ℤ (number u u +ℤ (number u v +ℤ (number v v +ℤ pos 0))) ≡ pos 0 = grind arith in
     ap (λ (r : List ℕ). along (of_fold mesh.count number) (round r)) is.ring_is
     ∙ rw (low, high, fold_mirror mesh.count u, fold_mirror mesh.count v) spur
 
@@ -235,10 +207,7 @@ sum_kept mesh of_face number =
     let kept : face_parts (kept_chain mesh of_face) number 0 mesh.faces ≡ face_parts of_face number 0 mesh.faces =
     parts_alike (kept_chain mesh of_face) of_face number number 0 0 mesh.faces mesh.faces refl
     (λ k l. ap (λ z. z *ℤ along number (round (face_at mesh k))) (kept_number n (0 + k) (of_face (0 + k)) (omega arith))) in
-    let mirrored : face_parts (kept_chain mesh of_face) number n mirrors ≡ pos 0 =
-    parts_none (kept_chain mesh of_face) number n mirrors
-    (λ k l. ap (λ z. z *ℤ along number (round (get_or mirrors k []))) (no_number n (n + k) k (of_face (n + k)) refl)
-    ∙ zero-*ℤ (along number (round (get_or mirrors k [])))) in
+    let mirrored : face_parts (kept_chain mesh of_face) number n mirrors ≡ pos 0 = grind (arith, parts_none, along, round, no_number) in
     let quads : face_parts (kept_chain mesh of_face) number (n + n) (rim_quads mesh) ≡ pos 0 =
     parts_none (kept_chain mesh of_face) number (n + n) (rim_quads mesh)
     (λ k l. ap (λ z. z *ℤ along number (round (get_or (rim_quads mesh) k [])))
@@ -249,10 +218,4 @@ sum_kept mesh of_face number =
 -- a chain of the mesh is one of the double
 pub chain_kept : (mesh : FaceList) (of_face : ℕ → ℤ) (first second : List ℕ) → IsWalk mesh first → IsWalk mesh second
     → IsChain mesh of_face first second → IsChain (double_of mesh) (kept_chain mesh of_face) first second
-chain_kept mesh of_face first second w v chain = record {
-  balanced = λ low high up is.
-      let number : ℕ → ℕ → ℤ = share (pos 1) low high in
-      let tells = chain_tells mesh of_face first second number (share-opposite (pos 1) low high up) (links mesh first w)
-      (links mesh second v) chain in
-      omega (arith, ints, tells, sum_kept mesh of_face number, boundary_is (double_of mesh) (kept_chain mesh of_face) low high);
-}
+chain_kept mesh of_face first second w v chain = grind (arith, chain_tells, share-opposite, links, sum_kept, boundary_is)

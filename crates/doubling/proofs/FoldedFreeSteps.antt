@@ -1,9 +1,7 @@
 -- Free steps of the double, folded: a closed walk that starts later is folded to one that starts later, or at the same place.
-use Rattle.doubling.proofs.Common.{IsClosedWalk, FreeStep, Moved, Rotated, after_free, after_all_free, FreelyLeads, FreelyHomotopic, ◌≡◌, inl, inr, ℕ, true, false, List, [], ◌∷◌, ◌++◌, map, refl, ap, ap₂, sym, ◌∙◌, subst, cases_eq, eq-eqb, ne_eqb, Some, ◌==◌, first_answer, FaceList, IsFaceList, end_from, run-append}
+use Rattle.doubling.proofs.Common.{IsClosedWalk, FreeStep, Moved, Rotated, after_free, after_all_free, FreelyLeads, FreelyHomotopic, double_of, fold, steps_behind, folded, arith, ◌≡◌, inl, inr, ℕ, true, false, List, [], ◌∷◌, ◌++◌, map, refl, ap, ap₂, sym, ◌∙◌, subst, cases_eq, eq-eqb, ne_eqb, Some, ◌==◌, first_answer, FaceList, IsFaceList, end_from, run-append}
 use Rattle.closed_walks.proofs.FreeStepLemmas.{on, closes, step_keeps}
 use Rattle.closed_walks.proofs.MovedSteps.{freely}
-use Rattle.doubling.specs.Doubles.{double_of}
-use Rattle.doubling.specs.Folds.{fold, steps_behind, folded}
 use Rattle.doubling.proofs.FoldedMoves.{step, puts_fold, moves_fold}
 use Rattle.doubling.proofs.KeptMoves.{kept_walk, kept_move}
 
@@ -39,9 +37,7 @@ step_folds mesh Rotated (u ∷ v ∷ rest) next valid h e =
 
 pub steps_fold : (mesh : FaceList) (steps : List FreeStep) (walk next : List ℕ) → IsFaceList mesh → IsClosedWalk (double_of mesh) walk
     → FreelyLeads (double_of mesh) walk steps next → FreelyHomotopic mesh (folded mesh.count walk) (folded mesh.count next)
-steps_fold mesh [] walk next valid h e =
-    let same : walk ≡ next = cc in
-    ([], ap (λ (l : List ℕ). Some (folded mesh.count l)) same)
+steps_fold mesh [] walk next valid h e = grind arith
 steps_fold mesh (free ∷ steps) walk next valid h e =
     let told = first_answer (λ x. after_all_free (double_of mesh) x steps) (after_free (double_of mesh) walk free) next e in
     on mesh (folded mesh.count walk) (folded mesh.count told.0) (folded mesh.count next) (step_folds mesh free walk told.0 valid h told.1)

@@ -1,14 +1,11 @@
 -- Moves of the double, folded: a list of them becomes one of the mesh, between the folds of its two walks. For the darts of the double act
 -- on walks of the mesh, where homotopic ones are taken for the same: the fold of the second vertex is put behind, unless it is there.
-use Rattle.doubling.proofs.Common.{edge_differs, ◌≡◌, ◌≢◌, inl, inr, ℕ, zero, suc, ◌-◌, ◌<◌, Bool, true, false, not, List, [], ◌∷◌, ◌++◌, length, map, get_or, refl, ap, ap₂, sym, ◌∙◌, subst, arith, append_assoc, cases_eq, eq-eqb, ne_eqb, append-nil, Some, ◌==◌, if◌then◌else◌, list_in_context, one_after_another, edge_swap, step_within, tail_used, head_used, used_below, Linked, links, round_linked, by_replacing, length-corners_from, first_corner, FaceList, IsFaceList, face_at, corners_from, next_corner, is_edge, apply, Leads, Homotopic, Replaces, place_of, IsWalk, Move, Insert, Remove, Across, corners_beyond, walked-round}
+use Rattle.doubling.proofs.Common.{edge_differs, mirror, mirror_face, double_of, fold, steps_behind, folded, ◌≡◌, ◌≢◌, inl, inr, ℕ, zero, suc, ◌-◌, ◌<◌, Bool, true, false, not, List, [], ◌∷◌, ◌++◌, length, map, get_or, refl, ap, ap₂, sym, ◌∙◌, subst, arith, append_assoc, cases_eq, eq-eqb, ne_eqb, append-nil, length-append, Some, ◌==◌, if◌then◌else◌, list_in_context, one_after_another, edge_swap, step_within, tail_used, head_used, used_below, Linked, links, round_linked, by_replacing, length-corners_from, first_corner, FaceList, IsFaceList, face_at, corners_from, next_corner, is_edge, apply, Leads, Homotopic, Replaces, place_of, IsWalk, Move, Insert, Remove, Across, corners_beyond, walked-round}
 use Rattle.std.proofs.Math.Bool.{not-not}
-use Rattle.std.proofs.lemmas.List.{length-append}
 use Rattle.surf_model.proofs.WayBackLemmas.{list_keeps_walk, list_keeps_ends}
 use Rattle.surf_model.specs.Rewriting.{all_raised}
 use Rattle.walk_actions.proofs.Actions.{moves_act, crosses_any}
 use Rattle.walk_actions.specs.Actions.{run, walked, beyond, Acts, RoundIsNothing, FacesActAsNothing}
-use Rattle.doubling.specs.Doubles.{mirror, mirror_face, double_of}
-use Rattle.doubling.specs.Folds.{fold, steps_behind, without_repeats, folded}
 use Rattle.doubling.proofs.DoubleFaces.{IsRimQuad, kinds, length-mirror_face, mirror_next}
 use Rattle.doubling.proofs.RepeatLemmas.{fold_kept, fold_mirror, linked_repeats, linked_folds}
 use Rattle.doubling.proofs.FoldedSides.{FoldsToEdge, mirror_folds, edge_folds}
@@ -82,11 +79,7 @@ once_round mesh f rising t l b =
 -- a way along edges of the mesh is its own fold
 folded_linked : (mesh : FaceList) (walk rest : List ℕ) (x : ℕ) → IsFaceList mesh → walk ≡ x ∷ rest → x < mesh.count → Linked mesh walk
     → folded mesh.count walk ≡ walk
-folded_linked mesh walk rest x valid begins l linked =
-    ap (folded mesh.count) begins
-    ∙ ap without_repeats (linked_folds mesh x rest valid l (subst (Linked mesh) begins linked))
-    ∙ linked_repeats mesh (x ∷ rest) valid (subst (Linked mesh) begins linked)
-    ∙ sym begins
+folded_linked mesh walk rest x valid begins l linked = grind (arith, linked_folds, linked_repeats)
 
 folded_round : (mesh : FaceList) (f : ℕ) (rising : Bool) (t k : ℕ) → IsFaceList mesh → f < length mesh.faces → t < length (face_at mesh f)
     → folded mesh.count (corners_from (face_at mesh f) rising t k) ≡ corners_from (face_at mesh f) rising t k
@@ -113,11 +106,7 @@ folded_mirror : (mesh : FaceList) (f : ℕ) (rising : Bool) (t k : ℕ) → IsFa
     → t < length (face_at mesh f)
     → folded mesh.count (corners_from (mirror_face mesh.count (face_at mesh f)) rising t k)
     ≡ corners_from (face_at mesh f) (not rising) (length (face_at mesh f) - 1 - t) k
-folded_mirror mesh f rising t k valid l b =
-    let m : ℕ = length (face_at mesh f) in
-    ap without_repeats (mirror_round mesh.count (face_at mesh f) rising t k b)
-    ∙ linked_repeats mesh (corners_from (face_at mesh f) (not rising) (m - 1 - t) k) valid
-    (round_linked mesh f (not rising) (m - 1 - t) k l (omega arith))
+folded_mirror mesh f rising t k valid l b = grind (arith, mirror_round, linked_repeats, round_linked)
 
 -- ---- darts of the double act on walks of the mesh
 
@@ -272,8 +261,7 @@ once_quad mesh ring valid is =
     let home : (v == u) ≡ false = ne_eqb v u (λ same. edge_differs mesh u v valid is.edge (sym same)) in
     let alone : (u == u) ≡ true = eq-eqb u u refl in
     let last : (v == v) ≡ true = eq-eqb v v refl in
-    let folds : folded mesh.count (corners_from quad true 0 4) ≡ v ∷ u ∷ v ∷ [] =
-    rw (low, high, fold_mirror mesh.count u, fold_mirror mesh.count v, there, home, alone, last) refl in
+    let folds : folded mesh.count (corners_from quad true 0 4) ≡ v ∷ u ∷ v ∷ [] = grind (arith, fold_mirror) in
     subst (OnceIsNothing mesh) (sym is.ring_is)
     (nothing_round mesh quad true 0 (omega arith)
     (rw (folds, high) (spur mesh v u (edge_swap mesh v u ∙ is.edge))))

@@ -1,7 +1,5 @@
 -- The fold of each edge of the double is an edge of the mesh, or one vertex.
-use Rattle.doubling.proofs.Common.{HasSideBetween, side_between, ◌≡◌, ◌⊎◌, inl, inr, ℕ, zero, suc, ◌-◌, ◌<◌, true, List, length, get_or, ap, sym, ◌∙◌, subst, arith, edge_swap, step_edge, tail_used, head_used, used_below, IsSide, tail_of, head_of, FaceList, IsFaceList, is_edge, Side}
-use Rattle.doubling.specs.Doubles.{mirror_face, double_of}
-use Rattle.doubling.specs.Folds.{fold}
+use Rattle.doubling.proofs.Common.{HasSideBetween, side_between, mirror_face, double_of, fold, ◌≡◌, ◌⊎◌, inl, inr, ℕ, zero, suc, ◌-◌, ◌<◌, true, List, length, get_or, ap, sym, ◌∙◌, subst, arith, edge_swap, step_edge, tail_used, head_used, used_below, IsSide, tail_of, head_of, FaceList, IsFaceList, is_edge, Side}
 use Rattle.doubling.proofs.DoubleFaces.{rims, mirror_corner}
 use Rattle.doubling.proofs.DoubleSides.{kept_tail, kept_head, over_side_tail, over_head, rim_side, quad_side, rim_in_mesh, first_tail, second_tail, third_tail, fourth_tail, first_head, second_head, third_head, fourth_head, side_kinds}
 use Rattle.doubling.proofs.RepeatLemmas.{fold_kept, fold_mirror}
@@ -12,14 +10,12 @@ FoldsToEdge mesh u v = (fold mesh.count u ≡ fold mesh.count v) ⊎ (is_edge me
 
 -- an edge whose ends are those of the mesh, or mirrors of them
 over_edge : (mesh : FaceList) (u v a b : ℕ) → fold mesh.count u ≡ a → fold mesh.count v ≡ b → is_edge mesh a b ≡ true → FoldsToEdge mesh u v
-over_edge mesh u v a b fu fv is =
-    inr (subst (λ x. is_edge mesh x (fold mesh.count v) ≡ true) (sym fu) (subst (λ y. is_edge mesh a y ≡ true) (sym fv) is))
+over_edge mesh u v a b fu fv is = grind arith
 
 -- a corner of a mirror is folded to the corner under it
 pub mirror_folds : (count : ℕ) (face : List ℕ) (t : ℕ) → t < length face
     → fold count (get_or (mirror_face count face) t 0) ≡ get_or face (length face - 1 - t) 0
-mirror_folds count face t l =
-    ap (fold count) (mirror_corner count face t l) ∙ fold_mirror count (get_or face (length face - 1 - t) 0)
+mirror_folds count face t l = grind (arith, mirror_corner, fold_mirror)
 
 -- the ends of a side of the mesh
 module _ (mesh : FaceList) (side : Side) (valid : IsFaceList mesh) (is : IsSide mesh side) where
@@ -85,11 +81,7 @@ side_folds mesh side valid h =
     ]
 
 folds_back : (mesh : FaceList) (u v : ℕ) → FoldsToEdge mesh u v → FoldsToEdge mesh v u
-folds_back mesh u v h =
-    elim h [
-      | inl same ↦ inl (sym same)
-      | inr is ↦ inr (edge_swap mesh (fold mesh.count v) (fold mesh.count u) ∙ is)
-    ]
+folds_back mesh u v h = grind (arith, edge_swap)
 
 pub edge_folds : (mesh : FaceList) (u v : ℕ) → IsFaceList mesh → is_edge (double_of mesh) u v ≡ true → FoldsToEdge mesh u v
 edge_folds mesh u v valid is =

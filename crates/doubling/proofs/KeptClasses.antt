@@ -1,6 +1,5 @@
 -- Walks of the mesh are of one class in the double exactly where they are in the mesh: homotopic, freely homotopic, homologous.
-use Rattle.doubling.proofs.Common.{IsClosedWalk, FreelyHomotopic, AreHomologous, subst, List, ℕ, ◌↔◌, FaceList, IsFaceList, Homotopic, IsWalk}
-use Rattle.doubling.specs.Doubles.{double_of}
+use Rattle.doubling.proofs.Common.{IsClosedWalk, FreelyHomotopic, double_of, AreHomologous, subst, List, ℕ, ◌↔◌, FaceList, IsFaceList, Homotopic, IsWalk}
 use Rattle.doubling.proofs.KeptMoves.{kept_moves, kept_walk}
 use Rattle.doubling.proofs.FoldedMoves.{moves_fold, walk_folds}
 use Rattle.doubling.proofs.FoldedFreeSteps.{steps_fold, kept_steps, kept_closed}

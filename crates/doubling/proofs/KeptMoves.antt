@@ -1,8 +1,5 @@
 -- What a mesh has, its double has: edges, walks, and moves, which do there what they do here.
-use Rattle.doubling.proofs.Common.{HasSideBetween, side_between, ◌≡◌, inl, inr, ℕ, ◌<◌, Bool, true, false, not, ◌||◌, List, [], ◌∷◌, ◌++◌, length, map, get_or, refl, ap, sym, ◌∙◌, subst, ◌+◌, ◌-◌, ◌≤◌, Some, ◌==◌, first_answer, stays_walk, edge_swap, step_edge, by_replacing, tail_of, head_of, FaceList, face_at, corners_from, next_corner, is_edge, is_used, apply, apply_all, IsReplacement, Replaces, IsWalk, Move, Insert, Remove, Across}
-use Rattle.std.proofs.lemmas.List.Folds.{list_any-append}
-use Rattle.std.specs.List.{list_any}
-use Rattle.doubling.specs.Doubles.{mirror_face, rim_quads, double_of}
+use Rattle.doubling.proofs.Common.{HasSideBetween, side_between, double_of, arith, ◌≡◌, inl, inr, ℕ, ◌<◌, Bool, true, false, ◌||◌, List, [], ◌∷◌, length, get_or, refl, ◌∙◌, subst, ◌-◌, common_steps, Some, first_answer, stays_walk, edge_swap, step_edge, by_replacing, tail_of, head_of, FaceList, face_at, next_corner, is_edge, is_used, apply, apply_all, IsReplacement, Replaces, IsWalk, Move, Insert, Remove, Across}
 use Rattle.doubling.proofs.DoubleFaces.{kept_face, kept_below}
 
 pub kept_edge : (mesh : FaceList) (u v : ℕ) → is_edge mesh u v ≡ true → is_edge (double_of mesh) u v ≡ true
@@ -10,8 +7,7 @@ kept_edge mesh u v is =
     let found : HasSideBetween mesh u v = side_between mesh u v is in
     let f : ℕ = found.side.face.0 in
     let same : face_at (double_of mesh) f ≡ face_at mesh f = kept_face mesh f found.in_mesh.face in
-    let place : found.side.at < length (face_at (double_of mesh) f) =
-    subst (λ (r : List ℕ). found.side.at < length r) (sym same) found.in_mesh.place in
+    let place : found.side.at < length (face_at (double_of mesh) f) = grind arith in
     let edge : is_edge (double_of mesh) (tail_of mesh found.side) (head_of mesh found.side) ≡ true =
     subst
     (λ (r : List ℕ).
@@ -33,32 +29,16 @@ or_left false b e = cc
 
 kept_used : (mesh : FaceList) (v : ℕ) → is_used mesh v ≡ true → is_used (double_of mesh) v ≡ true
 unfolding is_used
-kept_used mesh v is =
-    let names : List ℕ → Bool = λ face. list_any (λ corner. corner == v) face in
-    let mirrors : List (List ℕ) = map (mirror_face mesh.count) mesh.faces in
-    list_any-append names (mesh.faces ++ mirrors) (rim_quads mesh)
-    ∙ or_left (list_any names (mesh.faces ++ mirrors)) (list_any names (rim_quads mesh))
-    (list_any-append names mesh.faces mirrors ∙ or_left (list_any names mesh.faces) (list_any names mirrors) is)
+kept_used mesh v is = grind (arith, common_steps, or_left)
 
 pub kept_walk : (mesh : FaceList) (walk : List ℕ) → IsWalk mesh walk → IsWalk (double_of mesh) walk
-kept_walk mesh walk w = record {
-  starts = w.starts;
-  used = λ k d l. kept_used mesh (get_or walk k d) (w.used k d l);
-  edges = λ k l. kept_edge mesh (get_or walk k 0) (get_or walk (k + 1) 0) (w.edges k l);
-}
+kept_walk mesh walk w = grind (arith, kept_used, kept_edge)
 
 kept_replaces : (mesh : FaceList) (move : Move) (part other : List ℕ) → Replaces mesh move part other
     → Replaces (double_of mesh) move part other
 kept_replaces mesh (Insert at via) part other h = (h.0, kept_edge mesh h.0 via.0 h.1, h.2, h.3)
 kept_replaces mesh (Remove at via) part other h = h
-kept_replaces mesh (Across at face corner forward taken) part other h =
-    let same : face_at mesh face.0 ≡ face_at (double_of mesh) face.0 = sym (kept_face mesh face.0 h.0) in (
-      kept_below mesh face.0 h.0,
-      subst (λ (r : List ℕ). corner < length r) same h.1,
-      subst (λ (r : List ℕ). taken ≤ length r) same h.2,
-      h.3 ∙ ap (λ (r : List ℕ). corners_from r forward corner taken) same,
-      h.4 ∙ ap (λ (r : List ℕ). corners_from r (not forward) corner (length r - taken)) same,
-    )
+kept_replaces mesh (Across at face corner forward taken) part other h = grind (arith, common_steps, kept_face, kept_below)
 
 pub kept_move : (mesh : FaceList) (walk next : List ℕ) (move : Move) → 0 < length walk → apply mesh walk move ≡ Some next
     → apply (double_of mesh) walk move ≡ Some next

@@ -1,9 +1,8 @@
 -- What was to be made fits, or is beyond one limit.
-use Rattle.doubling.proofs.Common.{◌≡◌, ◌⊎◌, inl, inr, refl, arith, cases_lt, FaceList, HasFileSize, total_sides}
-use Rattle.surf_model.specs.declared.limits.TheConstants.{MOST_VERTICES, MOST_SIDES}
+use Rattle.doubling.proofs.Common.{DoubleFault, ◌≡◌, ◌⊎◌, inl, inr, refl, arith, cases_lt, FaceList, HasFileSize, total_sides}
 use Rattle.doubling.specs.DoubleFaults.{IsTooLarge}
-use Rattle.doubling.specs.declared.fault.DoubleFault.{DoubleFault}
 use Rattle.doubling.specs.declared.fault.DoubleFault.TheVariants.{TooManyVertices, TooManySides, OutOfMemory}
+use Rattle.surf_model.specs.declared.limits.TheConstants.{MOST_VERTICES, MOST_SIDES}
 
 pub fits_or_too_large : (made : FaceList) → HasFileSize made ⊎ ((fault : DoubleFault) × IsTooLarge made fault)
 fits_or_too_large made =

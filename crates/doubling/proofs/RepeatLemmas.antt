@@ -1,6 +1,5 @@
 -- Lists of vertices without repeats, and lists that go along edges.
-use Rattle.doubling.proofs.Common.{edge_differs, ◌≡◌, ◌≢◌, ℕ, ◌+◌, ◌<◌, false, List, [], ◌∷◌, map, refl, ap, sym, ◌∙◌, arith, ne_eqb, nat_tests, ◌==◌, head_used, used_below, Linked, FaceList, IsFaceList}
-use Rattle.doubling.specs.Folds.{fold, steps_behind, without_repeats}
+use Rattle.doubling.proofs.Common.{edge_differs, fold, steps_behind, without_repeats, ◌≡◌, ◌≢◌, ℕ, ◌+◌, ◌<◌, false, List, [], ◌∷◌, map, refl, ap, sym, ◌∙◌, arith, ne_eqb, nat_tests, ◌==◌, head_used, used_below, Linked, FaceList, IsFaceList}
 
 pub steps-other : (u v : ℕ) (rest : List ℕ) → v ≢ u → steps_behind u (v ∷ rest) ≡ v ∷ steps_behind v rest
 steps-other u v rest other = let test : (v == u) ≡ false = ne_eqb v u other in rw test refl

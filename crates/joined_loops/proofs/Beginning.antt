@@ -1,6 +1,6 @@
 -- A cyclically canonical list that is gone along from the start has its cyclic turns for its word, behind a start direction, and
 -- spokes that are put behind it leave as many of them as one likes.
-use Rattle.joined_loops.proofs.Common.{along, upto-length, IsCanonicalRow, IsLoop, IsFullWheel, cyclic_turn, ◌≡◌, ℕ, ◌+◌, ◌-◌, ◌<◌, ◌≤◌, arith, refl, sym, ◌∙◌, ap, subst, zero, suc, List, [], ◌∷◌, length, reverse, length-reverse, state, led, empty_state, hyper_next, BelongsTo, hyper_starts, put-back, add-lt, add-zero, add, put}
+use Rattle.joined_loops.proofs.Common.{along, upto-length, IsCanonicalRow, IsLoop, IsFullWheel, cyclic_turn, ◌≡◌, ℕ, ◌+◌, ◌-◌, ◌<◌, ◌≤◌, arith, refl, sym, ◌∙◌, ap, subst, zero, suc, List, [], ◌∷◌, length, reverse, common_steps, length-reverse, state, led, empty_state, hyper_next, BelongsTo, hyper_starts, put-back, add-lt, add-zero, add, put}
 use Rattle.settling.proofs.Losses.{row-good}
 use Rattle.joined_loops.proofs.Times.{times, times-some, times-add}
 use Rattle.joined_loops.proofs.Keeping.{EndsIn, ends-later, begins, begins-ends, Anchors, anchors, led-rounds}
@@ -60,11 +60,7 @@ module _ (places : List ℕ) (full : IsFullWheel places) (a : List ℕ) (loop : 
   first_rounds j = word_of (found.first + times n j)
 
   pub rounds-length : (j : ℕ) → times n j + 2 ≤ length (first_rounds j)
-  rounds-length j =
-      let long = upto-length (cyclic_turn places a) 1 (found.first + times n j) (start ∷ []) in
-      let one : length (start ∷ []) ≡ 1 = refl in
-      let least = found.some in
-      omega arith
+  rounds-length j = grind (arith, common_steps, upto-length, times)
 
   pub rounds-ends : (j m : ℕ) → m ≤ found.first + times n j → EndsIn (first_rounds j) (word_of m)
   rounds-ends j m within =
@@ -93,7 +89,6 @@ module _ (places : List ℕ) (full : IsFullWheel places) (a : List ℕ) (loop : 
   pub rounds-kept : (q : List ℕ) (c : ℕ) →
       EndsIn (reverse (led hyper_next places (gone places a empty_state (times n (length q + c + 2))) q).word) (first_rounds c)
   rounds-kept q c =
-      let even = loop.even in
       led-rounds places five n (cyclic_turn places a) canonical start found (omega arith)
       (gone places a empty_state (times n (length q + c + 2))) q c (rounds-begin (length q + c))
 

@@ -28,9 +28,7 @@ pub record Turned (walk next : List ℕ) : Type 0 where
 pub turned : (walk next : List ℕ) → from_next walk ≡ Some next → Turned walk next
 turned [] next e = absurd cc
 turned (first ∷ []) next e = absurd cc
-turned (first ∷ second ∷ rest) next e =
-    let is : second ∷ rest ++ second ∷ [] ≡ next = cc in
-    record { first = first; second = second; rest = rest; was = refl; is = sym is }
+turned (first ∷ second ∷ rest) next e = grind arith
 
 -- the first dart of the walk goes to the end
 pub record GoesLast (mesh : FaceList) (labelling : LabellingView) (walk next : List ℕ) : Type 0 where
@@ -54,9 +52,7 @@ goes-last mesh labelling walk next closed e =
     let apart = last-apart t.second t.rest in
     let init = apart.0 in
     let quad = quad_path mesh labelling in
-    let last : apart.1 ≡ t.first =
-    sym (last-of t.first t.second t.rest init apart.1 apart.2)
-    ∙ sym (ap (λ w. get_or w (length w - 1) 0) t.was) ∙ closed.closed ∙ ap (λ w. get_or w 0 0) t.was in
+    let last : apart.1 ≡ t.first = grind (arith, last-of) in
     let body : t.second ∷ t.rest ≡ init ++ t.first ∷ [] = apart.2 ∙ ap (λ x. init ++ x ∷ []) last in
     record {
       dart = t.first ∷ t.second ∷ [];

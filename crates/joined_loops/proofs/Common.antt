@@ -1,7 +1,8 @@
--- What proofs of this crate cite of others, passed on from one place (by tools/imports). Declares nothing.
+-- What proofs of this crate cite of its definitions and of other crates, passed on from one place (by tools/imports). Declares nothing.
 pub use Rattle.closed_walks.proofs.FreeStepLemmas.{step_keeps}
 pub use Rattle.closed_walks.specs.FreeHomotopy.{FreeStep, FreelyHomotopic, IsClosedWalk, Moved, Rotated, after_all_free, after_free, from_next}
 pub use Rattle.flat_forms.specs.Pairs.{spokes_of, sum_of_pairs}
+pub use Rattle.joined_loops.specs.JoinedLists.{Joined, JoinedBy, repeated}
 pub use Rattle.labellings.proofs.FoldLemmas.{PutLaws, quad_path-append}
 pub use Rattle.labellings.proofs.KeepingLemmas.{moves_keep}
 pub use Rattle.labellings.proofs.WalkWordLemmas.{flat_wheel_of_good, quad_path_below, quad_path_in_pairs, quad_path_leads_to_sum}
@@ -21,6 +22,7 @@ pub use Rattle.spoke_rings.specs.Rotations.{IsRotation}
 pub use Rattle.std.proofs.Common.{All, Bool, List, ap, append_assoc, ap₂, arith, drop, false, get_or, inl, inr, length, not, refl, replicate, reverse, subst, suc, sym, take, true, zero, ℕ, [], ◌%◌, ◌*◌, ◌++◌, ◌+◌, ◌-◌, ◌<◌, ◌∙◌, ◌∷◌, ◌≡◌, ◌≢◌, ◌≤◌, ◌⊎◌}
 pub use Rattle.std.proofs.Math.Seq.{drop-append_seam, get_or-append_seam, take-append_seam}
 pub use Rattle.std.proofs.lemmas.Bool.{cases_Bool, cases_eq, cases_lt}
+pub use Rattle.std.proofs.lemmas.Grind.{common_steps, same_number_lists}
 pub use Rattle.std.proofs.lemmas.List.{append-nil, length-append, length-drop, length-reverse, length-take-le, nil_from_length, reverse-append, reverse-reverse, take-append-drop, take-append-le}
 pub use Rattle.std.proofs.lemmas.List.Elements.{All-append, All-cons, All-nil, All-take}
 pub use Rattle.std.specs.Prelude.{Some, if◌then◌else◌, option_and_then, ℤ, ◌==◌}

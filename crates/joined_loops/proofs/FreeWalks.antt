@@ -1,7 +1,6 @@
 -- Freely homotopic closed walks have joined quad paths, so on a full wheel they have one cyclic form.
-use Rattle.joined_loops.proofs.Common.{step_keeps, IsClosedWalk, FreeStep, Moved, Rotated, after_free, after_all_free, FreelyHomotopic, PutLaws, moves_keep, IsGood, LabellingView, quad_path, IsFullWheel, IsCyclicallyCanonical, LoopLeads, IsRotation, ◌≡◌, ℕ, sym, ◌∙◌, ap, subst, List, [], ◌∷◌, ◌++◌, append_assoc, Some, option_and_then, first_answer, FaceList, IsFaceList, apply_all, led, IsEven, hyper_next, BelongsTo, hyper_stays, hyper_there_and_back, hyper_across}
-use Rattle.joined_loops.specs.JoinedLists.{Joined}
-use Rattle.joined_loops.proofs.Joining.{same-joined, joined-itself, joined-back, joined-on}
+use Rattle.joined_loops.proofs.Common.{step_keeps, IsClosedWalk, FreeStep, Moved, Rotated, after_free, after_all_free, FreelyHomotopic, Joined, PutLaws, moves_keep, IsGood, LabellingView, quad_path, IsFullWheel, IsCyclicallyCanonical, LoopLeads, IsRotation, arith, ◌≡◌, ℕ, sym, ◌∙◌, ap, List, [], ◌∷◌, ◌++◌, append_assoc, common_steps, Some, option_and_then, first_answer, FaceList, IsFaceList, apply_all, led, IsEven, hyper_next, BelongsTo, hyper_stays, hyper_there_and_back, hyper_across}
+use Rattle.joined_loops.proofs.Joining.{same-joined, joined-back, joined-on}
 use Rattle.joined_loops.proofs.Stepping.{leads-loop, leads-joined}
 use Rattle.joined_loops.proofs.Rotating.{joined-rotations}
 use Rattle.joined_loops.proofs.ClosedPaths.{quad-loop, goes-last}
@@ -39,8 +38,7 @@ module _ (mesh : FaceList) (labelling : LabellingView) (valid : IsFaceList mesh)
 
   steps-joined : (steps : List FreeStep) (walk next : List ℕ) → IsClosedWalk mesh walk → after_all_free mesh walk steps ≡ Some next →
       Joined labelling.places (path walk) (path next)
-  steps-joined [] walk next closed e = let same : walk ≡ next = cc in subst (λ w. Joined labelling.places (path walk) (path w)) same
-      (joined-itself labelling.places (path walk))
+  steps-joined [] walk next closed e = grind (arith, common_steps)
   steps-joined (step ∷ steps) walk next closed e =
       let told = first_answer (λ w. after_all_free mesh w steps) (after_free mesh walk step) next e in
       joined-on labelling.places (path walk) (path told.0) (path next) (step-joined step walk told.0 closed told.1)

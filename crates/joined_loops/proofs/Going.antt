@@ -1,6 +1,5 @@
 -- A closed list that is gone along again and again: the states on the way, and the row of its cyclic turns that they put along a word.
-use Rattle.joined_loops.proofs.Common.{along, entries, along-first, along-round, along-below, stands-even, stands-odd, IsLoop, IsFullWheel, spoke_along, stands_before, cyclic_turn, ◌≡◌, ℕ, ◌+◌, ◌-◌, ◌%◌, ◌<◌, ◌≤◌, inl, inr, arith, refl, sym, ◌∙◌, ap, ap₂, subst, zero, suc, true, not, List, [], ◌∷◌, length, reverse, get_or, cases_eq, reverse-reverse, led-append, IsSound, state, Stands, Counts, counts-next, counts-turn, led, HyperState, IsEven, turn_to, hyper_next, BelongsTo, in-range-from, good_word, next_belongs, length-next, InRange, add-lt, minus-lt, add, minus, Put, put}
-use Rattle.joined_loops.specs.JoinedLists.{JoinedBy}
+use Rattle.joined_loops.proofs.Common.{JoinedBy, along, entries, along-first, along-round, along-below, stands-even, stands-odd, IsLoop, IsFullWheel, spoke_along, stands_before, cyclic_turn, ◌≡◌, ℕ, ◌+◌, ◌-◌, ◌%◌, ◌<◌, ◌≤◌, arith, refl, sym, ◌∙◌, ap, ap₂, subst, zero, suc, true, not, List, [], ◌∷◌, length, reverse, get_or, reverse-reverse, led-append, IsSound, state, Stands, Counts, counts-next, counts-turn, led, HyperState, IsEven, turn_to, hyper_next, BelongsTo, in-range-from, good_word, next_belongs, length-next, InRange, add-lt, minus-lt, add, minus, Put, put}
 use Rattle.joined_loops.proofs.Numbers.{take-back}
 use Rattle.joined_loops.proofs.Times.{times, times-even, later-rounds}
 
@@ -73,10 +72,7 @@ module _ (places : List ℕ) where
       )))
 
 stands-more : (j : ℕ) → not (stands_before true j) ≡ stands_before true (suc j)
-stands-more j = elim (cases_eq (j % 2) 0) [
-  | inl even ↦ ap not (stands-even true j even) ∙ sym (stands-odd true (suc j) (omega arith))
-  | inr other ↦ ap not (stands-odd true j (omega arith)) ∙ sym (stands-even true (suc j) (omega arith))
-]
+stands-more j = grind (arith, stands-even, stands-odd)
 
 module _ (places : List ℕ) (full : IsFullWheel places) (a : List ℕ) (loop : IsLoop places a) (some : 0 < length a) where
   -- the spoke before
@@ -94,11 +90,7 @@ module _ (places : List ℕ) (full : IsFullWheel places) (a : List ℕ) (loop : 
   began s = state (reverse s.word) (add (length places) (get_or places (spoke_before 0) 0) (minus (length places) s.number))
 
   pub began-sound : (s : HyperState) → BelongsTo places s → IsSound (length places) (began s)
-  began-sound s b = record {
-    good = good_word places s b;
-    below = add-lt (length places) _ _ (full.own.wheel.inside (spoke_before 0) (before-in 0))
-        (minus-lt (length places) s.number b.number_below);
-  }
+  began-sound s b = grind (arith, good_word, add-lt, minus-lt)
 
   abbrev pub row : ℕ → ℕ
   row = cyclic_turn places a

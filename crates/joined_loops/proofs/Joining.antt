@@ -1,6 +1,5 @@
 -- To be joined is an equivalence of closed lists, and lists that are joined stay so where each is gone along again.
-use Rattle.joined_loops.proofs.Common.{IsLoop, ◌≡◌, ℕ, ◌%◌, ◌<◌, arith, refl, sym, ◌∙◌, ap, subst, zero, suc, List, [], ◌∷◌, ◌++◌, length, reverse, append_assoc, reverse-reverse, length-reverse, length-append, append-nil, All-append, All-nil, led-append, led, HyperState, IsEven, hyper_next, BelongsTo, all-from, in-range-reverse, next_belongs, hyper_there_and_back, InRange, reverse-cons}
-use Rattle.joined_loops.specs.JoinedLists.{JoinedBy, Joined, repeated}
+use Rattle.joined_loops.proofs.Common.{JoinedBy, Joined, repeated, IsLoop, ◌≡◌, ℕ, ◌%◌, ◌<◌, arith, refl, sym, ◌∙◌, ap, subst, zero, suc, List, [], ◌∷◌, ◌++◌, length, reverse, append_assoc, common_steps, reverse-reverse, length-reverse, append-nil, All-nil, led-append, led, HyperState, IsEven, hyper_next, BelongsTo, all-from, in-range-reverse, next_belongs, hyper_there_and_back, InRange, reverse-cons}
 use Rattle.joined_loops.proofs.Going.{loop-range, led-belongs, led-even}
 
 module _ (places : List ℕ) where
@@ -23,10 +22,7 @@ module _ (places : List ℕ) where
   loop-none = record { below = All-nil (λ spoke. spoke < length places); even = refl }
 
   pub loop-append : (x y : List ℕ) → IsLoop places x → IsLoop places y → IsLoop places (x ++ y)
-  loop-append x y h k = record {
-    below = All-append (λ spoke. spoke < length places) x y h.below k.below;
-    even = let long = length-append x y in let e = h.even in let f = k.even in omega arith;
-  }
+  loop-append x y h k = grind (arith, common_steps)
 
   loop-back : (q : List ℕ) → IsLoop places q → IsLoop places (reverse q)
   loop-back q h = record {

@@ -111,13 +111,7 @@ module _ (d : ℕ) (five : 5 ≤ d) where
     IsOther k = (row (1 + k) ≢ 2) × (row (1 + k) ≢ minus d 2)
 
     other-or : (k : ℕ) → IsOther k ⊎ (IsOther k → ⊥)
-    other-or k = elim (cases_eq (row (1 + k)) 2) [
-      | inl two ↦ inr (λ h. h.0 two)
-      | inr not_two ↦ elim (cases_eq (row (1 + k)) (minus d 2)) [
-        | inl fall ↦ inr (λ h. h.1 fall)
-        | inr not_fall ↦ inl (not_two, not_fall)
-      ]
-    ]
+    other-or k = grind arith
 
     two-or : (k : ℕ) → (row (1 + k) ≡ 2) ⊎ ((row (1 + k) ≡ 2) → ⊥)
     two-or k = cases_eq (row (1 + k)) 2
@@ -163,7 +157,6 @@ module _ (d : ℕ) (five : 5 ≤ d) where
         EndsIn (put d r t).word (begins (a.first + times n c))
     put-round a two r t c e =
         let far = a.first + times n (suc c) in
-        let some = a.some in
         let i = far - 2 in
         let at : far ≡ suc (suc i) = omega arith in
         let f : 1 + suc i ≡ a.first + times n (suc c) = omega arith in
@@ -181,9 +174,7 @@ pub led-rounds : (places : List ℕ) (five : 5 ≤ length places) (n : ℕ) (row
     (start : ℕ) (a : Anchors (length places) five n row canonical start) → 2 ≤ n → (s : HyperState) (q : List ℕ) (c : ℕ) →
     EndsIn (reverse s.word) (begins (length places) five n row canonical start (a.first + times n (length q + c))) →
     EndsIn (reverse (led hyper_next places s q).word) (begins (length places) five n row canonical start (a.first + times n c))
-led-rounds places five n row canonical start a two s [] c e =
-    let z : 0 + c ≡ c = omega arith in
-    subst (λ m. EndsIn (reverse s.word) (begins (length places) five n row canonical start (a.first + times n m))) z e
+led-rounds places five n row canonical start a two s [] c e = grind (arith, times)
 led-rounds places five n row canonical start a two s (x ∷ q) c e =
     let d = length places in
     let f : length (x ∷ q) + c ≡ suc (length q + c) = omega arith in

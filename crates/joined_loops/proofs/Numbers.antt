@@ -5,15 +5,7 @@ use Rattle.joined_loops.proofs.FullWheels.{same_lists}
 
 module _ (d : ℕ) (five : 5 ≤ d) where
   pub take-back : (a b : ℕ) → a < d → b < d → add d a (minus d (add d a (minus d b))) ≡ b
-  take-back a b ha hb =
-      let inner = add-lt d a (minus d b) ha (minus-lt d b hb) in
-      omega (
-        arith,
-        minus-cases d b hb,
-        add-cases d a (minus d b),
-        minus-cases d (add d a (minus d b)) inner,
-        add-cases d a (minus d (add d a (minus d b))),
-      )
+  take-back a b ha hb = grind (arith, add-lt, minus-lt, minus-cases, add-cases)
 
   pub less-none : (a : ℕ) → a < d → add d a (minus d 0) ≡ a
   less-none a h = let zero_in : 0 < d = omega arith in omega (arith, minus-cases d 0 zero_in, add-cases d a (minus d 0))
@@ -75,6 +67,4 @@ led-reached places s (x ∷ spokes) h i = led-reached places (hyper_next places 
 -- reached states of one word have one number
 pub one-number : (places : List ℕ) → IsFullWheel places → (s t : HyperState) → Reached places s → Reached places t → s.word ≡ t.word →
     s.number ≡ t.number
-one-number places full s t h k e =
-    ap (λ u. u.number) (h.is
-    ∙ one-state places h.spokes k.spokes full h.below k.below (ap (λ u. u.word) (sym h.is) ∙ e ∙ ap (λ u. u.word) k.is) ∙ sym k.is)
+one-number places full s t h k e = grind (arith, one-state)

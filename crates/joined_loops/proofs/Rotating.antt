@@ -1,7 +1,5 @@
 -- On a full wheel joined lists that are cyclically canonical are rotations of one another.
-use Rattle.joined_loops.proofs.Common.{along, upto, upto-length, IsCanonicalRow, along-first, along-round, rotated, rotated-length, rotated-along, along-below, turn_at, place-below, stands-even, IsLoop, IsFullWheel, IsCyclicallyCanonical, spoke_along, stands_before, cyclic_turn, IsRotation, ◌≡◌, ℕ, ◌+◌, ◌-◌, ◌%◌, ◌<◌, ◌≤◌, inl, inr, arith, refl, sym, ◌∙◌, ap, ap₂, subst, zero, suc, true, not, List, [], ◌∷◌, ◌++◌, take, drop, length, reverse, get_or, drop-append_seam, take-append_seam, cases_lt, cases_eq, reverse-reverse, length-reverse, length-append, length-drop, take-append-drop, nil_from_length, ◌==◌, if◌then◌else◌, state, led, HyperState, IsEven, empty_state, hyper_next, BelongsTo, hyper_starts, add, minus, place_round}
-use Rattle.std.proofs.lemmas.Grind.{same_number_lists}
-use Rattle.joined_loops.specs.JoinedLists.{JoinedBy, Joined}
+use Rattle.joined_loops.proofs.Common.{JoinedBy, Joined, along, upto, upto-length, IsCanonicalRow, along-first, along-round, rotated, rotated-length, rotated-along, along-below, turn_at, place-below, stands-even, IsLoop, IsFullWheel, IsCyclicallyCanonical, spoke_along, stands_before, cyclic_turn, IsRotation, ◌≡◌, ℕ, ◌+◌, ◌-◌, ◌%◌, ◌<◌, ◌≤◌, inl, inr, arith, refl, sym, ◌∙◌, ap, ap₂, subst, zero, suc, true, not, List, [], ◌∷◌, ◌++◌, take, drop, length, reverse, get_or, drop-append_seam, take-append_seam, cases_lt, cases_eq, common_steps, same_number_lists, reverse-reverse, length-reverse, length-append, length-drop, take-append-drop, nil_from_length, ◌==◌, if◌then◌else◌, state, led, HyperState, IsEven, empty_state, hyper_next, BelongsTo, hyper_starts, add, minus, place_round}
 use Rattle.joined_loops.proofs.Times.{times, times-some, times-add, times-even, later-rounds}
 use Rattle.joined_loops.proofs.Numbers.{by-round, Reached, start-reached, next-reached, led-reached, one-number, same-turn, less-none}
 use Rattle.joined_loops.proofs.Keeping.{EndsIn, ends-later, begins-ends}
@@ -13,9 +11,7 @@ use Rattle.joined_loops.proofs.Settled.{behind, behind-belongs, behind-even, bot
 -- two ends of one list that are as long are one
 ends-once : (f g u v : List ℕ) → f ++ u ≡ g ++ v → length u ≡ length v → u ≡ v
 ends-once [] [] u v e long = e
-ends-once [] (y ∷ g) u v e long =
-    let some : length (y ∷ g) ≡ length g + 1 = omega arith in
-    absurd (let whole = ap length e in let more = length-append (y ∷ g) v in omega arith)
+ends-once [] (y ∷ g) u v e long = grind (arith, common_steps)
 ends-once (x ∷ f) [] u v e long =
     let some : length (x ∷ f) ≡ length f + 1 = omega arith in
     absurd (let whole = ap length e in let more = length-append (x ∷ f) u in omega arith)
@@ -39,12 +35,7 @@ agree f g m n (suc k) u v e =
     let tail : upto f m k u ≡ upto g n k v = cc in
     let before = agree f g m n k u v tail in
     record {
-      rows = λ i below. elim (cases_lt i k) [
-        | inl inside ↦ before.rows i inside
-        | inr last ↦
-            let is : k ≡ i = omega arith in
-            ap (λ j. f (m + j)) (sym is) ∙ head ∙ ap (λ j. g (n + j)) is
-      ];
+      rows = λ i below. grind arith;
       words = before.words;
     }
 
@@ -161,7 +152,6 @@ module _ (places : List ℕ) (full : IsFullWheel places) (a b q : List ℕ) (a_l
     middle : Agree row_a row_b l from (length a) (starts_as (l - 1)) s.word
     middle =
         let n = length a in
-        let one = one_in in
         let m = l - 1 in
         let more = m + s.rounds in
         let e : length q + suc more + 2 ≡ s.rounds + suc (length q + m + 2) = omega arith in
@@ -213,7 +203,6 @@ module _ (places : List ℕ) (full : IsFullWheel places) (a b q : List ℕ) (a_l
 
     left-word : reverse left_state.word ≡ starts_as (l - 1)
     left-word =
-        let one = one_in in
         let e : l ≡ suc (l - 1) = omega arith in
         ap (λ i. reverse (gone places a empty_state i).word) e ∙ word-is places full a a_loop a_some a_canonical (l - 1)
 
@@ -246,7 +235,6 @@ module _ (places : List ℕ) (full : IsFullWheel places) (a b q : List ℕ) (a_l
 
     first-same : before_a l ≡ before_b from
     first-same =
-        let one = one_in in
         let e : l ≡ suc (l - 1) = omega arith in
         let left = number-is a a_loop a_some empty_state (hyper_starts.belongs places full.own) refl l even-word
         (ap (λ i. (along d (began places full a a_loop a_some empty_state) row_a i).change) e
@@ -323,10 +311,7 @@ rotation-back a b even r =
 -- the turns of a list with spokes
 turns-of : (places a : List ℕ) → IsCyclicallyCanonical places a → 0 < length a →
     IsCanonicalRow (length places) (length a) (cyclic_turn places a)
-turns-of places a c some = elim c [
-  | inl none ↦ absurd (let e = ap length none in omega arith)
-  | inr canonical ↦ canonical
-]
+turns-of places a c some = grind arith
 
 module _ (places : List ℕ) (full : IsFullWheel places) where
   -- a list with spokes is joined to no empty one

@@ -1,7 +1,6 @@
 -- What is kept of a word where turns or spokes are put behind it, said of words that are written from their start.
-use Rattle.joined_loops.proofs.Common.{IsCanonicalRow, IsLoop, IsFullWheel, cyclic_turn, ◌≡◌, ◌≢◌, ℕ, ◌+◌, ◌*◌, ◌≤◌, inl, inr, arith, refl, sym, ◌∙◌, ap, ap₂, zero, suc, true, List, [], ◌∷◌, ◌++◌, replicate, take, length, reverse, cases_Bool, append-nil, reverse-append, reverse-reverse, length-reverse, take-append-le, led-append, led, HyperState, empty_state, hyper_next, reverse-next, open-cases, minus, is_open, put, put_last}
+use Rattle.joined_loops.proofs.Common.{repeated, IsCanonicalRow, IsLoop, IsFullWheel, cyclic_turn, ◌≡◌, ◌≢◌, ℕ, ◌+◌, ◌*◌, ◌≤◌, inl, inr, arith, refl, sym, ◌∙◌, ap, ap₂, zero, suc, true, List, [], ◌∷◌, ◌++◌, replicate, take, length, reverse, cases_Bool, append-nil, reverse-append, reverse-reverse, length-reverse, take-append-le, led-append, led, HyperState, empty_state, hyper_next, reverse-next, open-cases, minus, is_open, put, put_last}
 use Rattle.turn_words.specs.FiveCases.{EndsOpen}
-use Rattle.joined_loops.specs.JoinedLists.{repeated}
 use Rattle.joined_loops.proofs.Times.{times}
 use Rattle.joined_loops.proofs.Keeping.{EndsIn, ends-later, put-keeps}
 use Rattle.joined_loops.proofs.Going.{gone, gone-round}

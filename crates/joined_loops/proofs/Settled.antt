@@ -1,7 +1,6 @@
 -- A cyclically canonical list that is gone along behind the joining list: before long it only puts its turns last.
-use Rattle.joined_loops.proofs.Common.{along, upto, upto-length, IsCanonicalRow, IsLoop, IsFullWheel, spoke_along, cyclic_turn, ◌≡◌, ℕ, ◌+◌, ◌-◌, ◌<◌, ◌≤◌, inl, inr, arith, refl, sym, ◌∙◌, ap, zero, suc, List, ◌∷◌, length, reverse, cases_lt, length-reverse, state, led, HyperState, IsEven, empty_state, hyper_next, BelongsTo, length-next, hyper_starts, Put}
+use Rattle.joined_loops.proofs.Common.{JoinedBy, along, upto, upto-length, IsCanonicalRow, IsLoop, IsFullWheel, spoke_along, cyclic_turn, ◌≡◌, ℕ, ◌+◌, ◌-◌, ◌<◌, ◌≤◌, inl, inr, arith, refl, sym, ◌∙◌, ap, zero, suc, List, ◌∷◌, length, reverse, cases_lt, length-reverse, state, led, HyperState, IsEven, empty_state, hyper_next, BelongsTo, length-next, hyper_starts, Put}
 use Rattle.settling.proofs.Settling.{within_budget}
-use Rattle.joined_loops.specs.JoinedLists.{JoinedBy}
 use Rattle.joined_loops.proofs.Times.{times, times-more, times-above, times-some, times-add}
 use Rattle.joined_loops.proofs.Going.{gone, began, began-sound, rowed, gone-belongs, meets, loop-range, led-belongs, led-even, led-longer}
 use Rattle.joined_loops.proofs.Beginning.{word-length}
@@ -18,8 +17,7 @@ stays-later : (f : ℕ → ℕ) (at : ℕ → Put) (t g m : ℕ) (word : List �
     (i : ℕ) → at (m + i) ≡ state (upto f m i (upto f t g word)) 0
 stays-later f at t g m word e is i =
     let later : m + i ≡ t + (g + i) = omega arith in
-    let words : upto f t (g + i) word ≡ upto f m i (upto f t g word) =
-    upto-append f t g i word ∙ ap (λ k. upto f k i (upto f t g word)) e in
+    let words : upto f t (g + i) word ≡ upto f m i (upto f t g word) = grind (arith, upto-append) in
     ap at later ∙ is (g + i) ∙ ap (λ w. state w 0) words
 
 module _ (places : List ℕ) (full : IsFullWheel places) (a b q : List ℕ) (a_loop : IsLoop places a) (b_loop : IsLoop places b)
@@ -63,7 +61,6 @@ module _ (places : List ℕ) (full : IsFullWheel places) (a b q : List ℕ) (a_l
   behind-short : length behind.word ≤ length q
   behind-short =
       let bounds = led-longer places empty_state q start_belongs (loop-range places q joined.loop) in
-      let most = bounds.0 in
       let none : length empty_state.word ≡ 0 = refl in
       omega arith
 

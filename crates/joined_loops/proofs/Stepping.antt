@@ -1,7 +1,6 @@
 -- Steps on closed lists lead from a list to one that is joined to it.
-use Rattle.joined_loops.proofs.Common.{IsLoop, LoopLeads, IsRotation, ◌≡◌, ℕ, ◌<◌, arith, sym, ◌∙◌, ap, List, ◌++◌, take, drop, length, append_assoc, length-take-le, take-append-drop, All-take, led, hyper_next}
+use Rattle.joined_loops.proofs.Common.{Joined, IsLoop, LoopLeads, IsRotation, ◌≡◌, ℕ, ◌<◌, arith, sym, ◌∙◌, ap, List, ◌++◌, take, drop, length, append_assoc, length-take-le, take-append-drop, All-take, led, hyper_next}
 use Rattle.spoke_rings.proofs.LoopsKeep.{loops-keep}
-use Rattle.joined_loops.specs.JoinedLists.{Joined}
 use Rattle.joined_loops.proofs.Numbers.{Alike, alike-keep}
 use Rattle.joined_loops.proofs.Joining.{same-joined, joined-itself, joined-on}
 

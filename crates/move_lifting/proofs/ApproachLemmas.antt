@@ -1,11 +1,8 @@
 -- The loops of spokes, as walks without spurs.
-use Rattle.move_lifting.proofs.Common.{names_all, darts_of, origin_of, OrientedMesh, IsOrientedSurface, before, behind, home_and_there, there_and_home, value, spoke, root_is, up_is, loop_list, side_in, spoke_list, path_list, backward_is, free_equality, way_end, spoke_product, up, up_path, tree_ways, walk_way, other_way, IsWay, HasWays, loop_mul, loop_inv, loop_one, back, back_back, back-append, way_home, way_on, way_walk, PolygonView, side_at, AreWaysUp, backward, by_loop, dart_loop, last_side, spoke_loop, path_loop, ◌≡◌, ◌⊎◌, inl, inr, ℕ, suc, ◌+◌, ◌-◌, ◌<◌, Bool, true, false, List, [], ◌∷◌, ◌++◌, length, drop, get_or, refl, ap, sym, ◌∙◌, subst, arith, append_assoc, length-append, cases_lt, both_ways, drop_more, get_or_append_left, get_or-append-add, get_or_past, IsTrue, Some, if◌then◌else◌, list_keeps_walk, list_keeps_ends, FaceList, is_used, AreFreelyEqual, HasNoSpur, apply_all, IsWalk, Move, SplitView, IsSplit}
-use Rattle.move_lifting.specs.SpokeWalks.{IsSpokeWalk, AreSpokeWalks, HasWalk}
-use Rattle.move_lifting.specs.Tracks.{last_of}
+use Rattle.move_lifting.proofs.Common.{names_all, darts_of, origin_of, OrientedMesh, IsOrientedSurface, IsCutSurface, IsSpokeWalk, AreSpokeWalks, HasWalk, last_of, before, behind, home_and_there, there_and_home, value, spoke, root_is, up_is, loop_list, side_in, spoke_list, path_list, backward_is, free_equality, way_end, spoke_product, up, up_path, tree_ways, walk_way, other_way, IsWay, HasWays, loop_mul, loop_inv, loop_one, back, back_back, back-append, way_home, way_on, way_walk, PolygonView, side_at, AreWaysUp, backward, by_loop, dart_loop, last_side, spoke_loop, path_loop, ◌≡◌, ◌⊎◌, inl, inr, ℕ, suc, ◌+◌, ◌-◌, ◌<◌, Bool, true, false, List, [], ◌∷◌, ◌++◌, length, drop, get_or, refl, ap, sym, ◌∙◌, subst, arith, append_assoc, length-append, cases_lt, both_ways, drop_more, get_or_append_left, get_or-append-add, get_or_past, IsTrue, Some, if◌then◌else◌, list_keeps_walk, list_keeps_ends, FaceList, is_used, AreFreelyEqual, HasNoSpur, apply_all, IsWalk, Move, SplitView, IsSplit}
 use Rattle.move_lifting.proofs.BackLemmas.{way_of}
 use Rattle.move_lifting.proofs.ListLemmas.{one_no_spur}
 use Rattle.move_lifting.proofs.TreeUpLemmas.{own_ways}
-use Rattle.move_lifting.specs.Cuts.{IsCutSurface}
 
 -- the walk is a way from u to v
 pub record GoesFrom (mesh : FaceList) (u v : ℕ) (walk : List ℕ) : Type 0 where

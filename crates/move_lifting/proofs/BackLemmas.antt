@@ -1,6 +1,5 @@
 -- Ways back as lists.
-use Rattle.move_lifting.proofs.Common.{last_entry, walk_way, IsWay, back, start_used, backward, ◌≡◌, inl, inr, ℕ, suc, ◌+◌, ◌-◌, ◌<◌, ◌≤◌, List, [], ◌∷◌, ◌++◌, length, take, drop, get_or, refl, ap, sym, ◌∙◌, subst, arith, append_assoc, length-append, cases_lt, append-nil, get_or_append_left, get_or-append-add, get_or-drop, get_or-take, take_more, take-take, take-append-drop, drop_more, drop-drop, drop-map, drop-append-le, length-drop, length-take-le, FaceList, numbers, IsWalk, VertexName}
-use Rattle.move_lifting.specs.Tracks.{last_of}
+use Rattle.move_lifting.proofs.Common.{last_entry, last_of, walk_way, IsWay, back, start_used, backward, ◌≡◌, inl, inr, ℕ, suc, ◌+◌, ◌-◌, ◌<◌, ◌≤◌, List, [], ◌∷◌, ◌++◌, length, take, drop, get_or, refl, ap, sym, ◌∙◌, subst, arith, append_assoc, length-append, cases_lt, append-nil, get_or_append_left, get_or-append-add, get_or-drop, get_or-take, take_more, take-take, take-append-drop, drop_more, drop-drop, drop-map, drop-append-le, length-drop, length-take-le, FaceList, numbers, IsWalk, VertexName}
 use Rattle.move_lifting.proofs.ExpandLemmas.{one_pending, length-numbers}
 
 last-more : (u w : ℕ) (xs : List ℕ) → last_of (u ∷ w ∷ xs) ≡ last_of (w ∷ xs)

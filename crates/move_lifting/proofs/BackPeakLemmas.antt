@@ -1,8 +1,6 @@
 -- The way back along an approach and on along a walk that begins alike: where both have no spur it has none either, once what they have in
 -- common is left out.
-use Rattle.move_lifting.proofs.Common.{last_entry, before, behind, home_and_there, backward_is, free_equality, IsWay, way_home, backward, ◌≡◌, ◌≢◌, inl, inr, ℕ, zero, suc, ◌+◌, ◌-◌, ◌<◌, ◌≤◌, max, List, [], ◌∷◌, ◌++◌, length, take, drop, get_or, ap, sym, ◌∙◌, subst, arith, append_assoc, length-append, cases_lt, get_or_append_left, get_or-append-add, take-append-drop, drop_more, length-take-le, length-drop, get_or-take, FaceList, AreFreelyEqual, HasNoSpur, IsWalk, darts}
-use Rattle.move_lifting.specs.TurnPeaks.{RisesWithTurn}
-use Rattle.move_lifting.specs.Tracks.{last_of}
+use Rattle.move_lifting.proofs.Common.{last_entry, last_of, RisesWithTurn, before, behind, home_and_there, backward_is, free_equality, IsWay, way_home, backward, ◌≡◌, ◌≢◌, inl, inr, ℕ, zero, suc, ◌+◌, ◌-◌, ◌<◌, ◌≤◌, max, List, [], ◌∷◌, ◌++◌, length, take, drop, get_or, ap, sym, ◌∙◌, subst, arith, append_assoc, length-append, cases_lt, get_or_append_left, get_or-append-add, take-append-drop, drop_more, length-take-le, length-drop, get_or-take, FaceList, AreFreelyEqual, HasNoSpur, IsWalk, darts}
 use Rattle.move_lifting.proofs.BackLemmas.{backward_at, length-backward, last_joined, backward-append, way_apart, way_of}
 use Rattle.move_lifting.proofs.TurnLemmas.{BeginAlike, turned_whole, length-turned_whole}
 

@@ -1,8 +1,6 @@
 -- How long a walk gets on the way off the cotree, and how great the peak, in numbers of darts.
-use Rattle.move_lifting.proofs.Common.{dart_between, darts_of, OrientedMesh, IsOrientedSurface, ◌≡◌, ℕ, ◌+◌, ◌*◌, ◌-◌, ◌<◌, ◌≤◌, max, List, [], ◌∷◌, length, sym, ap, subst, arith, mul-le-mul_left, mul-le-mul_right, get_or-le-sum_by, PeakedMoves, IsWalk, darts, SplitView, IsSplit}
+use Rattle.move_lifting.proofs.Common.{dart_between, darts_of, OrientedMesh, IsOrientedSurface, load_of, AreWeights, IsLedOn, MOST_LIFTED_SIDES, MOST_LIFTED_DARTS, MOST_LOW_PEAK, MOST_SHORT_MOVES, ◌≡◌, ℕ, ◌+◌, ◌*◌, ◌-◌, ◌<◌, ◌≤◌, max, List, [], ◌∷◌, length, sym, ap, subst, arith, mul-le-mul_left, mul-le-mul_right, get_or-le-sum_by, PeakedMoves, IsWalk, darts, SplitView, IsSplit}
 use Rattle.std.proofs.lemmas.Nat.{mul-le}
-use Rattle.move_lifting.specs.Loads.{load_of, AreWeights, IsLedOn}
-use Rattle.move_lifting.specs.declared.expanding.TheConstants.{MOST_LIFTED_SIDES, MOST_LIFTED_DARTS, MOST_LOW_PEAK, MOST_SHORT_MOVES}
 use Rattle.move_lifting.proofs.ExpandLemmas.{IsRest, rest_of_step, below_falls}
 use Rattle.move_lifting.proofs.RestLemmas.{pair_weight, pair_positive, pair_most}
 use Rattle.move_lifting.proofs.WithinLemmas.{darts_weigh, load_most}

@@ -1,10 +1,9 @@
 -- A walk as the list of a chain that is alone in its pool.
-use Rattle.move_lifting.proofs.Common.{Chains, under, IsUnder, IsEdit, IsAlike, list_of, cells_of, cells_in, inserted, cut, spliced, ◌≡◌, ◌≢◌, inl, inr, refl, ℕ, zero, suc, ◌+◌, ◌<◌, ◌≤◌, ◌^◌, max, List, [], ◌∷◌, ◌++◌, length, take, drop, set, is_some, ap, sym, ◌∙◌, subst, arith, append_assoc, length-append, Option, cases_eq, length-take-le, length-drop, get_or-set_other, Result, Ok, Err, OnOk, OnErr, true≢false}
+use Rattle.move_lifting.proofs.Common.{Chains, under, IsUnder, IsEdit, IsAlike, list_of, cells_of, cells_in, inserted, cut, spliced, IsAlone, IsPushed, ◌≡◌, ◌≢◌, inl, inr, refl, ℕ, zero, suc, ◌+◌, ◌<◌, ◌≤◌, ◌^◌, max, List, [], ◌∷◌, ◌++◌, length, take, drop, set, is_some, ap, sym, ◌∙◌, subst, arith, append_assoc, length-append, Option, cases_eq, length-take-le, length-drop, get_or-set_other, Result, Ok, Err, OnOk, OnErr, true≢false}
 use Rattle.chain_pool.proofs.Lists.{list_under-is, list_is, edit_twice}
 use Rattle.chain_pool.proofs.Lookups.{cells_in-edit, cells_in-alike}
 use Rattle.chain_pool.specs.declared.cells.CellName.{CellName}
 use Rattle.std.proofs.Common.{Some, None}
-use Rattle.move_lifting.specs.PooledWalks.{IsAlone, IsPushed}
 
 pub live_from : (lists : List (Option (List ℕ))) (name : ℕ) (list : List ℕ) → under lists name ≡ Some list → IsUnder lists name
 live_from lists name list e = ap (λ (o : Option (List ℕ)). is_some o) e

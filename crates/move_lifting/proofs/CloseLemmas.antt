@@ -1,7 +1,5 @@
 -- The second walk comes behind the first, backward and forward.
-use Rattle.move_lifting.proofs.Common.{◌≡◌, ℕ, ◌+◌, ◌-◌, ◌<◌, max, true, List, [], ◌∷◌, ◌++◌, length, drop, get_or, ap, sym, ◌∙◌, subst, arith, drop_more, length-drop, edge_swap, FaceList, is_edge, PeakedMoves, IsWalk, Insert, VertexName}
-use Rattle.move_lifting.specs.Lifts.{LeadsAtPeak}
-use Rattle.move_lifting.specs.Tracks.{last_of}
+use Rattle.move_lifting.proofs.Common.{LeadsAtPeak, last_of, ◌≡◌, ℕ, ◌+◌, ◌-◌, ◌<◌, max, true, List, [], ◌∷◌, ◌++◌, length, drop, get_or, ap, sym, ◌∙◌, subst, arith, drop_more, length-drop, edge_swap, FaceList, is_edge, PeakedMoves, IsWalk, Insert, VertexName}
 use Rattle.move_lifting.proofs.InsertLemmas.{spur_in_last}
 
 -- one dart back along a walk, from the place after `place`

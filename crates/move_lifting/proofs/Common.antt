@@ -1,4 +1,4 @@
--- What proofs of this crate cite of others, passed on from one place (by tools/imports). Declares nothing.
+-- What proofs of this crate cite of its definitions and of other crates, passed on from one place (by tools/imports). Declares nothing.
 pub use Rattle.chain_pool.specs.Chains.{Chains, IsAlike, IsEdit, IsUnder, cells_in, cells_of, cut, inserted, list_of, spliced, under}
 pub use Rattle.common_ends.proofs.PeakLemmas.{greatest_both, greatest_darts-more, greatest_darts-none, greatest_raised, leads_nowhere, one_more, places_below, places_within, spur_comes, spur_goes}
 pub use Rattle.common_ends.proofs.TrimLemmas.{HaveFewerDarts, fewer_darts, last_entry, left_apart, left_leads, left_together, walk_front}
@@ -11,6 +11,21 @@ pub use Rattle.halfedge_map.proofs.TwinLemmas.{origin-twin}
 pub use Rattle.halfedge_map.specs.DartMaps.{darts_of, edge_of, face_of, next_of, origin_of, start_corner_of, target_of, twin_of}
 pub use Rattle.halfedge_map.specs.OrientedMeshes.{IsOrientedSurface, OrientedMesh}
 pub use Rattle.halfedge_map.specs.RotationSystems.{IsDartFrom, IsRotationSystem, Rotations, rotations_of}
+pub use Rattle.move_lifting.specs.Contractions.{IsLedFrom, LeavesNothing}
+pub use Rattle.move_lifting.specs.Crossings.{GoesAlong, IsCrossed, IsFaceBelow, IsOneIn, IsStepFrom, IsStepOf, beyond}
+pub use Rattle.move_lifting.specs.Cuts.{IsCutSurface}
+pub use Rattle.move_lifting.specs.Lifts.{ComeMore, HasLowPeak, IsRemoval, IsShortList, LeadsAtPeak, MoreLeaveCotree, MoreRemove}
+pub use Rattle.move_lifting.specs.Loads.{AreWeights, IsLedOn, StaysWithin, load_of}
+pub use Rattle.move_lifting.specs.LoopFronts.{spokes_in_front}
+pub use Rattle.move_lifting.specs.LoopsPutIn.{HasLoopIn, IsFreelyPath, signed_loop}
+pub use Rattle.move_lifting.specs.PooledWalks.{IsAlone, IsPushed, Pooled}
+pub use Rattle.move_lifting.specs.Reductions.{AreSpokesOf, HasSpokesMore, IsReductionOf, spokes_of_dart, spurs_of}
+pub use Rattle.move_lifting.specs.SpokeWalks.{AreSpokeWalks, AreTurns, HasWalk, IsLastLoop, IsLooper, IsLooping, IsSpokeWalk, along_or_back, walks_loop}
+pub use Rattle.move_lifting.specs.Tracks.{GoesOn, GrowsOrShrinks, IsNextPut, IsStepBack, TrackView, last_of}
+pub use Rattle.move_lifting.specs.TurnPeaks.{KeepsBound, RisesWithTurn}
+pub use Rattle.move_lifting.specs.declared.crossing.FaceStep.{FaceStep}
+pub use Rattle.move_lifting.specs.declared.expanding.TheConstants.{MOST_LIFTED_DARTS, MOST_LIFTED_SIDES, MOST_LOW_PEAK, MOST_PASSED_ENTRIES, MOST_SHORT_MOVES}
+pub use Rattle.move_lifting.specs.declared.lifted.Lifted.{Lifted}
 pub use Rattle.polygon_cut.proofs.CongruenceLemmas.{before, behind, home_and_there, there_and_home, to_loops}
 pub use Rattle.polygon_cut.proofs.DartLoopLemmas.{Loops, spoke, value}
 pub use Rattle.polygon_cut.proofs.FaceRoundLemmas.{at_face}
@@ -31,7 +46,7 @@ pub use Rattle.polygon_cut.specs.ShortWalks.{AreShortAround, IsFreelyShort}
 pub use Rattle.polygon_cut.specs.SpokeLoops.{AreWaysUp, HasFreeSpokes, HaveFreeSpokes, IsOffCotree, LeavesCotree, across_last, backward, by_loop, comes_back, dart_loop, last_side, last_side_loop, path_loop, put_behind, spoke_loop, spokes_along, way_back_round, way_round}
 pub use Rattle.quad_system.proofs.FreePathLemmas.{free_walk_below, free_walk_leads, places_wheel}
 pub use Rattle.quad_system.proofs.PushPathLemmas.{IsQuadWheel, add_back, lower_side, upper_side}
-pub use Rattle.quad_system.proofs.PushWorthLemmas.{DownWorth, down_worth, front_of_across, front_of_last, loop_of_path, polygon_wheel, signed_loop}
+pub use Rattle.quad_system.proofs.PushWorthLemmas.{DownWorth, down_worth, front_of_across, front_of_last, loop_of_path, polygon_wheel}
 pub use Rattle.quad_system.proofs.SpokeProductLemmas.{spoke_at}
 pub use Rattle.spoke_paths.proofs.Placing.{AtPlace, IsTurned, at-place, is-turned, new_way, old_way, some-turn}
 pub use Rattle.spoke_paths.proofs.StepsKeep.{later-is, spokes-stay-below, spur-is}

@@ -1,15 +1,10 @@
 -- A closed walk that follows the steps on its spokes, and what holds on the way.
-use Rattle.move_lifting.proofs.Common.{rotation_system, OrientedMesh, rotations_of, Crosses, sides_cross, up, up_path, PolygonView, across, AreWaysUp, by_loop, path_loop, put_behind, later-is, spokes-stay-below, after_path_step, after_path_steps, PathLeads, from_vertex, PathStep, Spur, Turn, ◌≡◌, ◌≢◌, ◌⊎◌, inl, inr, ℕ, ◌+◌, ◌-◌, ◌<◌, ◌≤◌, Bool, true, false, not, List, [], ◌∷◌, length, get_or, take, drop, ap, sym, ◌∙◌, subst, arith, cases_eq, eq-eqb, ne_eqb, drop_more, drop_all, All-append, All-nil, All-cons, All-take, if◌then◌else◌, ◌==◌, slice_index, All, option_and_then, Result, Ok, Err, IfOk, list_keeps_ends, HasNoSpur, IsWalk, after_dart, SplitView, in_cotree, is_left, IsQuad}
+use Rattle.move_lifting.proofs.Common.{rotation_system, OrientedMesh, rotations_of, IsLedFrom, IsCutSurface, spokes_in_front, signed_loop, IsFreelyPath, HasLoopIn, TrackView, GoesOn, last_of, Crosses, sides_cross, up, up_path, PolygonView, across, AreWaysUp, by_loop, path_loop, put_behind, later-is, spokes-stay-below, after_path_step, after_path_steps, PathLeads, from_vertex, PathStep, Spur, Turn, ◌≡◌, ◌≢◌, ◌⊎◌, inl, inr, ℕ, ◌+◌, ◌-◌, ◌<◌, ◌≤◌, Bool, true, false, not, List, [], ◌∷◌, length, get_or, take, drop, ap, sym, ◌∙◌, subst, arith, cases_eq, eq-eqb, ne_eqb, drop_more, drop_all, All-append, All-nil, All-cons, All-take, if◌then◌else◌, ◌==◌, slice_index, All, option_and_then, Result, Ok, Err, IfOk, list_keeps_ends, HasNoSpur, IsWalk, after_dart, SplitView, in_cotree, is_left, IsQuad}
 use Rattle.std.proofs.Common.{Some}
-use Rattle.move_lifting.specs.Contractions.{IsLedFrom}
-use Rattle.move_lifting.specs.LoopFronts.{spokes_in_front}
-use Rattle.move_lifting.specs.LoopsPutIn.{signed_loop, IsFreelyPath, HasLoopIn}
-use Rattle.move_lifting.specs.Tracks.{TrackView, GoesOn, last_of}
 use Rattle.move_lifting.proofs.HomeLemmas.{goes_nowhere}
 use Rattle.move_lifting.proofs.LiftLemmas.{closed_walk}
 use Rattle.move_lifting.proofs.PathLemmas.{quad_partner}
 use Rattle.move_lifting.proofs.WorthLemmas.{spur_worth, turn_worth, TurnWorth, walk_stays, walk_changes}
-use Rattle.move_lifting.specs.Cuts.{IsCutSurface}
 
 -- two facts of one result
 pub both_ok : {X Y : Type 0} (r : Result X Y) (P Q R : X → Type 0) → ((x : X) → P x → Q x → R x) → IfOk r P → IfOk r Q → IfOk r R

@@ -1,8 +1,6 @@
 -- The step across the face below a cotree edge, and the vertices of the rest of the face.
-use Rattle.move_lifting.proofs.Common.{corner_back, face_at_number, vertex_at, IsNumberOf, rotation_system, names_all, origin-twin, darts_of, twin_of, origin_of, target_of, edge_of, face_of, OrientedMesh, IsOrientedSurface, rotations_of, IsRotationSystem, IsDartFrom, ◌≡◌, ◌⊎◌, inl, inr, ℕ, zero, suc, ◌+◌, ◌-◌, ◌<◌, Bool, true, false, List, [], ◌∷◌, ◌++◌, length, get_or, refl, ap, sym, ◌∙◌, subst, arith, append_assoc, length-append, map-append, length-map, Some, None, step_within, corner_after, corners_before, IsSide, side_number, FaceList, face_at, next_corner, numbers, Side, VertexName, SplitView, IsSplit, below_edge, in_cotree, after_more}
+use Rattle.move_lifting.proofs.Common.{corner_back, face_at_number, vertex_at, IsNumberOf, rotation_system, names_all, origin-twin, darts_of, twin_of, origin_of, target_of, edge_of, face_of, OrientedMesh, IsOrientedSurface, rotations_of, IsRotationSystem, IsDartFrom, beyond, GoesAlong, IsOneIn, IsFaceBelow, FaceStep, ◌≡◌, ◌⊎◌, inl, inr, ℕ, zero, suc, ◌+◌, ◌-◌, ◌<◌, Bool, true, false, List, [], ◌∷◌, ◌++◌, length, get_or, refl, ap, sym, ◌∙◌, subst, arith, append_assoc, length-append, map-append, length-map, Some, None, step_within, corner_after, corners_before, IsSide, side_number, FaceList, face_at, next_corner, numbers, Side, VertexName, SplitView, IsSplit, below_edge, in_cotree, after_more}
 use Rattle.surf_model.proofs.PartnerLemmas.{ends_agree}
-use Rattle.move_lifting.specs.Crossings.{beyond, GoesAlong, IsOneIn, IsFaceBelow}
-use Rattle.move_lifting.specs.declared.crossing.FaceStep.{FaceStep}
 use Rattle.move_lifting.proofs.RestLemmas.{side_ends}
 
 -- one corner more before the last

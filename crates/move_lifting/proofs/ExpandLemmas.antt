@@ -1,10 +1,5 @@
 -- A walk that is led off the cotree, step by step: what holds on the way.
-use Rattle.move_lifting.proofs.Common.{one_more, leads_nowhere, last_entry, dart_between, darts_of, edge_of, OrientedMesh, IsOrientedSurface, rotations_of, IsDartFrom, IsOffCotree, ◌≡◌, inl, inr, ℕ, suc, ◌+◌, ◌-◌, ◌<◌, ◌≤◌, Bool, true, false, not, max, List, [], ◌∷◌, ◌++◌, length, take, drop, get_or, refl, ap, sym, ◌∙◌, subst, arith, append_assoc, length-append, cases_lt, map-append, length-map, drop_more, drop_all, length-drop, append-nil, reverse-append, length-reverse, get_or-map, get_or-append-add, get_or_append_left, Some, reverse, Linked, together, round_linked, by_replacing, length-corners_from, corner_after, corners_before, last_corner, FaceList, face_at, next_corner, corners_from, is_edge, IsFaceList, IsFace, HasNoSpur, PeakedMoves, apply, numbers, IsWalk, darts, Across, VertexName, SplitView, IsSplit, in_cotree}
-use Rattle.move_lifting.specs.Lifts.{LeadsAtPeak}
-use Rattle.move_lifting.specs.Loads.{load_of, StaysWithin, IsLedOn}
-use Rattle.move_lifting.specs.Tracks.{TrackView, GoesOn, GrowsOrShrinks, last_of}
-use Rattle.move_lifting.specs.Crossings.{beyond, IsFaceBelow, IsCrossed}
-use Rattle.move_lifting.specs.declared.crossing.FaceStep.{FaceStep}
+use Rattle.move_lifting.proofs.Common.{one_more, leads_nowhere, last_entry, dart_between, darts_of, edge_of, OrientedMesh, IsOrientedSurface, rotations_of, IsDartFrom, beyond, IsFaceBelow, IsCrossed, LeadsAtPeak, load_of, StaysWithin, IsLedOn, TrackView, GoesOn, GrowsOrShrinks, last_of, FaceStep, IsOffCotree, ◌≡◌, inl, inr, ℕ, suc, ◌+◌, ◌-◌, ◌<◌, ◌≤◌, Bool, true, false, not, max, List, [], ◌∷◌, ◌++◌, length, take, drop, get_or, refl, ap, sym, ◌∙◌, subst, arith, append_assoc, length-append, cases_lt, map-append, length-map, drop_more, drop_all, length-drop, append-nil, reverse-append, length-reverse, get_or-map, get_or-append-add, get_or_append_left, Some, reverse, Linked, together, round_linked, by_replacing, length-corners_from, corner_after, corners_before, last_corner, FaceList, face_at, next_corner, corners_from, is_edge, IsFaceList, IsFace, HasNoSpur, PeakedMoves, apply, numbers, IsWalk, darts, Across, VertexName, SplitView, IsSplit, in_cotree}
 use Rattle.move_lifting.proofs.LeavingLemmas.{crossed_leaves}
 use Rattle.move_lifting.proofs.ListLemmas.{read_on, one_no_spur}
 use Rattle.move_lifting.proofs.RoundLemmas.{before-from, rest_turned, rest_ends}

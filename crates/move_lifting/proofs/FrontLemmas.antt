@@ -1,6 +1,5 @@
 -- A way along the walks of spokes in front.
-use Rattle.move_lifting.proofs.Common.{◌≡◌, ℕ, ◌+◌, ◌<◌, Bool, true, not, List, [], ◌∷◌, ◌++◌, length, take, get_or, refl, ap, sym, ◌∙◌, subst, arith, append_assoc, length-append, append-nil, take_more, FaceList, AreFreelyEqual}
-use Rattle.move_lifting.specs.SpokeWalks.{along_or_back, walks_loop}
+use Rattle.move_lifting.proofs.Common.{along_or_back, walks_loop, ◌≡◌, ℕ, ◌+◌, ◌<◌, Bool, true, not, List, [], ◌∷◌, ◌++◌, length, take, get_or, refl, ap, sym, ◌∙◌, subst, arith, append_assoc, length-append, append-nil, take_more, FaceList, AreFreelyEqual}
 use Rattle.move_lifting.proofs.SpurLemmas.{freely_further}
 
 -- whether the next one is gone along after so many

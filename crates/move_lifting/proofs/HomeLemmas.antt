@@ -1,7 +1,7 @@
 -- The walk along one of two homotopic walks and back along the other leads each form back to where it starts, so that nothing is left
 -- of its
 -- spokes; and a walk whose spokes are gone goes nowhere.
-use Rattle.move_lifting.proofs.Common.{last_entry, OrientedMesh, IsOrientedSurface, there_and_home, backward_is, free_equality, up, tree_ways, up_path, IsWay, PolygonView, HaveFreeSpokes, spokes_along, backward, free_walk_leads, free_walk_below, PathLeads, PathStep, ◌≡◌, ◌⊎◌, inl, inr, ℕ, suc, ◌-◌, ◌<◌, ◌≤◌, true, List, [], ◌∷◌, ◌++◌, length, drop, take, ap, sym, ◌∙◌, subst, arith, append_assoc, cases_lt, drop_more, All, slice_index, one_reduced_walk, is_used, AreFreelyEqual, HasNoSpur, Homotopic, IsWalk, SplitView, IsSplit, led}
+use Rattle.move_lifting.proofs.Common.{last_entry, OrientedMesh, IsOrientedSurface, IsCutSurface, IsFreelyPath, last_of, there_and_home, backward_is, free_equality, up, tree_ways, up_path, IsWay, PolygonView, HaveFreeSpokes, spokes_along, backward, free_walk_leads, free_walk_below, PathLeads, PathStep, ◌≡◌, ◌⊎◌, inl, inr, ℕ, suc, ◌-◌, ◌<◌, ◌≤◌, true, List, [], ◌∷◌, ◌++◌, length, drop, take, ap, sym, ◌∙◌, subst, arith, append_assoc, cases_lt, drop_more, All, slice_index, one_reduced_walk, is_used, AreFreelyEqual, HasNoSpur, Homotopic, IsWalk, SplitView, IsSplit, led}
 use Rattle.flat_forms.specs.FlatStates.{IsFlatWheel, flat_next, IsEven as IsEvenPoint}
 use Rattle.flat_forms.specs.Lemmas.FlatLaws.{flat_starts, flat_stays, flat_there_and_back, flat_across}
 use Rattle.flat_forms.specs.Vectors.{origin}
@@ -18,9 +18,6 @@ use Rattle.spoke_paths.specs.ReducedWords.{IsReduced}
 use Rattle.turn_words.specs.HyperStates.{HyperState, IsHyperWheel, BelongsTo, IsEven, empty_state, hyper_next}
 use Rattle.turn_words.specs.Lemmas.HyperLaws.{hyper_starts, hyper_stays, hyper_there_and_back, hyper_across}
 use Rattle.turn_words.specs.SpokePaths.{turn_word_of}
-use Rattle.move_lifting.specs.LoopsPutIn.{IsFreelyPath}
-use Rattle.move_lifting.specs.Tracks.{last_of}
-use Rattle.move_lifting.specs.Cuts.{IsCutSurface}
 
 -- spokes that lead two states to one lead from one
 led_apart : {State : Type 0} (places : List ℕ) (next : List ℕ → State → ℕ → State) (Belongs IsAtVertex : State → Type 0)

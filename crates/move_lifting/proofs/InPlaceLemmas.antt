@@ -1,9 +1,7 @@
 -- Spurs that are taken out of a walk in place: what stands in front has none, and the rest is as it was.
-use Rattle.move_lifting.proofs.Common.{cut, ◌≡◌, inr, refl, ℕ, ◌+◌, ◌-◌, ◌<◌, ◌≤◌, max, List, [], ◌∷◌, ◌++◌, length, take, drop, get_or, ap, sym, ◌∙◌, subst, arith, length-append, take_more, take_all, drop_all, length-take-le, length-drop, get_or-take, get_or-drop, take-append-le, drop-append-le, drop-drop, All-cons, All-nil, FaceList, AreFreelyEqual, HasNoSpur, PeakedMoves, darts, Remove, VertexName}
-use Rattle.move_lifting.specs.Tracks.{TrackView, GoesOn, IsStepBack, IsNextPut, last_of}
+use Rattle.move_lifting.proofs.Common.{cut, IsRemoval, TrackView, GoesOn, IsStepBack, IsNextPut, last_of, ◌≡◌, inr, refl, ℕ, ◌+◌, ◌-◌, ◌<◌, ◌≤◌, max, List, [], ◌∷◌, ◌++◌, length, take, drop, get_or, ap, sym, ◌∙◌, subst, arith, length-append, take_more, take_all, drop_all, length-take-le, length-drop, get_or-take, get_or-drop, take-append-le, drop-append-le, drop-drop, All-cons, All-nil, FaceList, AreFreelyEqual, HasNoSpur, PeakedMoves, darts, Remove, VertexName}
 use Rattle.move_lifting.proofs.MoveLemmas.{step_back_goes, step_back_no_spur}
 use Rattle.move_lifting.proofs.SpurLemmas.{IsReducedSoFar, reduced_first, reduced_more, reduced_all}
-use Rattle.move_lifting.specs.Lifts.{IsRemoval}
 
 -- the first entries of a walk, as a track of their own
 abbrev pub front_of : TrackView → ℕ → TrackView

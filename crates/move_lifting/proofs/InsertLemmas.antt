@@ -1,7 +1,5 @@
 -- A spur put in at the end of what is laid of a walk, and a list of moves done further on in a walk.
-use Rattle.move_lifting.proofs.Common.{spur_comes, one_more, greatest_raised, greatest_both, last_entry, ◌≡◌, ℕ, ◌+◌, ◌-◌, ◌<◌, max, true, List, [], ◌∷◌, ◌++◌, length, take, refl, ap, sym, ◌∙◌, subst, arith, append_assoc, length-append, append-nil, Some, one_after_another, list_in_context, FaceList, is_edge, PeakedMoves, apply_all, greatest_darts, all_raised, darts, Move, Insert, VertexName}
-use Rattle.move_lifting.specs.Lifts.{LeadsAtPeak}
-use Rattle.move_lifting.specs.Tracks.{last_of}
+use Rattle.move_lifting.proofs.Common.{spur_comes, one_more, greatest_raised, greatest_both, last_entry, LeadsAtPeak, last_of, ◌≡◌, ℕ, ◌+◌, ◌-◌, ◌<◌, max, true, List, [], ◌∷◌, ◌++◌, length, take, refl, ap, sym, ◌∙◌, subst, arith, append_assoc, length-append, append-nil, Some, one_after_another, list_in_context, FaceList, is_edge, PeakedMoves, apply_all, greatest_darts, all_raised, darts, Move, Insert, VertexName}
 
 -- a spur comes in at the last entry of what is laid
 pub spur_in_last : (mesh : FaceList) (first laid rest : List ℕ) (via : VertexName) (list more : PeakedMoves) → 0 < length laid

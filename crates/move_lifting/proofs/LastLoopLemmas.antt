@@ -1,11 +1,5 @@
 -- All round the root face from the last side, in either direction.
-use Rattle.move_lifting.proofs.Common.{leads_nowhere, one_more, face_at_number, start_kept, start_flipped, IsNumberOf, names_all, darts_of, face_of, origin_of, start_corner_of, OrientedMesh, IsOrientedSurface, at_face, backward_is, side_in, led_round, led_back_round, read_back, back, PolygonView, IsCutFrom, AreWaysUp, backward, by_loop, last_side, way_round, way_back_round, IsOffCotree, ◌≡◌, inl, inr, ℕ, suc, ◌+◌, ◌-◌, ◌<◌, ◌≤◌, Bool, true, false, not, max, List, [], ◌∷◌, ◌++◌, length, drop, get_or, refl, ap, sym, ◌∙◌, subst, arith, ◌⊎◌, append-nil, get_or-le-sum_by, Some, IsTrue, if◌then◌else◌, first_answer, walk_from, all_more, none_yet, by_replacing, length-corners_from, corner_after, corners_before, last_corner, keeps_walk, IsSide, side_number, FaceList, face_at, next_corner, corners_from, is_used, AreFreelyEqual, PeakedMoves, apply, apply_all, is_flipped, numbers, IsWalk, darts, Side, Move, Across, FaceName, VertexName, SplitView, IsSplit, once_round, end_from as end_of, beq}
-use Rattle.move_lifting.specs.Crossings.{IsStepOf, IsStepFrom}
-use Rattle.move_lifting.specs.Lifts.{LeadsAtPeak, MoreLeaveCotree}
-use Rattle.move_lifting.specs.Loads.{load_of}
-use Rattle.move_lifting.specs.LoopsPutIn.{signed_loop}
-use Rattle.move_lifting.specs.Tracks.{TrackView}
-use Rattle.move_lifting.specs.declared.crossing.FaceStep.{FaceStep}
+use Rattle.move_lifting.proofs.Common.{leads_nowhere, one_more, face_at_number, start_kept, start_flipped, IsNumberOf, names_all, darts_of, face_of, origin_of, start_corner_of, OrientedMesh, IsOrientedSurface, IsStepOf, IsStepFrom, LeadsAtPeak, MoreLeaveCotree, load_of, signed_loop, TrackView, FaceStep, at_face, backward_is, side_in, led_round, led_back_round, read_back, back, PolygonView, IsCutFrom, AreWaysUp, backward, by_loop, last_side, way_round, way_back_round, IsOffCotree, ◌≡◌, inl, inr, ℕ, suc, ◌+◌, ◌-◌, ◌<◌, ◌≤◌, Bool, true, false, not, max, List, [], ◌∷◌, ◌++◌, length, drop, get_or, refl, ap, sym, ◌∙◌, subst, arith, ◌⊎◌, append-nil, get_or-le-sum_by, Some, IsTrue, if◌then◌else◌, first_answer, walk_from, all_more, none_yet, by_replacing, length-corners_from, corner_after, corners_before, last_corner, keeps_walk, IsSide, side_number, FaceList, face_at, next_corner, corners_from, is_used, AreFreelyEqual, PeakedMoves, apply, apply_all, is_flipped, numbers, IsWalk, darts, Side, Move, Across, FaceName, VertexName, SplitView, IsSplit, once_round, end_from as end_of, beq}
 use Rattle.move_lifting.proofs.RestLemmas.{pair_weight, root_round}
 
 -- the step from where a dart starts, from the side that the dart is

@@ -1,6 +1,5 @@
 -- Walks laid without spurs, up to spurs.
-use Rattle.move_lifting.proofs.Common.{free_equality, ◌≡◌, inr, ℕ, ◌+◌, ◌-◌, ◌<◌, List, [], ◌∷◌, ◌++◌, length, take, drop, get_or, ap, sym, ◌∙◌, subst, arith, append_assoc, length-append, append-nil, map-append, drop-map, get_or_append_left, take_all, take_more, take_rest, FaceList, AreFreelyEqual, HasNoSpur, numbers, VertexName}
-use Rattle.move_lifting.specs.Tracks.{last_of}
+use Rattle.move_lifting.proofs.Common.{last_of, free_equality, ◌≡◌, inr, ℕ, ◌+◌, ◌-◌, ◌<◌, List, [], ◌∷◌, ◌++◌, length, take, drop, get_or, ap, sym, ◌∙◌, subst, arith, append_assoc, length-append, append-nil, map-append, drop-map, get_or_append_left, take_all, take_more, take_rest, FaceList, AreFreelyEqual, HasNoSpur, numbers, VertexName}
 use Rattle.move_lifting.proofs.ExpandLemmas.{length-numbers, one_pending}
 use Rattle.move_lifting.proofs.ListLemmas.{no_spur_front}
 use Rattle.move_lifting.proofs.SpurLemmas.{put_freely, freely_further}

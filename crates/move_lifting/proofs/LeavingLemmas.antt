@@ -1,9 +1,5 @@
 -- Moves that come to a list of moves: removals, and moves that lead off the cotree.
-use Rattle.move_lifting.proofs.Common.{OrientedMesh, LeavesCotree, ℕ, List, [], ◌∷◌, ◌++◌, refl, ap, sym, ◌∙◌, append_assoc, append-nil, All-append, All-nil, All-cons, darts, Move, Insert, Remove, Across, SplitView}
-use Rattle.move_lifting.specs.Lifts.{ComeMore, IsRemoval, MoreRemove, MoreLeaveCotree}
-use Rattle.move_lifting.specs.Tracks.{TrackView}
-use Rattle.move_lifting.specs.Crossings.{IsFaceBelow, IsCrossed}
-use Rattle.move_lifting.specs.declared.crossing.FaceStep.{FaceStep}
+use Rattle.move_lifting.proofs.Common.{OrientedMesh, IsFaceBelow, IsCrossed, ComeMore, IsRemoval, MoreRemove, MoreLeaveCotree, TrackView, FaceStep, LeavesCotree, ℕ, List, [], ◌∷◌, ◌++◌, refl, ap, sym, ◌∙◌, append_assoc, append-nil, All-append, All-nil, All-cons, darts, Move, Insert, Remove, Across, SplitView}
 
 -- more moves, and others behind these
 pub more_on : (IsSuch : Move → Type 0) (a b c : List Move) → ComeMore IsSuch a b → ComeMore IsSuch b c → ComeMore IsSuch a c

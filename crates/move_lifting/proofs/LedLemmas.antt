@@ -1,9 +1,5 @@
 -- Walks that are led on: nothing is done, one thing after another, and the same where more of a walk stands behind.
-use Rattle.move_lifting.proofs.Common.{last_entry, walk_front, OrientedMesh, LeavesCotree, ◌≡◌, ℕ, ◌+◌, ◌-◌, ◌<◌, ◌≤◌, max, List, [], ◌∷◌, ◌++◌, length, take, get_or, refl, ap, sym, ◌∙◌, subst, arith, append_assoc, length-append, append-nil, get_or-append-add, list_keeps_walk, FaceList, PeakedMoves, IsWalk, SplitView}
-use Rattle.move_lifting.specs.Contractions.{IsLedFrom}
-use Rattle.move_lifting.specs.Lifts.{LeadsAtPeak, MoreRemove}
-use Rattle.move_lifting.specs.Loads.{load_of, IsLedOn}
-use Rattle.move_lifting.specs.Tracks.{TrackView, GoesOn, GrowsOrShrinks, last_of}
+use Rattle.move_lifting.proofs.Common.{last_entry, walk_front, OrientedMesh, IsLedFrom, LeadsAtPeak, MoreRemove, load_of, IsLedOn, TrackView, GoesOn, GrowsOrShrinks, last_of, LeavesCotree, ◌≡◌, ℕ, ◌+◌, ◌-◌, ◌<◌, ◌≤◌, max, List, [], ◌∷◌, ◌++◌, length, take, get_or, refl, ap, sym, ◌∙◌, subst, arith, append_assoc, length-append, append-nil, get_or-append-add, list_keeps_walk, FaceList, PeakedMoves, IsWalk, SplitView}
 use Rattle.move_lifting.proofs.LeavingLemmas.{more_on, none_more, removed_leave}
 use Rattle.move_lifting.proofs.WithinLemmas.{load-joined, darts_weigh, within_put}
 

@@ -1,17 +1,10 @@
 -- The closed walk along the first and back along the second is contracted, and the second is left.
-use Rattle.move_lifting.proofs.Common.{leads_nowhere, walk_front, OrientedMesh, IsOrientedSurface, PolygonView, LeavesCotree, IsOffCotree, spokes_along, free_walk_below, PathLeads, ◌≡◌, ℕ, ◌<◌, refl, List, [], ◌∷◌, ◌++◌, length, drop, get_or, ap, sym, ◌∙◌, subst, arith, drop_more, length-drop, get_or_append_left, All, Some, option_and_then, list_keeps_walk, list_keeps_ends, FaceList, HasNoSpur, PeakedMoves, Leads, Homotopic, apply, apply_all, numbers, IsWalk, HaveCommonEnds, darts, AreWalkPair, Move, VertexName, SplitView, IsSplit}
-use Rattle.std.proofs.lemmas.Option.{option_and_then_some}
-use Rattle.move_lifting.specs.Contractions.{IsLedFrom, LeavesNothing}
-use Rattle.move_lifting.specs.LoopsPutIn.{IsFreelyPath}
-use Rattle.move_lifting.specs.Reductions.{IsReductionOf}
+use Rattle.move_lifting.proofs.Common.{leads_nowhere, walk_front, OrientedMesh, IsOrientedSurface, IsLedFrom, LeavesNothing, IsCutSurface, LeadsAtPeak, IsLedOn, IsFreelyPath, IsReductionOf, TrackView, GoesOn, last_of, PolygonView, LeavesCotree, IsOffCotree, spokes_along, free_walk_below, PathLeads, ◌≡◌, ℕ, ◌<◌, refl, List, [], ◌∷◌, ◌++◌, length, drop, get_or, ap, sym, ◌∙◌, subst, arith, drop_more, length-drop, get_or_append_left, All, Some, option_and_then, list_keeps_walk, list_keeps_ends, FaceList, HasNoSpur, PeakedMoves, Leads, Homotopic, apply, apply_all, numbers, IsWalk, HaveCommonEnds, darts, AreWalkPair, Move, VertexName, SplitView, IsSplit}
 use Rattle.move_lifting.specs.declared.reducing.Reduction.{Reduction}
+use Rattle.std.proofs.lemmas.Option.{option_and_then_some}
 use Rattle.move_lifting.proofs.HomeLemmas.{nothing_is_left}
 use Rattle.move_lifting.proofs.StartLemmas.{starts_freely}
-use Rattle.move_lifting.specs.Lifts.{LeadsAtPeak}
-use Rattle.move_lifting.specs.Tracks.{TrackView, GoesOn, last_of}
 use Rattle.move_lifting.proofs.TreeLiftLemmas.{one_vertex}
-use Rattle.move_lifting.specs.Loads.{IsLedOn}
-use Rattle.move_lifting.specs.Cuts.{IsCutSurface}
 
 -- what is done to the vertices of the first walk, done from the first walk on
 pub closed_from : (mesh : FaceList) (first second vertices closed : List ℕ) (begun list : PeakedMoves) (n : ℕ) → IsWalk mesh second

@@ -1,16 +1,11 @@
 -- How high the peak rises where the loop of the last side is put in: the approach and the way back and on have no spur, so they are no
 -- longer than the short walks that they are up to spurs.
-use Rattle.move_lifting.proofs.Common.{darts_of, OrientedMesh, by_own_loop, backward_is, SameFreely, loops_make_a_free_group, free_equality, loop_on, loop_home, up, up_path, IsWay, HasWays, Loop, loop_mul, loop_inv, loop_of, back, way_home, way_on, way_walk, PolygonView, IsFreelyShort, AreShortAround, AreWaysUp, backward, by_loop, path_loop, ◌≡◌, ℕ, zero, suc, ◌+◌, ◌*◌, ◌-◌, ◌<◌, ◌≤◌, true, List, ◌∷◌, ◌++◌, length, drop, get_or, ap, sym, ◌∙◌, subst, arith, mul-le-mul_right, All, list_keeps_walk, FaceList, AreFreelyEqual, HasNoSpur, IsWalk, darts, SplitView}
+use Rattle.move_lifting.proofs.Common.{darts_of, OrientedMesh, IsCutSurface, IsFreelyPath, last_of, RisesWithTurn, KeepsBound, MOST_LIFTED_SIDES, MOST_LIFTED_DARTS, by_own_loop, backward_is, SameFreely, loops_make_a_free_group, free_equality, loop_on, loop_home, up, up_path, IsWay, HasWays, Loop, loop_mul, loop_inv, loop_of, back, way_home, way_on, way_walk, PolygonView, IsFreelyShort, AreShortAround, AreWaysUp, backward, by_loop, path_loop, ◌≡◌, ℕ, zero, suc, ◌+◌, ◌*◌, ◌-◌, ◌<◌, ◌≤◌, true, List, ◌∷◌, ◌++◌, length, drop, get_or, ap, sym, ◌∙◌, subst, arith, mul-le-mul_right, All, list_keeps_walk, FaceList, AreFreelyEqual, HasNoSpur, IsWalk, darts, SplitView}
 use Rattle.polygon_cut.proofs.ShortWalkLemmas.{spokes_short}
 use Rattle.polygon_cut.proofs.TreePathLemmas.{few_vertices}
-use Rattle.move_lifting.specs.LoopsPutIn.{IsFreelyPath}
-use Rattle.move_lifting.specs.Tracks.{last_of}
-use Rattle.move_lifting.specs.TurnPeaks.{RisesWithTurn, KeepsBound}
-use Rattle.move_lifting.specs.declared.expanding.TheConstants.{MOST_LIFTED_SIDES, MOST_LIFTED_DARTS}
 use Rattle.move_lifting.proofs.ApproachLemmas.{GoesFrom, goes_end, goes_walk, has_ways, path_way, walk_goes}
 use Rattle.move_lifting.proofs.LoopInLemmas.{approach_free, approach_goes, loop_by, whole_way, IsByTree}
 use Rattle.move_lifting.proofs.ShortestLemmas.{reduced_is_shortest}
-use Rattle.move_lifting.specs.Cuts.{IsCutSurface}
 
 -- a walk without spurs that is a short one up to spurs is short
 pub shortest : (s : OrientedMesh) (pairs : ℕ) (walk reduced : List ℕ) → IsWalk s.mesh walk → AreFreelyEqual s.mesh walk reduced

@@ -1,7 +1,5 @@
 -- One more move behind a list of moves, and a spur that goes out at the end of the part of a walk that is laid.
-use Rattle.move_lifting.proofs.Common.{greatest_darts-more, greatest_darts-none, one_more, spur_goes, ◌≡◌, ℕ, suc, ◌+◌, ◌-◌, ◌<◌, max, List, [], ◌∷◌, ◌++◌, length, take, get_or, ap, sym, ◌∙◌, subst, arith, append_assoc, length-append, get_or_append_left, length-take-le, Some, All, first_answer, stays_walk, by_replacing, FaceList, HasNoSpur, PeakedMoves, apply, apply_all, greatest_darts, darts, Move, Insert, Remove, Across, VertexName}
-use Rattle.move_lifting.specs.Lifts.{LeadsAtPeak, IsRemoval}
-use Rattle.move_lifting.specs.Tracks.{TrackView, GoesOn, IsStepBack}
+use Rattle.move_lifting.proofs.Common.{greatest_darts-more, greatest_darts-none, one_more, spur_goes, LeadsAtPeak, IsRemoval, TrackView, GoesOn, IsStepBack, ◌≡◌, ℕ, suc, ◌+◌, ◌-◌, ◌<◌, max, List, [], ◌∷◌, ◌++◌, length, take, get_or, ap, sym, ◌∙◌, subst, arith, append_assoc, length-append, get_or_append_left, length-take-le, Some, All, first_answer, stays_walk, by_replacing, FaceList, HasNoSpur, PeakedMoves, apply, apply_all, greatest_darts, darts, Move, Insert, Remove, Across, VertexName}
 use Rattle.move_lifting.proofs.ListLemmas.{front_and_last, no_spur_front}
 
 -- a spur goes out

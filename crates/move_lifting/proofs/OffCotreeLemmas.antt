@@ -1,8 +1,6 @@
 -- Each walk leads off the cotree: dart by dart the rest of the face below takes the place of a dart on a cotree edge.
-use Rattle.move_lifting.proofs.Common.{dart_between, HasPlace, placed, names_all, rotation_system, origin_of, start_corner_of, darts_of, twin_of, edge_of, face_of, OrientedMesh, IsOrientedSurface, rotations_of, IsDartFrom, at_face, LeavesCotree, way_round, IsOffCotree, Bool, ◌≡◌, ◌⊎◌, inl, inr, ℕ, zero, suc, ◌+◌, ◌*◌, ◌-◌, ◌<◌, ◌≤◌, true, false, not, List, [], ◌∷◌, ◌++◌, length, get_or, refl, ap, sym, ◌∙◌, subst, arith, append_assoc, cases_eq, All-nil, All-cons, IsTrue, Some, option_and_then, reverse, walk_from, all_more, none_yet, keeps_walk, tail_of, is_used, face_at, next_corner, corners_from, is_edge, apply, apply_all, is_flipped, IsWalk, darts, Side, Move, Across, option_cases, SplitView, IsSplit, below_edge, in_cotree}
-use Rattle.move_lifting.specs.Crossings.{beyond, IsFaceBelow, IsOneIn, GoesAlong}
+use Rattle.move_lifting.proofs.Common.{dart_between, HasPlace, placed, names_all, rotation_system, origin_of, start_corner_of, darts_of, twin_of, edge_of, face_of, OrientedMesh, IsOrientedSurface, rotations_of, IsDartFrom, beyond, IsFaceBelow, IsOneIn, GoesAlong, FaceStep, at_face, LeavesCotree, way_round, IsOffCotree, Bool, ◌≡◌, ◌⊎◌, inl, inr, ℕ, zero, suc, ◌+◌, ◌*◌, ◌-◌, ◌<◌, ◌≤◌, true, false, not, List, [], ◌∷◌, ◌++◌, length, get_or, refl, ap, sym, ◌∙◌, subst, arith, append_assoc, cases_eq, All-nil, All-cons, IsTrue, Some, option_and_then, reverse, walk_from, all_more, none_yet, keeps_walk, tail_of, is_used, face_at, next_corner, corners_from, is_edge, apply, apply_all, is_flipped, IsWalk, darts, Side, Move, Across, option_cases, SplitView, IsSplit, below_edge, in_cotree}
 use Rattle.move_lifting.specs.WalksOff.{LeadsOffCotree}
-use Rattle.move_lifting.specs.declared.crossing.FaceStep.{FaceStep}
 use Rattle.move_lifting.proofs.BoundLemmas.{walk_most}
 use Rattle.move_lifting.proofs.CrossingLemmas.{below_step, not_below}
 use Rattle.move_lifting.proofs.ExpandLemmas.{IsRest, rest_of_step, face_crossed, below_falls}

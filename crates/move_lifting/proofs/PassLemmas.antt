@@ -1,9 +1,5 @@
 -- Passes over a walk: a face is crossed, and the vertices of its rest are put on the track.
-use Rattle.move_lifting.proofs.Common.{OrientedMesh, ◌≡◌, ℕ, ◌+◌, ◌<◌, ◌≤◌, List, [], ◌∷◌, ◌++◌, length, ap, ◌∙◌, subst, arith, length-append, length-reverse, reverse, FaceList, HasNoSpur, numbers, VertexName, SplitView}
-use Rattle.move_lifting.specs.Crossings.{IsCrossed}
-use Rattle.move_lifting.specs.Loads.{IsLedOn}
-use Rattle.move_lifting.specs.Tracks.{TrackView}
-use Rattle.move_lifting.specs.declared.crossing.FaceStep.{FaceStep}
+use Rattle.move_lifting.proofs.Common.{OrientedMesh, IsCrossed, IsLedOn, TrackView, FaceStep, ◌≡◌, ℕ, ◌+◌, ◌<◌, ◌≤◌, List, [], ◌∷◌, ◌++◌, length, ap, ◌∙◌, subst, arith, length-append, length-reverse, reverse, FaceList, HasNoSpur, numbers, VertexName, SplitView}
 use Rattle.move_lifting.proofs.ExpandLemmas.{one_pending, reverse-push, length-numbers}
 use Rattle.move_lifting.proofs.LedLemmas.{led_after, led_behind}
 

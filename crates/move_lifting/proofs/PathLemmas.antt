@@ -1,9 +1,8 @@
 -- Where a path of spokes ends, and that the places of a polygon make quads.
-use Rattle.move_lifting.proofs.Common.{OrientedMesh, rotations_of, turned_parity, ends_at_vertex, PolygonView, place_of, across, places_wheel, IsQuadWheel, add_back, spoke_at, from_vertex, HasQuads, ◌≡◌, ℕ, ◌<◌, true, not, List, [], ◌∷◌, length, get_or, refl, ap, sym, ◌∙◌, arith, SplitView, IsQuad}
+use Rattle.move_lifting.proofs.Common.{OrientedMesh, rotations_of, IsCutSurface, turned_parity, ends_at_vertex, PolygonView, place_of, across, places_wheel, IsQuadWheel, add_back, spoke_at, from_vertex, HasQuads, ◌≡◌, ℕ, ◌<◌, true, not, List, [], ◌∷◌, length, get_or, refl, ap, sym, ◌∙◌, arith, SplitView, IsQuad}
 use Rattle.spoke_paths.proofs.Turning.{from-next}
 use Rattle.turn_words.specs.Lemmas.Sums.{add-lt}
 use Rattle.turn_words.specs.Modulo.{add, minus}
-use Rattle.move_lifting.specs.Cuts.{IsCutSurface}
 
 pub ends_at : (path : List ℕ) → ends_at_vertex true path ≡ from_vertex (length path)
 ends_at [] = refl

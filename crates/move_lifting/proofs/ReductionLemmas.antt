@@ -1,8 +1,7 @@
 -- The spokes of a walk, dart by dart, and how many are left after some steps.
-use Rattle.move_lifting.proofs.Common.{next_of, OrientedMesh, IsOrientedSurface, rotations_of, IsDartFrom, dart_from, from_is, PolygonView, label_of, HasFreeSpokes, HaveFreeSpokes, spokes_along, last_side, AtPlace, at-place, old_way, new_way, IsTurned, is-turned, spur-is, later-is, PathLeads, quad_turned, after_path_step, from_vertex, PathStep, Spur, Turn, ◌≡◌, ◌≢◌, inl, inr, ℕ, zero, suc, ◌+◌, ◌*◌, ◌-◌, ◌<◌, ◌≤◌, Bool, true, false, List, [], ◌∷◌, ◌++◌, length, get_or, take, refl, ap, sym, ◌∙◌, subst, arith, append_assoc, length-append, cases_eq, eq-eqb, ne_eqb, append-nil, take_all}
+use Rattle.move_lifting.proofs.Common.{next_of, OrientedMesh, IsOrientedSurface, rotations_of, IsDartFrom, spokes_of_dart, HasSpokesMore, AreSpokesOf, spurs_of, dart_from, from_is, PolygonView, label_of, HasFreeSpokes, HaveFreeSpokes, spokes_along, last_side, AtPlace, at-place, old_way, new_way, IsTurned, is-turned, spur-is, later-is, PathLeads, quad_turned, after_path_step, from_vertex, PathStep, Spur, Turn, ◌≡◌, ◌≢◌, inl, inr, ℕ, zero, suc, ◌+◌, ◌*◌, ◌-◌, ◌<◌, ◌≤◌, Bool, true, false, List, [], ◌∷◌, ◌++◌, length, get_or, take, refl, ap, sym, ◌∙◌, subst, arith, append_assoc, length-append, cases_eq, eq-eqb, ne_eqb, append-nil, take_all}
 use Rattle.spoke_paths.specs.PathSteps.{spur_goes}
 use Rattle.std.proofs.Common.{Some}
-use Rattle.move_lifting.specs.Reductions.{spokes_of_dart, HasSpokesMore, AreSpokesOf, spurs_of}
 
 -- the spokes of the dart from u to v
 pub own_spokes : OrientedMesh → PolygonView → ℕ → ℕ → List ℕ

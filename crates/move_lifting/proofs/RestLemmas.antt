@@ -1,6 +1,5 @@
 -- The rest of a face below a cotree edge weighs less than the edge, and all round the root face there is no more than all darts.
-use Rattle.move_lifting.proofs.Common.{corner_back, face_at_number, origin_at, target_at, vertex_at, start_kept, start_flipped, end_kept, end_flipped, edge-twin, IsNumberOf, number_below, rotation_system, origin-twin, darts_of, twin_of, origin_of, target_of, edge_of, OrientedMesh, IsOrientedSurface, rotations_of, IsRotationSystem, IsDartFrom, dart_from, from_is, ◌≡◌, ◌≢◌, ◌⊎◌, inl, inr, ℕ, zero, suc, ◌+◌, ◌-◌, ◌<◌, ◌≤◌, Bool, true, false, not, List, [], ◌∷◌, ◌++◌, length, get_or, refl, ap, sym, ◌∙◌, subst, arith, append_assoc, Some, step_within, corner_after, corners_before, last_corner, meet, first_side, face_at, next_corner, corners_from, is_flipped, SplitView, IsSplit, below_edge, after_within, after_more, corners_apart}
-use Rattle.move_lifting.specs.Loads.{load_of}
+use Rattle.move_lifting.proofs.Common.{corner_back, face_at_number, origin_at, target_at, vertex_at, start_kept, start_flipped, end_kept, end_flipped, edge-twin, IsNumberOf, number_below, rotation_system, origin-twin, darts_of, twin_of, origin_of, target_of, edge_of, OrientedMesh, IsOrientedSurface, rotations_of, IsRotationSystem, IsDartFrom, load_of, dart_from, from_is, ◌≡◌, ◌≢◌, ◌⊎◌, inl, inr, ℕ, zero, suc, ◌+◌, ◌-◌, ◌<◌, ◌≤◌, Bool, true, false, not, List, [], ◌∷◌, ◌++◌, length, get_or, refl, ap, sym, ◌∙◌, subst, arith, append_assoc, Some, step_within, corner_after, corners_before, last_corner, meet, first_side, face_at, next_corner, corners_from, is_flipped, SplitView, IsSplit, below_edge, after_within, after_more, corners_apart}
 use Rattle.move_lifting.proofs.CountLemmas.{sum_below}
 use Rattle.move_lifting.proofs.LoadLemmas.{weight, weight_positive, weight_most, AreBeside, AreInFace, weights_fall, root_weights}
 use Rattle.move_lifting.proofs.RoundLemmas.{corners_more}

@@ -1,13 +1,11 @@
 -- Steps on paths of spokes make them no longer, and the loop of the last side goes in along ways that are short for half of their spokes
 -- and one pair more.
-use Rattle.move_lifting.proofs.Common.{dart_between, rotation_system, OrientedMesh, IsOrientedSurface, rotations_of, parity, sides_cross, walk_way, IsWay, PolygonView, place_of, across, AreShortAround, HasFreeSpokes, HaveFreeSpokes, across_last, comes_back, last_side, spokes_along, IsQuadWheel, polygon_wheel, spoke_at, AtPlace, at-place, IsTurned, is-turned, quad_turned, after_path_step, from_vertex, PathStep, Turn, ◌≡◌, ◌≢◌, ◌⊎◌, inl, inr, ℕ, suc, ◌+◌, ◌*◌, ◌-◌, ◌<◌, ◌≤◌, Bool, true, false, not, List, [], ◌∷◌, ◌++◌, length, take, get_or, refl, ap, sym, ◌∙◌, subst, arith, length-append, take-append_seam, cases_Bool, cases_eq, eq-eqb, ne_eqb, get_or-append-add, get_or_append_left, All-cons, All, if◌then◌else◌, ◌==◌, IsWalk, darts, after_dart, SplitView, in_cotree, is_left}
+use Rattle.move_lifting.proofs.Common.{dart_between, rotation_system, OrientedMesh, IsOrientedSurface, rotations_of, IsCutSurface, spokes_in_front, parity, sides_cross, walk_way, IsWay, PolygonView, place_of, across, AreShortAround, HasFreeSpokes, HaveFreeSpokes, across_last, comes_back, last_side, spokes_along, IsQuadWheel, polygon_wheel, spoke_at, AtPlace, at-place, IsTurned, is-turned, quad_turned, after_path_step, from_vertex, PathStep, Turn, ◌≡◌, ◌≢◌, ◌⊎◌, inl, inr, ℕ, suc, ◌+◌, ◌*◌, ◌-◌, ◌<◌, ◌≤◌, Bool, true, false, not, List, [], ◌∷◌, ◌++◌, length, take, get_or, refl, ap, sym, ◌∙◌, subst, arith, length-append, take-append_seam, cases_Bool, cases_eq, eq-eqb, ne_eqb, get_or-append-add, get_or_append_left, All-cons, All, if◌then◌else◌, ◌==◌, IsWalk, darts, after_dart, SplitView, in_cotree, is_left}
 use Rattle.polygon_cut.proofs.ShortFrontLemmas.{short_behind, short_behind_one, short_behind_two}
 use Rattle.std.proofs.Common.{Some}
-use Rattle.move_lifting.specs.LoopFronts.{spokes_in_front}
 use Rattle.move_lifting.proofs.ContractLemmas.{front_below}
 use Rattle.move_lifting.proofs.PathLemmas.{ends_at, quad_partner}
 use Rattle.move_lifting.proofs.ReductionLemmas.{step_long}
-use Rattle.move_lifting.specs.Cuts.{IsCutSurface}
 
 -- no step makes a path longer
 pub step_no_longer : (places : List ℕ) (step : PathStep) (path next : List ℕ) → after_path_step places step path ≡ Some next

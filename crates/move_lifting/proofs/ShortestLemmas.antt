@@ -1,7 +1,6 @@
 -- A walk without spurs is the shortest of those that are equal to it up to spurs.
-use Rattle.move_lifting.proofs.Common.{last_entry, ◌≡◌, ◌≢◌, inr, inl, ℕ, ◌+◌, ◌-◌, ◌<◌, ◌≤◌, List, [], ◌∷◌, ◌++◌, length, take, get_or, refl, ap, sym, ◌∙◌, subst, arith, append_assoc, length-append, cases_lt, cases_eq, append-nil, get_or_append_left, length-take-le, spur_list_same, FaceList, AreFreelyEqual, HasNoSpur}
+use Rattle.move_lifting.proofs.Common.{last_entry, last_of, ◌≡◌, ◌≢◌, inr, inl, ℕ, ◌+◌, ◌-◌, ◌<◌, ◌≤◌, List, [], ◌∷◌, ◌++◌, length, take, get_or, refl, ap, sym, ◌∙◌, subst, arith, append_assoc, length-append, cases_lt, cases_eq, append-nil, get_or_append_left, length-take-le, spur_list_same, FaceList, AreFreelyEqual, HasNoSpur}
 use Rattle.surf_model.proofs.StackLemmas.{AreSame, same_after, same_before, spur_same, same_equal}
-use Rattle.move_lifting.specs.Tracks.{last_of}
 use Rattle.move_lifting.proofs.ListLemmas.{front_and_last, no_spur_front, no_spur_on, one_no_spur}
 
 turned_same : (a b : List ℕ) → AreSame a b → AreSame b a

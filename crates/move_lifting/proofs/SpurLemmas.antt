@@ -1,7 +1,5 @@
 -- Walks from which spurs are taken out as they are laid, up to spurs.
-use Rattle.move_lifting.proofs.Common.{spur_goes, last_entry, free_equality, ◌≡◌, inl, inr, ℕ, ◌+◌, ◌-◌, ◌<◌, ◌≤◌, max, List, [], ◌∷◌, ◌++◌, length, take, drop, get_or, refl, ap, sym, ◌∙◌, subst, arith, append_assoc, append-nil, drop_all, take_all, take_more, drop_more, length-take-le, length-drop, All-nil, All-cons, FaceList, IsSpurMove, AreFreelyEqual, HasNoSpur, PeakedMoves, darts, Move, Remove}
-use Rattle.move_lifting.specs.Lifts.{LeadsAtPeak, IsRemoval, MoreRemove}
-use Rattle.move_lifting.specs.Tracks.{TrackView, GoesOn, GrowsOrShrinks, last_of}
+use Rattle.move_lifting.proofs.Common.{spur_goes, last_entry, LeadsAtPeak, IsRemoval, MoreRemove, TrackView, GoesOn, GrowsOrShrinks, last_of, free_equality, ◌≡◌, inl, inr, ℕ, ◌+◌, ◌-◌, ◌<◌, ◌≤◌, max, List, [], ◌∷◌, ◌++◌, length, take, drop, get_or, refl, ap, sym, ◌∙◌, subst, arith, append_assoc, append-nil, drop_all, take_all, take_more, drop_more, length-take-le, length-drop, All-nil, All-cons, FaceList, IsSpurMove, AreFreelyEqual, HasNoSpur, PeakedMoves, darts, Move, Remove}
 use Rattle.move_lifting.proofs.ListLemmas.{read_on, one_no_spur}
 use Rattle.move_lifting.proofs.LedLemmas.{goes_behind}
 use Rattle.move_lifting.proofs.LeavingLemmas.{more_on, none_more}

@@ -1,9 +1,6 @@
 -- A closed walk that is led off the cotree, with a tail behind it, is the loop of its spokes, up to spurs.
-use Rattle.move_lifting.proofs.Common.{walk_front, OrientedMesh, Loops, spoke, root_is, path_list, path_is, off_walk, SameFreely, way_end, product_from, product_on, step_value, free_group, path_along, path_value, IsGroup, spoke_product, walk_way, IsWay, loop_mul, loop_inv, loop_one, PolygonView, AreWaysUp, HaveFreeSpokes, LeavesCotree, by_loop, path_loop, spokes_along, IsOffCotree, ◌≡◌, ℕ, ◌-◌, ◌<◌, true, List, [], ◌∷◌, ◌++◌, length, ap, sym, ◌∙◌, subst, arith, All, slice_index, list_keeps_walk, AreFreelyEqual, Leads, IsWalk, Move, SplitView, end_from as end_of}
+use Rattle.move_lifting.proofs.Common.{walk_front, OrientedMesh, IsCutSurface, IsFreelyPath, last_of, Loops, spoke, root_is, path_list, path_is, off_walk, SameFreely, way_end, product_from, product_on, step_value, free_group, path_along, path_value, IsGroup, spoke_product, walk_way, IsWay, loop_mul, loop_inv, loop_one, PolygonView, AreWaysUp, HaveFreeSpokes, LeavesCotree, by_loop, path_loop, spokes_along, IsOffCotree, ◌≡◌, ℕ, ◌-◌, ◌<◌, true, List, [], ◌∷◌, ◌++◌, length, ap, sym, ◌∙◌, subst, arith, All, slice_index, list_keeps_walk, AreFreelyEqual, Leads, IsWalk, Move, SplitView, end_from as end_of}
 use Rattle.polygon_cut.proofs.FreeMoveLemmas.{walk_value, moves_keep_value}
-use Rattle.move_lifting.specs.LoopsPutIn.{IsFreelyPath}
-use Rattle.move_lifting.specs.Tracks.{last_of}
-use Rattle.move_lifting.specs.Cuts.{IsCutSurface}
 
 -- what stands behind two elements goes
 cancel_behind : {X : Type 0} (Same : X → X → Type 0) (mul : X → X → X) (inv : X → X) (one : X) → IsGroup Same mul inv one → (a b r : X)

@@ -1,7 +1,7 @@
 -- Walks that lie one after another, and marks for their numbers.
 use Rattle.move_lifting.proofs.Common.{◌≡◌, ℕ, ◌+◌, ◌-◌, ◌≤◌, List, [], ◌∷◌, ◌++◌, length, take, drop, refl, ap, ◌∙◌, arith, drop-append-le, drop_all, length-drop, map-append, take-append-le, take_all, All-head, All-tail, numbers, VertexName}
-use Rattle.move_lifting.specs.declared.spoke_walks.Place.{Place}
 use Rattle.move_lifting.specs.StoredWalks.{AreWithin, stored_walks, walk_at}
+use Rattle.move_lifting.specs.declared.spoke_walks.Place.{Place}
 
 -- a place among the vertices
 abbrev IsWithin : List VertexName → Place → Type 0

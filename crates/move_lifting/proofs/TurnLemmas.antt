@@ -1,7 +1,5 @@
 -- A turn put into a walk: there, round, back, and on.
-use Rattle.move_lifting.proofs.Common.{spliced, last_entry, home_and_there, backward_is, free_equality, IsWay, back, backward, put_behind, ◌≡◌, ℕ, ◌+◌, ◌-◌, ◌<◌, ◌≤◌, max, true, List, [], ◌∷◌, ◌++◌, length, take, drop, get_or, ap, sym, ◌∙◌, subst, arith, append_assoc, length-append, take_rest, drop-map, take-append-drop, take_more, drop_more, length-take-le, length-drop, get_or-take, FaceList, is_edge, AreFreelyEqual, PeakedMoves, all_raised, numbers, IsWalk, Insert, VertexName}
-use Rattle.move_lifting.specs.Lifts.{LeadsAtPeak}
-use Rattle.move_lifting.specs.Tracks.{TrackView, GoesOn, last_of}
+use Rattle.move_lifting.proofs.Common.{spliced, last_entry, LeadsAtPeak, TrackView, GoesOn, last_of, home_and_there, backward_is, free_equality, IsWay, back, backward, put_behind, ◌≡◌, ℕ, ◌+◌, ◌-◌, ◌<◌, ◌≤◌, max, true, List, [], ◌∷◌, ◌++◌, length, take, drop, get_or, ap, sym, ◌∙◌, subst, arith, append_assoc, length-append, take_rest, drop-map, take-append-drop, take_more, drop_more, length-take-le, length-drop, get_or-take, FaceList, is_edge, AreFreelyEqual, PeakedMoves, all_raised, numbers, IsWalk, Insert, VertexName}
 use Rattle.move_lifting.proofs.ExpandLemmas.{length-numbers}
 use Rattle.move_lifting.proofs.BackLemmas.{back_more, length-backward, last_joined, last_back, backward-append, way_apart, way_of}
 use Rattle.move_lifting.proofs.InsertLemmas.{spur_in_last, leads_further_on}

@@ -1,7 +1,5 @@
 -- What a walk weighs on the way off the cotree, and how great the peaks of its moves are.
-use Rattle.move_lifting.proofs.Common.{OrientedMesh, ◌≡◌, inl, inr, ℕ, suc, ◌+◌, ◌*◌, ◌<◌, ◌≤◌, max, List, [], ◌∷◌, ◌++◌, length, ap, ◌∙◌, arith, length-append, SplitView}
-use Rattle.move_lifting.specs.Loads.{load_of, StaysWithin}
-use Rattle.move_lifting.specs.Tracks.{TrackView, GrowsOrShrinks}
+use Rattle.move_lifting.proofs.Common.{OrientedMesh, load_of, StaysWithin, TrackView, GrowsOrShrinks, ◌≡◌, inl, inr, ℕ, suc, ◌+◌, ◌*◌, ◌<◌, ◌≤◌, max, List, [], ◌∷◌, ◌++◌, length, ap, ◌∙◌, arith, length-append, SplitView}
 
 -- what walks weigh that are put together
 pub load-joined : (weight : ℕ → ℕ → ℕ) (front rest : List ℕ) (v : ℕ)

@@ -1,13 +1,11 @@
 -- What a step on a path of spokes does to the loop of the path, up to spurs: nothing, but a turn across the quad of the last side puts the
 -- loop of that side in.
-use Rattle.move_lifting.proofs.Common.{rotation_system, OrientedMesh, IsOrientedSurface, rotations_of, before, behind, Loops, spoke, root_is, up_is, backward_is, path_list, last_loop_as, last_loops, last_list, SameFreely, free_equality, free_group, IsGroup, sides_cross, loop_in, loop_out, free_spur, tree_ways, IsWay, back, loop_mul, loop_inv, loop_one, PolygonView, place_of, across, AreWaysUp, backward, by_loop, path_loop, put_behind, last_side_loop, IsQuadWheel, upper_side, lower_side, loop_of_path, front_of_last, front_of_across, DownWorth, down_worth, polygon_wheel, signed_loop as own_loop, spoke_at, AtPlace, at-place, old_way, new_way, IsTurned, is-turned, spur-is, upper_way, lower_way, quad_turned, from_spoke, from_vertex, ◌≡◌, ◌≢◌, ◌⊎◌, inl, inr, ℕ, suc, ◌+◌, ◌-◌, ◌<◌, Bool, true, false, not, List, [], ◌∷◌, ◌++◌, length, take, refl, ap, sym, ◌∙◌, subst, arith, ap₂, take-append_seam, eq-eqb, ne_eqb, if◌then◌else◌, ◌==◌, slice_index, All, is_used, AreFreelyEqual, IsWalk, after_dart, SplitView, IsSplit, in_cotree, is_left}
+use Rattle.move_lifting.proofs.Common.{rotation_system, OrientedMesh, IsOrientedSurface, rotations_of, IsCutSurface, spokes_in_front, signed_loop, IsFreelyPath, HasLoopIn, before, behind, Loops, spoke, root_is, up_is, backward_is, path_list, last_loop_as, last_loops, last_list, SameFreely, free_equality, free_group, IsGroup, sides_cross, loop_in, loop_out, free_spur, tree_ways, IsWay, back, loop_mul, loop_inv, loop_one, PolygonView, place_of, across, AreWaysUp, backward, by_loop, path_loop, put_behind, last_side_loop, IsQuadWheel, upper_side, lower_side, loop_of_path, front_of_last, front_of_across, DownWorth, down_worth, polygon_wheel, spoke_at, AtPlace, at-place, old_way, new_way, IsTurned, is-turned, spur-is, upper_way, lower_way, quad_turned, from_spoke, from_vertex, ◌≡◌, ◌≢◌, ◌⊎◌, inl, inr, ℕ, suc, ◌+◌, ◌-◌, ◌<◌, Bool, true, false, not, List, [], ◌∷◌, ◌++◌, length, take, refl, ap, sym, ◌∙◌, subst, arith, ap₂, take-append_seam, eq-eqb, ne_eqb, if◌then◌else◌, ◌==◌, slice_index, All, is_used, AreFreelyEqual, IsWalk, after_dart, SplitView, IsSplit, in_cotree, is_left}
 use Rattle.polygon_cut.proofs.FreeQuadLemmas.{last_loop}
+use Rattle.quad_system.proofs.PushWorthLemmas.{signed_loop as own_loop}
 use Rattle.spoke_paths.specs.PathSteps.{spur_goes}
 use Rattle.std.proofs.Common.{Some}
-use Rattle.move_lifting.specs.LoopsPutIn.{signed_loop, IsFreelyPath, HasLoopIn}
-use Rattle.move_lifting.specs.LoopFronts.{spokes_in_front}
 use Rattle.move_lifting.proofs.PathLemmas.{ends_at, quad_partner}
-use Rattle.move_lifting.specs.Cuts.{IsCutSurface}
 
 -- the ways round a quad, by the partner of the side
 old_is : (rises : Bool) (d n : ℕ) (partner : ℕ → ℕ) (at_vertex : Bool) (a c : ℕ) (before after : List ℕ) → d ≡ n → c ≡ partner a

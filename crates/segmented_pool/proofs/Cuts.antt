@@ -1,5 +1,5 @@
 -- Entries of a chain that go, some at a time.
-use Rattle.segmented_pool.proofs.Common.{list_is, list_under-is, Chains, under, IsUnder, IsEdit, list_under, cut, ◌≡◌, ◌≢◌, ℕ, ◌+◌, ◌≤◌, List, length, Some, refl, sym, ap, ◌∙◌, arith, take-append-drop}
+use Rattle.segmented_pool.proofs.Common.{list_is, list_under-is, Chains, under, IsUnder, IsEdit, list_under, cut, ◌≡◌, ◌≢◌, ℕ, ◌+◌, ◌≤◌, List, length, Some, ap, ◌∙◌, arith, common_steps}
 use Rattle.segmented_pool.proofs.Lists.{cut_again, length-cut}
 use Rattle.segmented_pool.proofs.Moved.{live_from}
 
@@ -14,14 +14,7 @@ pub record IsCutSome (old new : Chains) (name from to left : ℕ) : Type 0 where
 pub cut_nothing : (old : Chains) (name from to left : ℕ) → IsUnder old.lists name → from + left ≡ to
     → to ≤ length (list_under old.lists name)
     → IsCutSome old old name from to left
-cut_nothing old name from to left live e le =
-    record {
-      live = live;
-      within = omega arith;
-      list = ap (λ (k : ℕ). cut (list_under old.lists name) from k) e;
-      others = λ other ne. refl;
-      spare = omega arith;
-    }
+cut_nothing old name from to left live e le = grind arith
 
 module _ (old new : Chains) (name from to left : ℕ) (is : IsCutSome old new name from to left) where
   pub cut_some : (after : Chains) (gone rest : ℕ) → gone + rest ≡ left
@@ -33,12 +26,7 @@ module _ (old new : Chains) (name from to left : ℕ) (is : IsCutSome old new na
       let sum : from + gone + rest ≡ from + left = omega (arith, e) in
       record {
         live = live_from after.lists name _ edit.here;
-        within = omega (
-          arith,
-          is.within,
-          ap (λ (l : List ℕ). length l) now,
-          length-cut list from (from + gone) (omega arith) (omega (arith, is.within)),
-        );
+        within = grind (arith, length-cut);
         list = ap (λ (l : List ℕ). cut l from (from + rest)) now ∙ cut_again list from (omega (arith, is.within)) (from + gone) rest
             ∙ ap (λ (k : ℕ). cut list from k) sum ∙ is.list;
         others = λ other ne. edit.others other ne ∙ is.others other ne;
@@ -46,10 +34,4 @@ module _ (old new : Chains) (name from to left : ℕ) (is : IsCutSome old new na
       }
 
   pub cut_done : left ≡ 0 → IsEdit old.lists new.lists name (Some (cut (list_under old.lists name) from to))
-  cut_done none =
-      let here : from + left ≡ from = omega (arith, none) in
-      record {
-        here = list_is new.lists name is.live ∙ ap (λ (l : List ℕ). Some l) (sym (take-append-drop from (list_under new.lists name)))
-            ∙ ap (λ (k : ℕ). Some (cut (list_under new.lists name) from k)) (sym here) ∙ ap (λ (l : List ℕ). Some l) is.list;
-        others = is.others;
-      }
+  cut_done none = grind (arith, common_steps, list_is)

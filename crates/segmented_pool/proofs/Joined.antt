@@ -1,6 +1,5 @@
 -- Lists one after the other, where one of them changes, becomes two or is joined to the next.
-use Rattle.segmented_pool.proofs.Common.{◌≡◌, ℕ, zero, suc, ◌<◌, List, [], ◌∷◌, ◌++◌, length, take, drop, set, refl, sym, ap, ◌∙◌, arith, append_assoc, take-append-drop, concat, insert, remove}
-use Rattle.segmented_pool.specs.Segments.{part}
+use Rattle.segmented_pool.proofs.Common.{part, ◌≡◌, ℕ, zero, suc, ◌<◌, List, [], ◌∷◌, ◌++◌, length, take, drop, set, refl, sym, ap, ◌∙◌, arith, append_assoc, take-append-drop, concat, insert, remove}
 
 pub concat_at : (ps : List (List ℕ)) (k : ℕ) → k < length ps
     → concat ps ≡ concat (take k ps) ++ (part ps k ++ concat (drop (suc k) ps))

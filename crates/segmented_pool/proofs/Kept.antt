@@ -1,7 +1,5 @@
 -- A chain in segments after an edit.
-use Rattle.segmented_pool.proofs.Common.{inserted, cut, ◌≡◌, ℕ, ◌+◌, ◌-◌, ◌<◌, ◌≤◌, List, length, take, set, ◌^◌, sym, ap, subst, ◌∙◌, arith, concat}
-use Rattle.segmented_pool.specs.Segments.{Parts, part, IsMark, IsIn, IsKept}
-use Rattle.segmented_pool.specs.declared.segments.Mark.{Mark}
+use Rattle.segmented_pool.proofs.Common.{inserted, cut, Parts, part, IsMark, IsIn, IsKept, Mark, ◌≡◌, ℕ, ◌+◌, ◌-◌, ◌<◌, ◌≤◌, List, length, take, set, ◌^◌, sym, ap, subst, ◌∙◌, arith, concat}
 use Rattle.segmented_pool.proofs.Lists.{length-inserted, length-cut}
 use Rattle.segmented_pool.proofs.Marks.{mark_after_set, mark_stays, inserted_at, cut_at, end_within}
 
@@ -9,13 +7,7 @@ use Rattle.segmented_pool.proofs.Marks.{mark_after_set, mark_stays, inserted_at,
 pub kept_same : (old new : Parts) (mark : Mark) (len spare : ℕ) → IsMark old.parts mark → len ≡ length (concat old.parts)
     → len + spare < 2 ^ 32 → concat new.parts ≡ concat old.parts → take mark.index new.parts ≡ take mark.index old.parts
     → mark.index < length new.parts → spare ≤ new.spare → IsKept new mark len spare
-kept_same old new mark len spare is counted fits joined before within enough =
-    record {
-      marked = mark_stays old.parts new.parts mark is before within;
-      counted = counted ∙ sym (ap (λ (l : List ℕ). length l) joined);
-      kept_back = enough;
-      fits = fits;
-    }
+kept_same old new mark len spare is counted fits joined before within enough = grind (arith, mark_stays)
 
 module _ (old new : Parts) (last mark : Mark) (len spare : ℕ) (kept : IsKept old last len spare) (is : IsMark old.parts mark) where
   pub list_pushed : (place value : ℕ) → IsIn old.parts mark place

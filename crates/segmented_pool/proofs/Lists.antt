@@ -1,7 +1,6 @@
 -- Edits of a list that is cut in three, and of one whose entries move to another.
-use Rattle.segmented_pool.proofs.Common.{inserted, cut, spliced, ◌≡◌, ℕ, ◌+◌, ◌-◌, ◌<◌, ◌≤◌, List, ◌∷◌, ◌++◌, length, take, drop, get_or, refl, sym, ap, ◌∙◌, arith, append_assoc, get_or-append, take-append-le, drop-append-le, get_or-append-add, get_or-drop, length-take-le, length-drop, drop-drop, take_more, take_all, drop_all, append-nil, take-append-drop}
-use Rattle.std.proofs.Math.ListN.{length-append}
-use Rattle.std.proofs.Math.Seq.{take-append-add, drop-append-add, get_or-append_right, take-append_seam, drop-append_seam}
+use Rattle.segmented_pool.proofs.Common.{inserted, cut, spliced, ◌≡◌, ℕ, ◌+◌, ◌-◌, ◌<◌, ◌≤◌, List, ◌∷◌, ◌++◌, length, take, drop, get_or, refl, sym, ap, ◌∙◌, arith, append_assoc, get_or-append, common_steps, take-append-le, drop-append-le, get_or-append-add, length-take-le, drop-drop}
+use Rattle.std.proofs.Math.Seq.{take-append-add, drop-append-add, take-append_seam, drop-append_seam}
 
 module _ (a p b : List ℕ) where
   take_within : (i : ℕ) → i ≤ length p → take (length a + i) (a ++ (p ++ b)) ≡ a ++ take i p
@@ -31,12 +30,7 @@ module _ (a p b : List ℕ) where
 module _ (list : List ℕ) (place : ℕ) (within : place ≤ length list) where
   -- the entry behind those that went
   pub entry_behind_cut : (to : ℕ) → get_or (cut list place to) place 0 ≡ get_or list to 0
-  entry_behind_cut to =
-      let len : length (take place list) ≡ place = length-take-le place list within in
-      let none : place - length (take place list) ≡ 0 = omega (arith, len) in
-      let same : to + 0 ≡ to = omega arith in
-      get_or-append_right (take place list) (drop to list) place 0 (omega (arith, len))
-      ∙ ap (λ (k : ℕ). get_or (drop to list) k 0) none ∙ get_or-drop to list 0 0 ∙ ap (λ (k : ℕ). get_or list k 0) same
+  entry_behind_cut to = grind (arith, common_steps)
 
   -- more entries go at the same place
   pub cut_again : (to more : ℕ) → cut (cut list place to) place (place + more) ≡ cut list place (to + more)
@@ -52,29 +46,14 @@ module _ (list : List ℕ) (place : ℕ) (within : place ≤ length list) where
 -- one entry more of another list goes in behind the last one
 pub inserted_last : (list : List ℕ) (n value : ℕ) → n < length list → get_or list n 0 ≡ value
     → inserted (take n list) n value ≡ take (n + 1) list
-inserted_last list n value lt e =
-    let len : length (take n list) ≡ n = length-take-le n list (omega arith) in
-    rw (take_all n (take n list) (omega (arith, len)), drop_all n (take n list) (omega (arith, len)), ← e) (sym (take_more list n 0 lt))
+inserted_last list n value lt e = grind (arith, common_steps)
 
 -- a list that goes in behind the last entry of another
 pub spliced_last : (list other : List ℕ) (n : ℕ) → n ≡ length list → spliced list n other ≡ list ++ other
-spliced_last list other n e =
-    rw (take_all n list (omega (arith, e)), drop_all n list (omega (arith, e)), append-nil other) refl
+spliced_last list other n e = grind (arith, common_steps)
 
 pub length-cut : (list : List ℕ) (from to : ℕ) → from ≤ to → to ≤ length list → length (cut list from to) + to ≡ length list + from
-length-cut list from to order le =
-    omega (
-      arith,
-      length-append (take from list) (drop to list),
-      length-take-le from list (omega arith),
-      length-drop to list,
-    )
+length-cut list from to order le = grind (arith, common_steps)
 
 pub length-inserted : (list : List ℕ) (place value : ℕ) → length (inserted list place value) ≡ length list + 1
-length-inserted list place value =
-    omega (
-      arith,
-      length-append (take place list) (value ∷ drop place list),
-      length-append (take place list) (drop place list),
-      ap (λ (l : List ℕ). length l) (take-append-drop place list),
-    )
+length-inserted list place value = grind (arith, common_steps)

@@ -1,7 +1,5 @@
 -- Marks of segments, and what an edit of one segment is of the whole list.
-use Rattle.segmented_pool.proofs.Common.{inserted, cut, ◌≡◌, ℕ, zero, suc, ◌+◌, ◌-◌, ◌<◌, ◌≤◌, List, [], ◌∷◌, ◌++◌, length, take, drop, set, get_or, sym, ap, ◌∙◌, arith, add-one, length-append, take-set, length-set, take_all, concat}
-use Rattle.segmented_pool.specs.Segments.{part, IsMark, IsIn}
-use Rattle.segmented_pool.specs.declared.segments.Mark.{Mark}
+use Rattle.segmented_pool.proofs.Common.{inserted, cut, part, IsMark, IsIn, Mark, ◌≡◌, ℕ, zero, suc, ◌+◌, ◌-◌, ◌<◌, ◌≤◌, List, [], ◌∷◌, ◌++◌, length, take, drop, set, get_or, sym, ap, ◌∙◌, arith, add-one, length-append, common_steps, concat}
 use Rattle.segmented_pool.proofs.Joined.{concat_at, concat_set}
 use Rattle.segmented_pool.proofs.Lists.{inserted_within, cut_within, entry_within, part_within}
 
@@ -20,20 +18,12 @@ length_more (p ∷ ps) (suc k) lt =
 -- the mark of the segment behind another
 pub mark_behind : (ps : List (List ℕ)) (mark next : Mark) → IsMark ps mark → next.index ≡ mark.index + 1 → next.index < length ps
     → next.start ≡ mark.start + length (part ps mark.index) → IsMark ps next
-mark_behind ps mark next is i lt s =
-    let one : next.index ≡ suc mark.index = i ∙ add-one mark.index in
-    record { within = lt; start = rw one (s ∙ omega (arith, is.start, length_more ps mark.index is.within)) }
+mark_behind ps mark next is i lt s = grind (arith, add-one, length_more)
 
 -- and the mark of the segment before
 pub mark_before : (ps : List (List ℕ)) (mark next : Mark) → IsMark ps mark → next.index + 1 ≡ mark.index
     → next.start + length (part ps next.index) ≡ mark.start → IsMark ps next
-mark_before ps mark next is i s =
-    let one : mark.index ≡ suc next.index = sym i ∙ add-one next.index in
-    let lt : next.index < length ps = omega (arith, is.within, i) in
-    record {
-      within = lt;
-      start = omega (arith, length_more ps next.index lt, is.start, ap (λ (k : ℕ). length (concat (take k ps))) one, s);
-    }
+mark_before ps mark next is i s = grind (arith, common_steps, add-one, length_more)
 
 -- a segment that has entries before it is not the first one
 pub some_before : (ps : List (List ℕ)) (mark : Mark) → IsMark ps mark → 0 < mark.start → 0 < mark.index
@@ -58,8 +48,7 @@ module _ (ps : List (List ℕ)) (mark : Mark) (is : IsMark ps mark) where
   behind = concat (drop (suc mark.index) ps)
 
   pub mark_after_set : (l : List ℕ) → IsMark (set ps mark.index l) mark
-  mark_after_set l = mark_stays ps (set ps mark.index l) mark is (take-set ps mark.index l) (omega
-      (arith, is.within, length-set ps mark.index l))
+  mark_after_set l = grind (arith, common_steps, mark_stays)
 
   -- the segment lies within the list
   pub end_within : mark.start + length here ≤ length (concat ps)
@@ -108,15 +97,11 @@ module _ (ps : List (List ℕ)) (mark : Mark) (is : IsMark ps mark) where
 
 -- what lies before the segment before a mark
 pub before_start : (ps : List (List ℕ)) (mark : Mark) (k : ℕ) → IsMark ps mark → k + 1 ≡ mark.index → length (part ps k) ≤ mark.start
-before_start ps mark k is e =
-    let one : mark.index ≡ suc k = sym e ∙ add-one k in
-    omega (arith, length_more ps k (omega (arith, is.within, e)), is.start, ap (λ (j : ℕ). length (concat (take j ps))) one)
+before_start ps mark k is e = grind (arith, add-one, length_more)
 
 -- the last segment ends where the list ends
 pub end_of_last : (ps : List (List ℕ)) (k : ℕ) → k + 1 ≡ length ps → length (concat (take k ps)) + length (part ps k) ≡ length (concat ps)
-end_of_last ps k e =
-    let all : concat (take (suc k) ps) ≡ concat ps = ap (λ (l : List (List ℕ)). concat l) (take_all (suc k) ps (omega (arith, e))) in
-    omega (arith, length_more ps k (omega (arith, e)), ap (λ (l : List ℕ). length l) all)
+end_of_last ps k e = grind (arith, common_steps, length_more)
 
 pub last_mark : (ps : List (List ℕ)) (mark : Mark) → mark.index + 1 ≡ length ps
     → mark.start + length (part ps mark.index) ≡ length (concat ps)
@@ -136,7 +121,4 @@ neighbours (p ∷ q ∷ ps) (suc k) (suc j) e lt =
 
 pub found_last : (ps : List (List ℕ)) (mark : Mark) (place : ℕ) → IsMark ps mark → mark.start ≤ place → place ≤ length (concat ps)
     → length ps ≤ mark.index + 1 → IsIn ps mark place
-found_last ps mark place is from within last =
-    let ends : mark.start + length (part ps mark.index) ≡ length (concat ps) =
-    omega (arith, is.start, end_of_last ps mark.index (omega (arith, is.within))) in
-    record { from = from; to = omega arith; below = λ lt. omega arith }
+found_last ps mark place is from within last = grind (arith, end_of_last)

@@ -1,5 +1,5 @@
 -- Entries that go from one chain of a pool to another.
-use Rattle.segmented_pool.proofs.Common.{list_is, list_under-is, Chains, under, IsUnder, IsEdit, list_under, inserted, cut, ◌≡◌, ◌≢◌, ℕ, ◌+◌, ◌-◌, ◌<◌, ◌≤◌, List, [], ◌++◌, length, take, drop, get_or, Option, Some, None, is_some, sym, ap, ◌∙◌, arith, length-take-le, length-drop, get_or-drop, take-append-drop}
+use Rattle.segmented_pool.proofs.Common.{list_is, list_under-is, Chains, under, IsUnder, IsEdit, list_under, inserted, cut, ◌≡◌, ◌≢◌, ℕ, ◌+◌, ◌-◌, ◌<◌, ◌≤◌, List, [], ◌++◌, length, take, drop, get_or, Option, Some, None, is_some, sym, ap, ◌∙◌, arith, common_steps, length-drop, get_or-drop, take-append-drop}
 use Rattle.segmented_pool.proofs.Lists.{entry_behind_cut, cut_again, inserted_last}
 
 -- so many entries from a place of a chain on lie in another chain, which was none before
@@ -40,15 +40,7 @@ module _ (old new : Chains) (name taken place moved : ℕ) (is : IsMoved old new
   pub taken_stays : (read mid : Chains) → read ≡ new
       → IsEdit read.lists mid.lists name (Some (cut (list_under read.lists name) place (place + 1)))
       → moved ≤ length list - place → moved ≤ length (list_under mid.lists taken)
-  taken_stays read mid same edit le =
-      let other : taken ≢ name = λ e. is.apart (sym e) in
-      let stays : under mid.lists taken ≡ Some (take moved (drop place list)) =
-      edit.others taken other ∙ ap (λ (v : Chains). under v.lists taken) same ∙ is.there in
-      omega (
-        arith,
-        ap (λ (l : List ℕ). length l) (list_under-is mid.lists taken _ stays),
-        length-take-le moved (drop place list) (omega (arith, length-drop place list)),
-      )
+  taken_stays read mid same edit le = grind (arith, common_steps, under, list_under-is)
 
   pub moved_more : (read mid after : Chains) (value : ℕ) → read ≡ new → place ≤ length list → moved < length list - place
       → value ≡ get_or (list_under new.lists name) place 0

@@ -1,8 +1,6 @@
 -- What edits of a pool do to a row of its chains.
-use Rattle.segmented_pool.proofs.Common.{list_under-is, under, IsUnder, list_under, spliced, ◌≡◌, ◌≢◌, ℕ, zero, suc, ◌+◌, ◌<◌, ◌≤◌, List, [], ◌∷◌, ◌++◌, length, take, drop, set, get_or, Option, Some, None, refl, sym, ap, subst, ◌∙◌, arith, length-map, length-take-le, length-drop, insert, remove}
+use Rattle.segmented_pool.proofs.Common.{list_under-is, under, IsUnder, list_under, spliced, lists_of, part, IsSegment, IsApart, AreSegments, Segment, ◌≡◌, ◌≢◌, ℕ, zero, suc, ◌+◌, ◌<◌, ◌≤◌, List, [], ◌∷◌, ◌++◌, length, take, drop, set, get_or, Option, Some, None, refl, sym, ap, subst, ◌∙◌, arith, length-map, length-take-le, length-drop, insert, remove}
 use Rattle.std.proofs.Math.ListN.{length-append}
-use Rattle.segmented_pool.specs.Segments.{lists_of, part, IsSegment, IsApart, AreSegments}
-use Rattle.segmented_pool.specs.declared.segments.Segment.{Segment}
 use Rattle.segmented_pool.proofs.Lists.{spliced_last}
 use Rattle.segmented_pool.proofs.Moved.{live_from}
 use Rattle.segmented_pool.proofs.Joined.{split_at, joined_at}

@@ -1,8 +1,6 @@
 -- Rows of chains, where a chain changes, comes or goes.
-use Rattle.segmented_pool.proofs.Common.{under, list_under, ◌≡◌, ◌≢◌, ℕ, zero, suc, ◌<◌, List, [], ◌∷◌, length, set, get_or, Option, None, refl, sym, ap, subst, ◌∙◌, arith, insert, remove}
+use Rattle.segmented_pool.proofs.Common.{under, list_under, lists_of, IsSegment, IsApart, AreSegments, Segment, ◌≡◌, ◌≢◌, ℕ, zero, suc, ◌<◌, List, [], ◌∷◌, length, set, get_or, Option, None, refl, sym, ap, subst, ◌∙◌, arith, insert, remove}
 use Rattle.chain_pool.specs.declared.cells.CellName.{CellName}
-use Rattle.segmented_pool.specs.Segments.{lists_of, IsSegment, IsApart, AreSegments}
-use Rattle.segmented_pool.specs.declared.segments.Segment.{Segment}
 
 -- each of these segments but that of one name has the list that it had
 abbrev pub AreKept : List (Option (List ℕ)) → List (Option (List ℕ)) → ℕ → List Segment → Type 0

@@ -1,5 +1,4 @@
-use Rattle.doubling.proofs.Common.{◌≡◌}
-use Rattle.doubling.specs.Building.{with_faces}
+use Rattle.doubling.proofs.Common.{with_faces, ◌≡◌}
 use Rattle.doubling.proofs.building.put_faces.Given as goal
 
 abbrev pub invariant-loop-face : goal.invariant-loop-face

@@ -1,5 +1,4 @@
-use Rattle.doubling.proofs.Common.{◌≡◌, take, numbers}
-use Rattle.doubling.specs.Doubles.{mirror_face}
+use Rattle.doubling.proofs.Common.{mirror_face, ◌≡◌, take, numbers}
 use Rattle.doubling.proofs.building.put_mirror.Given as goal
 
 abbrev pub invariant-loop-place : goal.invariant-loop-place

@@ -1,15 +1,10 @@
-use Rattle.doubling.proofs.Common.{◌+◌, length, ◌∙◌, sym, arith, rules, numbers}
-use Rattle.doubling.specs.Doubles.{mirror_face}
-use Rattle.doubling.specs.Building.{with_mirrors, EndsEarly}
+use Rattle.doubling.proofs.Common.{with_mirrors, EndsEarly, mirror_face, ◌+◌, length, ◌∙◌, sym, arith, rules, numbers}
 use Rattle.doubling.proofs.BuildingLemmas.{mirror_next_face, ends_early, mirrors_first, length-numbers}
 use Rattle.doubling.proofs.DoubleFaces.{length-mirror_face}
 use Rattle.doubling.proofs.building.put_mirrors.Goals as goal
 
 pub loop-face-preserved : goal.loop-face-preserved
-loop-face-preserved c =
-    c.in_ok-put_mirror.ensures.put
-    ∙ mirror_next_face c.args.faces.now c.loop-face.face c.count.result c.loop-face.double (numbers c.ring.result.now)
-    c.loop-face.invariant c.count.ensures.count c.ring.ensures.ring (omega (arith, c.len-face-end.ensures.count))
+loop-face-preserved c = grind (arith, mirror_next_face)
 
 pub returns-in_err-put_mirror-clause-fault : goal.returns-in_err-put_mirror-clause-fault
 returns-in_err-put_mirror-clause-fault c =

@@ -1,5 +1,4 @@
-use Rattle.doubling.proofs.Common.{◌≡◌}
-use Rattle.doubling.specs.Building.{with_mirrors}
+use Rattle.doubling.proofs.Common.{with_mirrors, ◌≡◌}
 use Rattle.doubling.proofs.building.put_mirrors.Given as goal
 
 abbrev pub invariant-loop-face : goal.invariant-loop-face

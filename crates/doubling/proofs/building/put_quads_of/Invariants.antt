@@ -1,5 +1,4 @@
-use Rattle.doubling.proofs.Common.{◌≡◌, ◌+◌, first_side}
-use Rattle.doubling.specs.Building.{with_quads}
+use Rattle.doubling.proofs.Common.{with_quads, ◌≡◌, ◌+◌, first_side}
 use Rattle.doubling.proofs.building.put_quads_of.Given as goal
 
 abbrev pub invariant-loop-at : goal.invariant-loop-at

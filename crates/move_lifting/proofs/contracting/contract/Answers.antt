@@ -1,6 +1,5 @@
-use Rattle.move_lifting.proofs.Common.{after_path_step, PathLeads, PathStep, Spur, ◌≡◌, ℕ, ◌≤◌, List, [], length, get_or, refl, ap, sym, ◌∙◌, subst, arith}
+use Rattle.move_lifting.proofs.Common.{IsFreelyPath, after_path_step, PathLeads, PathStep, Spur, ◌≡◌, ℕ, ◌≤◌, List, [], length, get_or, refl, ap, sym, ◌∙◌, subst, arith}
 use Rattle.std.proofs.Common.{Some}
-use Rattle.move_lifting.specs.LoopsPutIn.{IsFreelyPath}
 use Rattle.move_lifting.proofs.ContractLemmas.{led_walk, next_allowed, contracted_on, all_contracted, one_left}
 use Rattle.move_lifting.proofs.ShortStepLemmas.{step_no_longer}
 use Rattle.move_lifting.proofs.contracting.contract.Goals as goal

@@ -1,6 +1,4 @@
-use Rattle.move_lifting.proofs.Common.{darts_of, ℕ, ◌+◌, ◌*◌, ◌≤◌, length, drop}
-use Rattle.move_lifting.specs.SpokeWalks.{IsLooper}
-use Rattle.move_lifting.specs.TurnPeaks.{KeepsBound}
+use Rattle.move_lifting.proofs.Common.{darts_of, IsLooper, KeepsBound, ℕ, ◌+◌, ◌*◌, ◌≤◌, length, drop}
 use Rattle.move_lifting.proofs.ContractLemmas.{IsContracted}
 use Rattle.move_lifting.proofs.contracting.contract.Given as goal
 

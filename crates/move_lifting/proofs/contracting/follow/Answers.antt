@@ -1,9 +1,5 @@
-use Rattle.move_lifting.proofs.Common.{AreShortAround, some-turn, after_path_step, PathStep, ◌≡◌, ◌⊎◌, inl, inr, ℕ, ◌+◌, ◌-◌, ◌*◌, ◌<◌, ◌≤◌, List, length, ap, sym, ◌∙◌, subst, arith, IfOk-weaker, All, slice_index, IsQuad}
+use Rattle.move_lifting.proofs.Common.{spokes_in_front, IsFreelyPath, HasLoopIn, TrackView, MOST_LIFTED_DARTS, AreShortAround, some-turn, after_path_step, PathStep, ◌≡◌, ◌⊎◌, inl, inr, ℕ, ◌+◌, ◌-◌, ◌*◌, ◌<◌, ◌≤◌, List, length, ap, sym, ◌∙◌, subst, arith, IfOk-weaker, All, slice_index, IsQuad}
 use Rattle.std.proofs.Common.{Some}
-use Rattle.move_lifting.specs.LoopFronts.{spokes_in_front}
-use Rattle.move_lifting.specs.LoopsPutIn.{IsFreelyPath, HasLoopIn}
-use Rattle.move_lifting.specs.Tracks.{TrackView}
-use Rattle.move_lifting.specs.declared.expanding.TheConstants.{MOST_LIFTED_DARTS}
 use Rattle.move_lifting.proofs.ContractLemmas.{spur_follows, turn_follows, loop_starts, loop_follows, quad_below, front_below, both_ok}
 use Rattle.move_lifting.proofs.ShortStepLemmas.{front_short}
 use Rattle.move_lifting.proofs.contracting.follow.Goals as goal

@@ -1,6 +1,4 @@
-use Rattle.move_lifting.proofs.Common.{edge_of, rotations_of, IsDartFrom, ◌≡◌, ℕ, false, sym, ap, ◌∙◌, subst, Option, option_map, MatchOption, Some, None, IsSide, side_number, FaceName, below_edge, in_cotree}
-use Rattle.move_lifting.specs.Crossings.{GoesAlong, IsFaceBelow}
-use Rattle.move_lifting.specs.declared.crossing.FaceStep.{FaceStep}
+use Rattle.move_lifting.proofs.Common.{edge_of, rotations_of, IsDartFrom, GoesAlong, IsFaceBelow, FaceStep, ◌≡◌, ℕ, false, sym, ap, ◌∙◌, subst, Option, option_map, MatchOption, Some, None, IsSide, side_number, FaceName, below_edge, in_cotree}
 use Rattle.move_lifting.proofs.CrossingLemmas.{below_step, not_below}
 use Rattle.move_lifting.proofs.crossing.face_below.Goals as goal
 use Rattle.move_lifting.proofs.crossing.face_below.Goals.{After-unwrap-dart}

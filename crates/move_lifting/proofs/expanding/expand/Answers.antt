@@ -1,7 +1,4 @@
-use Rattle.move_lifting.proofs.Common.{darts_of, ◌≡◌, List, [], ℕ, ◌*◌, ◌≤◌, ap, ◌∙◌, subst, arith, mul-le-mul_left, IfOk-weaker, list_keeps_ends, PeakedMoves, numbers, darts}
-use Rattle.move_lifting.specs.Lifts.{LeadsAtPeak}
-use Rattle.move_lifting.specs.Loads.{IsLedOn}
-use Rattle.move_lifting.specs.declared.lifted.Lifted.{Lifted}
+use Rattle.move_lifting.proofs.Common.{darts_of, LeadsAtPeak, IsLedOn, Lifted, ◌≡◌, List, [], ℕ, ◌*◌, ◌≤◌, ap, ◌∙◌, subst, arith, mul-le-mul_left, IfOk-weaker, list_keeps_ends, PeakedMoves, numbers, darts}
 use Rattle.move_lifting.proofs.BoundLemmas.{IsShort, short_walk, three_darts}
 use Rattle.move_lifting.proofs.ExpandLemmas.{led_whole}
 use Rattle.move_lifting.proofs.expanding.expand.Goals as goal

@@ -1,5 +1,4 @@
-use Rattle.move_lifting.proofs.Common.{IsOffCotree, ◌≡◌, ℕ, ◌+◌, ◌-◌, ◌<◌, List, length, get_or, ap, sym, ◌∙◌, subst, arith, get_or-map, is_edge, numbers, VertexName}
-use Rattle.move_lifting.specs.Tracks.{TrackView}
+use Rattle.move_lifting.proofs.Common.{TrackView, IsOffCotree, ◌≡◌, ℕ, ◌+◌, ◌-◌, ◌<◌, List, length, get_or, ap, sym, ◌∙◌, subst, arith, get_or-map, is_edge, numbers, VertexName}
 use Rattle.move_lifting.proofs.ExpandLemmas.{edge_to, led_first, led_more, led_all, length-numbers}
 use Rattle.move_lifting.proofs.expanding.lead_all.Goals as goal
 

@@ -1,5 +1,4 @@
-use Rattle.move_lifting.proofs.Common.{IsOffCotree, ◌≡◌, ◌+◌, ◌*◌, ◌≤◌, [], length, numbers}
-use Rattle.move_lifting.specs.declared.expanding.TheConstants.{MOST_LIFTED_SIDES}
+use Rattle.move_lifting.proofs.Common.{MOST_LIFTED_SIDES, IsOffCotree, ◌≡◌, ◌+◌, ◌*◌, ◌≤◌, [], length, numbers}
 use Rattle.move_lifting.proofs.ExpandLemmas.{IsLedSoFar}
 use Rattle.move_lifting.proofs.expanding.lead_all.Given as goal
 

@@ -1,6 +1,4 @@
-use Rattle.move_lifting.proofs.Common.{darts_of, edge_of, rotations_of, IsDartFrom, ◌≡◌, ℕ, ◌+◌, ◌≤◌, false, List, [], ◌∷◌, ◌++◌, length, sym, ap, ◌∙◌, subst, arith, nil_from_length, FaceList, face_at, is_edge, numbers, VertexName, in_cotree}
-use Rattle.move_lifting.specs.Tracks.{TrackView, last_of}
-use Rattle.move_lifting.specs.Crossings.{IsFaceBelow, IsCrossed}
+use Rattle.move_lifting.proofs.Common.{darts_of, edge_of, rotations_of, IsDartFrom, IsFaceBelow, IsCrossed, TrackView, last_of, ◌≡◌, ℕ, ◌+◌, ◌≤◌, false, List, [], ◌∷◌, ◌++◌, length, sym, ap, ◌∙◌, subst, arith, nil_from_length, FaceList, face_at, is_edge, numbers, VertexName, in_cotree}
 use Rattle.move_lifting.proofs.ExpandLemmas.{under_way, all_come, one_pending, length-numbers, room_along, room_across, put_on_way, cross_on_way, all_led, rest_turned_to}
 use Rattle.move_lifting.proofs.expanding.lead_on.Goals as goal
 use Rattle.move_lifting.proofs.expanding.lead_on.Goals.{in-Some-face_below+in_ok-cross-in-Some-face_below, in-None+in_ok-put-in-None, In_default, After-len}

@@ -1,5 +1,4 @@
-use Rattle.move_lifting.proofs.Common.{Bool, true, false, not, refl, ◌≡◌, ℕ, ◌<◌, List, length, get_or, ap, sym, ◌∙◌, arith, eqb-true, get_or-map, take_more_same, numbers, VertexName}
-use Rattle.move_lifting.specs.PooledWalks.{Pooled}
+use Rattle.move_lifting.proofs.Common.{Pooled, Bool, true, false, not, refl, ◌≡◌, ℕ, ◌<◌, List, length, get_or, ap, sym, ◌∙◌, arith, eqb-true, get_or-map, take_more_same, numbers, VertexName}
 use Rattle.move_lifting.proofs.ExpandLemmas.{length-numbers}
 use Rattle.move_lifting.proofs.inserting.common_start.Goals as goal
 

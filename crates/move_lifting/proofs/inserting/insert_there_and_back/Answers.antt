@@ -1,6 +1,4 @@
-use Rattle.move_lifting.proofs.Common.{backward, ◌≡◌, ℕ, ◌-◌, ◌+◌, ◌++◌, List, length, take, drop, ap, sym, subst, arith, get_or-map, take_all, PeakedMoves, numbers, VertexName}
-use Rattle.move_lifting.specs.Tracks.{last_of}
-use Rattle.move_lifting.specs.Lifts.{LeadsAtPeak}
+use Rattle.move_lifting.proofs.Common.{LeadsAtPeak, last_of, backward, ◌≡◌, ℕ, ◌-◌, ◌+◌, ◌++◌, List, length, take, drop, ap, sym, subst, arith, get_or-map, take_all, PeakedMoves, numbers, VertexName}
 use Rattle.move_lifting.proofs.ExpandLemmas.{length-numbers}
 use Rattle.move_lifting.proofs.TurnLemmas.{out_more}
 use Rattle.move_lifting.proofs.inserting.insert_there_and_back.Goals as goal

@@ -1,6 +1,4 @@
-use Rattle.move_lifting.proofs.Common.{backward, ◌≡◌, ℕ, ◌+◌, ◌-◌, ◌≤◌, ◌++◌, max, List, length, take, drop, FaceList, numbers, IsWalk}
-use Rattle.move_lifting.specs.Lifts.{LeadsAtPeak}
-use Rattle.move_lifting.specs.Tracks.{last_of}
+use Rattle.move_lifting.proofs.Common.{LeadsAtPeak, last_of, backward, ◌≡◌, ℕ, ◌+◌, ◌-◌, ◌≤◌, ◌++◌, max, List, length, take, drop, FaceList, numbers, IsWalk}
 use Rattle.move_lifting.proofs.inserting.insert_there_and_back.Given as goal
 
 abbrev pub invariant-loop-place : goal.invariant-loop-place

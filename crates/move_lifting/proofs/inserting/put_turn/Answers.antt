@@ -1,7 +1,4 @@
-use Rattle.move_lifting.proofs.Common.{spliced, refl, ◌<◌, ◌≡◌, ◌≢◌, ℕ, ◌+◌, ◌-◌, ◌++◌, List, length, drop, take, get_or, ap, sym, ◌∙◌, subst, arith, IfOk-weaker, PeakedMoves, all_raised, numbers}
-use Rattle.move_lifting.specs.Lifts.{LeadsAtPeak}
-use Rattle.move_lifting.specs.PooledWalks.{Pooled}
-use Rattle.move_lifting.specs.Tracks.{last_of}
+use Rattle.move_lifting.proofs.Common.{spliced, LeadsAtPeak, Pooled, last_of, refl, ◌<◌, ◌≡◌, ◌≢◌, ℕ, ◌+◌, ◌-◌, ◌++◌, List, length, drop, take, get_or, ap, sym, ◌∙◌, subst, arith, IfOk-weaker, PeakedMoves, all_raised, numbers}
 use Rattle.move_lifting.proofs.ExpandLemmas.{length-numbers}
 use Rattle.move_lifting.proofs.BackPeakLemmas.{turn_rises}
 use Rattle.move_lifting.proofs.TurnLemmas.{BeginAlike, turned_whole, spliced_whole, back_long, length-turned_whole, turn_goes, turn_freely, turn_last}

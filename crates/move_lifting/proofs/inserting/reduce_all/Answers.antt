@@ -1,5 +1,4 @@
-use Rattle.move_lifting.proofs.Common.{◌≡◌, ℕ, ◌+◌, ◌-◌, ◌<◌, List, length, ap, arith, get_or-map, numbers, VertexName}
-use Rattle.move_lifting.specs.Tracks.{TrackView}
+use Rattle.move_lifting.proofs.Common.{TrackView, ◌≡◌, ℕ, ◌+◌, ◌-◌, ◌<◌, List, length, ap, arith, get_or-map, numbers, VertexName}
 use Rattle.move_lifting.proofs.ExpandLemmas.{length-numbers}
 use Rattle.move_lifting.proofs.SpurLemmas.{reduced_first, reduced_more, reduced_all}
 use Rattle.move_lifting.proofs.inserting.reduce_all.Goals as goal

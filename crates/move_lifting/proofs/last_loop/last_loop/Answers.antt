@@ -1,10 +1,5 @@
-use Rattle.move_lifting.proofs.Common.{darts_of, origin_of, side_at, last_side, ◌≡◌, ℕ, ◌-◌, ◌<◌, ◌∷◌, ◌++◌, [], List, length, not, get_or, refl, sym, ap, ◌∙◌, subst, arith, append-nil, IfOk-weaker, FaceList, face_at, PeakedMoves, apply, numbers, darts, Move, Across, VertexName}
-use Rattle.move_lifting.specs.Crossings.{IsStepOf}
-use Rattle.move_lifting.specs.Lifts.{LeadsAtPeak}
-use Rattle.move_lifting.specs.Loads.{IsLedOn}
-use Rattle.move_lifting.specs.SpokeWalks.{IsLastLoop}
+use Rattle.move_lifting.proofs.Common.{darts_of, origin_of, IsStepOf, LeadsAtPeak, IsLedOn, IsLastLoop, Lifted, side_at, last_side, ◌≡◌, ℕ, ◌-◌, ◌<◌, ◌∷◌, ◌++◌, [], List, length, not, get_or, refl, sym, ap, ◌∙◌, subst, arith, append-nil, IfOk-weaker, FaceList, face_at, PeakedMoves, apply, numbers, darts, Move, Across, VertexName}
 use Rattle.move_lifting.specs.declared.cut.Cut.{Cut}
-use Rattle.move_lifting.specs.declared.lifted.Lifted.{Lifted}
 use Rattle.move_lifting.proofs.BoundLemmas.{IsShort, short_within}
 use Rattle.move_lifting.proofs.ExpandLemmas.{length-numbers}
 use Rattle.move_lifting.proofs.LastLoopLemmas.{IsAllRound, round_leads, round_freely, gone_round, last_below, step_within, step_starts}

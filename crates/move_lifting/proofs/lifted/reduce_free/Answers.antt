@@ -1,6 +1,4 @@
-use Rattle.move_lifting.proofs.Common.{◌≡◌, List, [], ◌++◌, length, ℕ, sym, ap, ◌∙◌, subst, arith, IfOk-weaker, All, list_keeps_ends, FaceList, PeakedMoves, numbers}
-use Rattle.move_lifting.specs.Lifts.{LeadsAtPeak, IsRemoval}
-use Rattle.move_lifting.specs.declared.lifted.Lifted.{Lifted}
+use Rattle.move_lifting.proofs.Common.{LeadsAtPeak, IsRemoval, Lifted, ◌≡◌, List, [], ◌++◌, length, ℕ, sym, ap, ◌∙◌, subst, arith, IfOk-weaker, All, list_keeps_ends, FaceList, PeakedMoves, numbers}
 use Rattle.move_lifting.proofs.MoveLemmas.{removals_peak}
 use Rattle.move_lifting.proofs.lifted.reduce_free.Goals as goal
 use Rattle.move_lifting.proofs.lifted.reduce_free.Goals.{In_ok-track}

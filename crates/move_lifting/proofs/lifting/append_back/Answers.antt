@@ -1,6 +1,4 @@
-use Rattle.move_lifting.proofs.Common.{◌≡◌, ℕ, ◌+◌, ◌-◌, ◌<◌, ◌++◌, ◌∷◌, [], List, length, drop, get_or, max, sym, ap, ◌∙◌, subst, arith, length-append, PeakedMoves, numbers, Insert}
-use Rattle.move_lifting.specs.Lifts.{LeadsAtPeak}
-use Rattle.move_lifting.specs.Tracks.{last_of}
+use Rattle.move_lifting.proofs.Common.{LeadsAtPeak, last_of, ◌≡◌, ℕ, ◌+◌, ◌-◌, ◌<◌, ◌++◌, ◌∷◌, [], List, length, drop, get_or, max, sym, ap, ◌∙◌, subst, arith, length-append, PeakedMoves, numbers, Insert}
 use Rattle.move_lifting.proofs.CloseLemmas.{goes_on_back}
 use Rattle.move_lifting.proofs.ExpandLemmas.{one_pending, length-numbers}
 use Rattle.move_lifting.proofs.LedLemmas.{last-push}

@@ -1,6 +1,4 @@
-use Rattle.move_lifting.proofs.Common.{◌≡◌, ◌+◌, ◌*◌, ◌-◌, ◌≤◌, ◌++◌, max, ℕ, List, length, drop, get_or, FaceList, numbers, IsWalk, darts}
-use Rattle.move_lifting.specs.Lifts.{LeadsAtPeak}
-use Rattle.move_lifting.specs.Tracks.{last_of}
+use Rattle.move_lifting.proofs.Common.{LeadsAtPeak, last_of, ◌≡◌, ◌+◌, ◌*◌, ◌-◌, ◌≤◌, ◌++◌, max, ℕ, List, length, drop, get_or, FaceList, numbers, IsWalk, darts}
 use Rattle.move_lifting.proofs.lifting.append_back.Given as goal
 
 abbrev pub invariant-loop-done : goal.invariant-loop-done

@@ -1,5 +1,4 @@
-use Rattle.move_lifting.proofs.Common.{◌++◌, ℕ, List, length, ap, drop, sym, ◌∙◌, subst, arith, length-drop, IfOk-weaker, PeakedMoves, numbers, VertexName}
-use Rattle.move_lifting.specs.Lifts.{LeadsAtPeak}
+use Rattle.move_lifting.proofs.Common.{LeadsAtPeak, ◌++◌, ℕ, List, length, ap, drop, sym, ◌∙◌, subst, arith, length-drop, IfOk-weaker, PeakedMoves, numbers, VertexName}
 use Rattle.move_lifting.proofs.ContractLemmas.{both_ok}
 use Rattle.move_lifting.proofs.ExpandLemmas.{length-numbers}
 use Rattle.move_lifting.proofs.LiftLemmas.{closed_from}

@@ -1,6 +1,4 @@
-use Rattle.move_lifting.proofs.Common.{places_within, HaveFewerDarts, fewer_darts, left_together, left_apart, left_leads, darts_of, ◌≡◌, ℕ, ◌+◌, ◌*◌, ◌≤◌, length, sym, ap, subst, arith, mul-le-mul_right, length-map, FaceList, Homotopic, PeakedMoves, raised, darts, AreWalkPair}
-use Rattle.move_lifting.specs.Lifts.{HasLowPeak, IsShortList, LeadsAtPeak}
-use Rattle.move_lifting.specs.declared.expanding.TheConstants.{MOST_LIFTED_DARTS}
+use Rattle.move_lifting.proofs.Common.{places_within, HaveFewerDarts, fewer_darts, left_together, left_apart, left_leads, darts_of, HasLowPeak, IsShortList, LeadsAtPeak, MOST_LIFTED_DARTS, ◌≡◌, ℕ, ◌+◌, ◌*◌, ◌≤◌, length, sym, ap, subst, arith, mul-le-mul_right, length-map, FaceList, Homotopic, PeakedMoves, raised, darts, AreWalkPair}
 use Rattle.move_lifting.proofs.BoundLemmas.{three_darts, low_around, low_most}
 use Rattle.move_lifting.proofs.lifting.lift.Goals as goal
 use Rattle.move_lifting.proofs.lifting.lift.Goals.{In_ok-second, In-Some}

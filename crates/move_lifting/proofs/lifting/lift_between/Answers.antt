@@ -1,15 +1,10 @@
-use Rattle.move_lifting.proofs.Common.{darts_of, spokes_along, PathLeads, ◌≡◌, ℕ, ◌+◌, ◌*◌, ◌≤◌, true, List, [], length, drop, sym, ap, ◌∙◌, subst, arith, both_ways, length-drop, PeakedMoves, numbers, darts}
-use Rattle.move_lifting.specs.Contractions.{IsLedFrom}
-use Rattle.move_lifting.specs.Lifts.{HasLowPeak}
-use Rattle.move_lifting.specs.Loads.{IsLedOn}
-use Rattle.move_lifting.specs.Tracks.{GoesOn, TrackView}
+use Rattle.move_lifting.proofs.Common.{darts_of, IsLedFrom, IsCutSurface, HasLowPeak, IsLedOn, GoesOn, TrackView, spokes_along, PathLeads, ◌≡◌, ℕ, ◌+◌, ◌*◌, ◌≤◌, true, List, [], length, drop, sym, ap, ◌∙◌, subst, arith, both_ways, length-drop, PeakedMoves, numbers, darts}
 use Rattle.move_lifting.proofs.BoundLemmas.{IsShort, short_walk, three_darts, is_few, is_low}
 use Rattle.move_lifting.proofs.ExpandLemmas.{length-numbers}
 use Rattle.move_lifting.proofs.LiftLemmas.{IsClosed, closed_is, IsLedOff, off_cotree, second_left, second_stays, second_there, homotopic_leaves_nothing, steps_to_nothing, begun_freely}
 use Rattle.move_lifting.proofs.ShortStepLemmas.{walk_spokes}
 use Rattle.move_lifting.proofs.lifting.lift_between.Goals as goal
 use Rattle.move_lifting.proofs.lifting.lift_between.Goals.{In_ok-begun, In_ok-closed, In_ok-reduction}
-use Rattle.move_lifting.specs.Cuts.{IsCutSurface}
 
 -- the closed walk leads on from the first walk, with the second behind it
 closed : (c : In_ok-closed)

@@ -1,5 +1,4 @@
-use Rattle.move_lifting.proofs.Common.{◌≡◌, ◌++◌, ◌-◌, Bool, List, ℕ, length, take, drop, refl, ap, sym, ◌∙◌, subst, on_ok_weaker, AreFreelyEqual, numbers}
-use Rattle.move_lifting.specs.SpokeWalks.{along_or_back}
+use Rattle.move_lifting.proofs.Common.{along_or_back, ◌≡◌, ◌++◌, ◌-◌, Bool, List, ℕ, length, take, drop, refl, ap, sym, ◌∙◌, subst, on_ok_weaker, AreFreelyEqual, numbers}
 use Rattle.move_lifting.proofs.LayLemmas.{behind_first}
 use Rattle.move_lifting.proofs.looping.put_spoke.Goals as goal
 

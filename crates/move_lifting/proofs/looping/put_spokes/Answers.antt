@@ -1,5 +1,4 @@
-use Rattle.move_lifting.proofs.Common.{ℕ, ◌++◌, true, List, length, get_or, ap, subst, arith, take_all, AreFreelyEqual, numbers}
-use Rattle.move_lifting.specs.SpokeWalks.{walks_loop}
+use Rattle.move_lifting.proofs.Common.{walks_loop, ℕ, ◌++◌, true, List, length, get_or, ap, subst, arith, take_all, AreFreelyEqual, numbers}
 use Rattle.move_lifting.proofs.ApproachLemmas.{walk_within}
 use Rattle.move_lifting.proofs.ExpandLemmas.{length-numbers}
 use Rattle.move_lifting.proofs.FrontLemmas.{turned_more, walked_more}

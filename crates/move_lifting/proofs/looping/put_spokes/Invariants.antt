@@ -1,5 +1,4 @@
-use Rattle.move_lifting.proofs.Common.{◌≡◌, ◌<◌, ◌++◌, true, length, take, FaceList, AreFreelyEqual, HasNoSpur, numbers}
-use Rattle.move_lifting.specs.SpokeWalks.{walks_loop}
+use Rattle.move_lifting.proofs.Common.{walks_loop, ◌≡◌, ◌<◌, ◌++◌, true, length, take, FaceList, AreFreelyEqual, HasNoSpur, numbers}
 use Rattle.move_lifting.proofs.FrontLemmas.{turned_by}
 use Rattle.move_lifting.proofs.looping.put_spokes.Given as goal
 

@@ -1,5 +1,4 @@
-use Rattle.move_lifting.proofs.Common.{List, subst, IfOk-weaker, numbers, VertexName}
-use Rattle.move_lifting.specs.Loads.{IsLedOn}
+use Rattle.move_lifting.proofs.Common.{IsLedOn, List, subst, IfOk-weaker, numbers, VertexName}
 use Rattle.move_lifting.proofs.LedLemmas.{led_after, led_from, led_walk}
 use Rattle.move_lifting.proofs.passing.lead_in_passes.Goals as goal
 

@@ -1,6 +1,4 @@
-use Rattle.move_lifting.proofs.Common.{OrientedMesh, ◌≡◌, ℕ, List, length, ap, sym, subst, arith, numbers, VertexName, SplitView}
-use Rattle.move_lifting.specs.Loads.{IsLedOn}
-use Rattle.move_lifting.specs.Tracks.{TrackView}
+use Rattle.move_lifting.proofs.Common.{OrientedMesh, IsLedOn, TrackView, ◌≡◌, ℕ, List, length, ap, sym, subst, arith, numbers, VertexName, SplitView}
 use Rattle.move_lifting.proofs.ExpandLemmas.{length-numbers}
 use Rattle.move_lifting.proofs.LedLemmas.{led_after, led_from, led_itself, led_walk}
 use Rattle.move_lifting.proofs.passing.pass_over.Goals as goal

@@ -1,6 +1,4 @@
-use Rattle.move_lifting.proofs.Common.{◌*◌, ◌≤◌, length, numbers}
-use Rattle.move_lifting.specs.declared.expanding.TheConstants.{MOST_PASSED_ENTRIES}
-use Rattle.move_lifting.specs.Loads.{IsLedOn}
+use Rattle.move_lifting.proofs.Common.{IsLedOn, MOST_PASSED_ENTRIES, ◌*◌, ◌≤◌, length, numbers}
 use Rattle.move_lifting.proofs.passing.pass_over.Given as goal
 
 abbrev pub invariant-loop-pass : goal.invariant-loop-pass

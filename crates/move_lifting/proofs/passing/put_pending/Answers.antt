@@ -1,5 +1,4 @@
-use Rattle.move_lifting.proofs.Common.{◌≡◌, ℕ, ◌+◌, ◌++◌, List, length, subst, arith, length-append, refl, append-nil, nil_from_length, reverse, numbers, VertexName}
-use Rattle.move_lifting.specs.Loads.{IsLedOn}
+use Rattle.move_lifting.proofs.Common.{IsLedOn, ◌≡◌, ℕ, ◌+◌, ◌++◌, List, length, subst, arith, length-append, refl, append-nil, nil_from_length, reverse, numbers, VertexName}
 use Rattle.move_lifting.proofs.PassLemmas.{put_more}
 use Rattle.move_lifting.proofs.LedLemmas.{led_itself, led_put}
 use Rattle.move_lifting.proofs.ExpandLemmas.{length-numbers}

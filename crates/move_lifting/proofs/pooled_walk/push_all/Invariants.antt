@@ -1,5 +1,4 @@
-use Rattle.move_lifting.proofs.Common.{take, numbers}
-use Rattle.move_lifting.specs.PooledWalks.{IsPushed}
+use Rattle.move_lifting.proofs.Common.{IsPushed, take, numbers}
 use Rattle.move_lifting.proofs.pooled_walk.push_all.Given as goal
 
 abbrev pub invariant-loop-vertex : goal.invariant-loop-vertex

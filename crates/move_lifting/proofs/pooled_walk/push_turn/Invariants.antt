@@ -1,5 +1,4 @@
-use Rattle.move_lifting.proofs.Common.{take, drop}
-use Rattle.move_lifting.specs.PooledWalks.{IsPushed}
+use Rattle.move_lifting.proofs.Common.{IsPushed, take, drop}
 use Rattle.move_lifting.proofs.pooled_walk.push_turn.Given as goal
 
 abbrev pub invariant-loop-place : goal.invariant-loop-place

@@ -1,5 +1,4 @@
-use Rattle.move_lifting.proofs.Common.{PathStep, Spur, ◌≡◌, ℕ, suc, ◌+◌, List, [], ◌∷◌, length, take, ap, ◌∙◌, arith, length-take-le}
-use Rattle.move_lifting.specs.Reductions.{spurs_of}
+use Rattle.move_lifting.proofs.Common.{spurs_of, PathStep, Spur, ◌≡◌, ℕ, suc, ◌+◌, List, [], ◌∷◌, length, take, ap, ◌∙◌, arith, length-take-le}
 use Rattle.move_lifting.proofs.ReductionLemmas.{few_spurs, spurs_next}
 use Rattle.move_lifting.proofs.reducing.spurs_in.Goals as goal
 use Rattle.move_lifting.proofs.reducing.spurs_in.Goals.{in-Spur, in_default}

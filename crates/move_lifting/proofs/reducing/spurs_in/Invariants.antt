@@ -1,5 +1,4 @@
-use Rattle.move_lifting.proofs.Common.{◌≡◌, take}
-use Rattle.move_lifting.specs.Reductions.{spurs_of}
+use Rattle.move_lifting.proofs.Common.{spurs_of, ◌≡◌, take}
 use Rattle.move_lifting.proofs.reducing.spurs_in.Given as goal
 
 abbrev pub invariant-loop-step : goal.invariant-loop-step

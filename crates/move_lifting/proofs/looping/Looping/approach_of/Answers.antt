@@ -1,5 +1,4 @@
-use Rattle.move_lifting.proofs.Common.{backward, ℕ, ◌++◌, ◌∷◌, [], true, List, subst, arith, append_assoc, AreFreelyEqual, numbers}
-use Rattle.move_lifting.specs.SpokeWalks.{walks_loop}
+use Rattle.move_lifting.proofs.Common.{walks_loop, backward, ℕ, ◌++◌, ◌∷◌, [], true, List, subst, arith, append_assoc, AreFreelyEqual, numbers}
 use Rattle.move_lifting.proofs.LayLemmas.{laid_two}
 use Rattle.move_lifting.proofs.looping.Looping.approach_of.Goals as goal
 

@@ -1,14 +1,11 @@
-use Rattle.move_lifting.proofs.Common.{places_below, darts_of, origin_of, OrientedMesh, side_at, PolygonView, last_side, ◌≡◌, ℕ, ◌-◌, ◌<◌, ◌∷◌, [], true, List, get_or, ap, sym, ◌∙◌, subst, arith, is_used, HasNoSpur, numbers, SplitView}
-use Rattle.move_lifting.specs.SpokeWalks.{IsLastLoop, IsLooping}
-use Rattle.move_lifting.specs.Tracks.{last_of}
+use Rattle.move_lifting.proofs.Common.{places_below, darts_of, origin_of, OrientedMesh, IsLastLoop, IsLooping, last_of, MOST_LIFTED_DARTS, side_at, PolygonView, last_side, ◌≡◌, ℕ, ◌-◌, ◌<◌, ◌∷◌, [], true, List, get_or, ap, sym, ◌∙◌, subst, arith, is_used, HasNoSpur, numbers, SplitView}
+use Rattle.move_lifting.specs.declared.looping.Looping.{Looping}
 use Rattle.move_lifting.proofs.ApproachLemmas.{goes_end, goes_start, goes_some, goes_walk}
 use Rattle.move_lifting.proofs.ExpandLemmas.{length-numbers}
 use Rattle.move_lifting.proofs.LastLoopLemmas.{last_below}
 use Rattle.move_lifting.proofs.LoopInLemmas.{IsReady, is_ready, picked, loop_put_in, IsByTree}
 use Rattle.move_lifting.proofs.LoopRiseLemmas.{loop_rises, loop_room}
 use Rattle.move_lifting.proofs.TreeUpLemmas.{origin_used}
-use Rattle.move_lifting.specs.declared.expanding.TheConstants.{MOST_LIFTED_DARTS}
-use Rattle.move_lifting.specs.declared.looping.Looping.{Looping}
 use Rattle.move_lifting.proofs.looping.Looping.put_loop.Goals as goal
 use Rattle.move_lifting.proofs.looping.Looping.put_loop.Goals.{After-turn}
 

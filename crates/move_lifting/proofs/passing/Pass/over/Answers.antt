@@ -1,5 +1,4 @@
-use Rattle.move_lifting.proofs.Common.{◌≡◌, ℕ, ◌+◌, ◌-◌, ◌<◌, List, length, get_or, ap, ◌∙◌, arith, get_or-map, is_edge, numbers, VertexName}
-use Rattle.move_lifting.specs.Tracks.{TrackView}
+use Rattle.move_lifting.proofs.Common.{TrackView, ◌≡◌, ℕ, ◌+◌, ◌-◌, ◌<◌, List, length, get_or, ap, ◌∙◌, arith, get_or-map, is_edge, numbers, VertexName}
 use Rattle.move_lifting.proofs.ExpandLemmas.{edge_to, led_first, led_more, led_all, length-numbers}
 use Rattle.move_lifting.proofs.passing.Pass.over.Goals as goal
 

@@ -1,5 +1,4 @@
-use Rattle.move_lifting.proofs.Common.{◌≡◌, ◌+◌, ◌≤◌, [], length, numbers}
-use Rattle.move_lifting.specs.declared.expanding.TheConstants.{MOST_PASSED_ENTRIES}
+use Rattle.move_lifting.proofs.Common.{MOST_PASSED_ENTRIES, ◌≡◌, ◌+◌, ◌≤◌, [], length, numbers}
 use Rattle.move_lifting.proofs.ExpandLemmas.{IsLedSoFar}
 use Rattle.move_lifting.proofs.passing.Pass.over.Given as goal
 

@@ -1,8 +1,4 @@
-use Rattle.move_lifting.proofs.Common.{◌≡◌, ℕ, ◌+◌, ◌≤◌, List, ◌∷◌, [], ◌++◌, length, ap, subst, arith, length-append, on_ok_weaker, reverse, Result, Ok, Err, OnOk, FaceList, face_at, numbers, VertexName}
-use Rattle.move_lifting.specs.Crossings.{IsFaceBelow, IsCrossed, beyond}
-use Rattle.move_lifting.specs.Loads.{IsLedOn}
-use Rattle.move_lifting.specs.Tracks.{TrackView, last_of}
-use Rattle.move_lifting.specs.declared.expanding.TheConstants.{MOST_PASSED_ENTRIES}
+use Rattle.move_lifting.proofs.Common.{IsFaceBelow, IsCrossed, beyond, IsLedOn, TrackView, last_of, MOST_PASSED_ENTRIES, ◌≡◌, ℕ, ◌+◌, ◌≤◌, List, ◌∷◌, [], ◌++◌, length, ap, subst, arith, length-append, on_ok_weaker, reverse, Result, Ok, Err, OnOk, FaceList, face_at, numbers, VertexName}
 use Rattle.move_lifting.proofs.ExpandLemmas.{length-numbers, crossed_led, rest_of_step}
 use Rattle.move_lifting.proofs.PassLemmas.{crossed_on}
 use Rattle.move_lifting.proofs.passing.Pass.step.Goals as goal

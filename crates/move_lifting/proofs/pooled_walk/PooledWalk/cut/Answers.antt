@@ -1,5 +1,4 @@
-use Rattle.move_lifting.proofs.Common.{list_of, cut, ◌≤◌, length, ap, arith}
-use Rattle.move_lifting.specs.PooledWalks.{Pooled}
+use Rattle.move_lifting.proofs.Common.{list_of, cut, Pooled, ◌≤◌, length, ap, arith}
 use Rattle.move_lifting.proofs.ChainLemmas.{alone_on, length-cut}
 use Rattle.move_lifting.proofs.pooled_walk.PooledWalk.cut.Goals as goal
 

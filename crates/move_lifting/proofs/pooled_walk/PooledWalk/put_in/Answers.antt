@@ -1,5 +1,4 @@
-use Rattle.move_lifting.proofs.Common.{spliced, ℕ, ◌++◌, List, length, drop, ap, ◌∙◌, ◌+◌, arith, length-drop, length-map, numbers, VertexName}
-use Rattle.move_lifting.specs.PooledWalks.{Pooled, IsPushed}
+use Rattle.move_lifting.proofs.Common.{spliced, Pooled, IsPushed, ℕ, ◌++◌, List, length, drop, ap, ◌∙◌, ◌+◌, arith, length-drop, length-map, numbers, VertexName}
 use Rattle.move_lifting.proofs.ChainLemmas.{IsPutIn, put_in, pushed_both}
 use Rattle.move_lifting.proofs.pooled_walk.PooledWalk.put_in.Goals as goal
 use Rattle.move_lifting.proofs.pooled_walk.PooledWalk.put_in.Goals.{After-splice}

@@ -1,5 +1,4 @@
-use Rattle.move_lifting.proofs.Common.{list_of, length, ap, arith}
-use Rattle.move_lifting.specs.PooledWalks.{Pooled}
+use Rattle.move_lifting.proofs.Common.{list_of, Pooled, length, ap, arith}
 use Rattle.move_lifting.proofs.ChainLemmas.{alone_alike, reserved_fits}
 use Rattle.move_lifting.proofs.pooled_walk.PooledWalk.reserve.Goals as goal
 

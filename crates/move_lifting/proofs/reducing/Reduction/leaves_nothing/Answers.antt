@@ -1,5 +1,4 @@
-use Rattle.move_lifting.proofs.Common.{◌≡◌, ℕ, ◌/◌, ◌%◌, List, length, ap, ◌∙◌, arith, eq-eqb, eqb-true, nil_from_length}
-use Rattle.move_lifting.specs.Reductions.{spurs_of}
+use Rattle.move_lifting.proofs.Common.{spurs_of, ◌≡◌, ℕ, ◌/◌, ◌%◌, List, length, ap, ◌∙◌, arith, eq-eqb, eqb-true, nil_from_length}
 use Rattle.move_lifting.proofs.ReductionLemmas.{steps_long}
 use Rattle.move_lifting.proofs.reducing.Reduction.leaves_nothing.Goals as goal
 

@@ -1,6 +1,5 @@
-use Rattle.move_lifting.proofs.Common.{spokes_along, free_walk_below, HasQuads, ℕ, ◌<◌, List, length, sym, ◌∙◌, subst, All, numbers}
+use Rattle.move_lifting.proofs.Common.{IsCutSurface, spokes_along, free_walk_below, HasQuads, ℕ, ◌<◌, List, length, sym, ◌∙◌, subst, All, numbers}
 use Rattle.move_lifting.proofs.PathLemmas.{has_quads}
-use Rattle.move_lifting.specs.Cuts.{IsCutSurface}
 use Rattle.move_lifting.proofs.reducing.Reduction.of.Goals as goal
 
 pub reduce_spokes-requires-clause-quads : goal.reduce_spokes-requires-clause-quads

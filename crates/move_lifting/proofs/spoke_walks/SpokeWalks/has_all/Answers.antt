@@ -1,5 +1,4 @@
-use Rattle.move_lifting.proofs.Common.{subst, arith, take_all, All-more, All}
-use Rattle.move_lifting.specs.SpokeWalks.{HasWalk}
+use Rattle.move_lifting.proofs.Common.{HasWalk, subst, arith, take_all, All-more, All}
 use Rattle.move_lifting.proofs.spoke_walks.SpokeWalks.has_all.Goals as goal
 
 pub loop-spoke-preserved : goal.loop-spoke-preserved

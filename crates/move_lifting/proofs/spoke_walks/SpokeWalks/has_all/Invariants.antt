@@ -1,5 +1,4 @@
-use Rattle.move_lifting.proofs.Common.{take, All}
-use Rattle.move_lifting.specs.SpokeWalks.{HasWalk}
+use Rattle.move_lifting.proofs.Common.{HasWalk, take, All}
 use Rattle.move_lifting.proofs.spoke_walks.SpokeWalks.has_all.Given as goal
 
 abbrev pub invariant-loop-spoke : goal.invariant-loop-spoke

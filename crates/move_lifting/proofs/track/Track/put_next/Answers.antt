@@ -1,5 +1,4 @@
-use Rattle.move_lifting.proofs.Common.{◌≡◌, ℕ, ◌-◌, ◌+◌, ◌<◌, max, [], ◌∷◌, ◌++◌, length, take, get_or, ap, sym, ◌∙◌, subst, arith, HasNoSpur, Remove}
-use Rattle.move_lifting.specs.Tracks.{TrackView, IsNextPut}
+use Rattle.move_lifting.proofs.Common.{TrackView, IsNextPut, ◌≡◌, ℕ, ◌-◌, ◌+◌, ◌<◌, max, [], ◌∷◌, ◌++◌, length, take, get_or, ap, sym, ◌∙◌, subst, arith, HasNoSpur, Remove}
 use Rattle.move_lifting.proofs.InPlaceLemmas.{next_back}
 use Rattle.move_lifting.proofs.track.Track.put_next.Goals as goal
 

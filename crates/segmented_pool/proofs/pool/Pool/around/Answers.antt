@@ -1,5 +1,4 @@
-use Rattle.segmented_pool.proofs.Common.{Chains, ◌≡◌, ◌+◌, List, ℕ, length, reverse, take, drop, ap, sym, ◌∙◌, arith, length-append, length-reverse, concat}
-use Rattle.segmented_pool.specs.Segments.{part}
+use Rattle.segmented_pool.proofs.Common.{Chains, part, ◌≡◌, ◌+◌, List, ℕ, length, take, drop, ap, sym, ◌∙◌, arith, common_steps, concat}
 use Rattle.segmented_pool.proofs.Marks.{end_within, part_at}
 use Rattle.segmented_pool.proofs.Only.{only_list}
 use Rattle.segmented_pool.proofs.pool.Pool.around.Goals as goal
@@ -7,13 +6,7 @@ use Rattle.segmented_pool.proofs.pool.Pool.around.Goals as goal
 -- both sides together have the entries of the segment
 sides : (c : goal.After-halves)
     → length c.halves.result.before + length c.halves.result.behind ≡ length (part c.self.inside.segments.parts c.find-mark.result.index)
-sides c =
-    omega (
-      arith,
-      length-append (reverse c.halves.result.before) c.halves.result.behind,
-      length-reverse c.halves.result.before,
-      ap (λ (l : List ℕ). length l) c.halves.ensures,
-    )
+sides c = grind (arith, common_steps)
 
 pub returns-clause-list : goal.returns-clause-list
 returns-clause-list c =

@@ -3,8 +3,7 @@ use Rattle.segmented_pool.proofs.Cuts.{cut_nothing, cut_some, cut_done}
 use Rattle.segmented_pool.proofs.pool.Pool.cut_between.Goals as goal
 
 pub loop-left-init : goal.loop-left-init
-loop-left-init c =
-    cut_nothing c.args.self.now c.args.chain.0 c.args.from c.args.to _ c.requires.live (omega arith) c.requires.place
+loop-left-init c = grind (arith, cut_nothing)
 
 pub cut_some-left-requires-clause-live : goal.cut_some-left-requires-clause-live
 cut_some-left-requires-clause-live c = c.loop-left.invariant.live

@@ -1,5 +1,4 @@
-use Rattle.segmented_pool.proofs.Common.{Chains, cut, ◌≡◌, ◌+◌, ◌-◌, List, ℕ, set, refl, ap, sym, ◌∙◌, arith, concat}
-use Rattle.segmented_pool.specs.Segments.{part}
+use Rattle.segmented_pool.proofs.Common.{Chains, cut, part, ◌≡◌, ◌+◌, ◌-◌, List, ℕ, set, refl, ap, sym, ◌∙◌, arith, concat}
 use Rattle.segmented_pool.proofs.Kept.{kept_cut, list_cut}
 use Rattle.segmented_pool.proofs.Only.{only_list, only_edit}
 use Rattle.segmented_pool.proofs.pool.Pool.cut_some.Goals as goal

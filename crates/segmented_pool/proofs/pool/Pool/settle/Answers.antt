@@ -1,41 +1,16 @@
-use Rattle.segmented_pool.proofs.Common.{◌≡◌, ◌+◌, ◌-◌, arith, refl}
+use Rattle.segmented_pool.proofs.Common.{◌≡◌, ◌+◌, ◌-◌, arith}
 use Rattle.segmented_pool.proofs.Kept.{kept_same}
 use Rattle.segmented_pool.proofs.Marks.{neighbours, before_start, mark_before}
 use Rattle.segmented_pool.proofs.pool.Pool.settle.Goals as goal
 
 pub overflow_add-before : goal.overflow_add-before
-overflow_add-before c =
-    let mark = c.self.inside.mark in
-    omega (
-      arith,
-      c.len-before.ensures,
-      c.len-len.ensures,
-      c.self.invariant.counted,
-      c.self.invariant.fits,
-      neighbours c.self.inside.segments.parts (mark.index - 1) mark.index (omega
-          (arith, c.if-index-gt0.true)) c.self.invariant.marked.within,
-    )
+overflow_add-before c = grind (arith, neighbours)
 
 pub overflow_sub-self-then-len-eq0 : goal.overflow_sub-self-then-len-eq0
-overflow_sub-self-then-len-eq0 c =
-    let mark = c.self.inside.mark in
-    omega (
-      arith,
-      c.len-before.ensures,
-      before_start c.self.inside.segments.parts mark (mark.index - 1) c.self.invariant.marked (omega (arith, c.if-index-gt0.true)),
-    )
+overflow_sub-self-then-len-eq0 c = grind (arith, before_start)
 
 pub overflow_add-len : goal.overflow_add-len
-overflow_add-len c =
-    let mark = c.self.inside.mark in
-    omega (
-      arith,
-      c.len.ensures,
-      c.len-len.ensures,
-      c.self.invariant.counted,
-      c.self.invariant.fits,
-      neighbours c.self.inside.segments.parts mark.index (mark.index + 1) refl (omega (arith, c.count.ensures, c.if-index-count.true)),
-    )
+overflow_add-len c = grind (arith, neighbours)
 
 pub invariant_of-self : goal.invariant_of-self
 invariant_of-self c =

@@ -6,13 +6,7 @@ pub overflow_sub-index : goal.overflow_sub-index
 overflow_sub-index c = some_before c.args.self.now.parts c.args.mark c.requires.mark c.requires.before
 
 pub overflow_sub-result : goal.overflow_sub-result
-overflow_sub-result c =
-    omega (
-      arith,
-      c.len.ensures,
-      before_start c.args.self.now.parts c.args.mark (c.args.mark.index - 1) c.requires.mark
-          (omega (arith, some_before c.args.self.now.parts c.args.mark c.requires.mark c.requires.before)),
-    )
+overflow_sub-result c = grind (arith, before_start, some_before)
 
 pub returns-clause-mark : goal.returns-clause-mark
 returns-clause-mark c =

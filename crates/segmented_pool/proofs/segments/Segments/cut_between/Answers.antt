@@ -1,6 +1,4 @@
-use Rattle.segmented_pool.proofs.Common.{cut, List, ℕ, ◌-◌, set, ap, arith}
-use Rattle.segmented_pool.specs.Segments.{Parts, part, AreSegments}
-use Rattle.segmented_pool.specs.declared.segments.Segment.{Segment}
+use Rattle.segmented_pool.proofs.Common.{cut, Parts, part, AreSegments, Segment, List, ℕ, ◌-◌, set, ap, arith}
 use Rattle.segmented_pool.proofs.Rows.{parts_are}
 use Rattle.segmented_pool.proofs.RowEdits.{here, live, changed, sound}
 use Rattle.segmented_pool.proofs.Lists.{length-cut}
@@ -12,12 +10,7 @@ cut_between-requires-clause-live c =
     c.index_mut-segment.ensures.value
 
 pub overflow_sub-segment-2 : goal.overflow_sub-segment-2
-overflow_sub-segment-2 c =
-    omega (
-      arith,
-      (here _ _ _ c.self.invariant (ap (λ (v : Parts). v.parts) c.self.view_is) c.args.index _ c.requires.index
-          c.index_mut-segment.ensures.value).counted,
-    )
+overflow_sub-segment-2 c = grind (arith, here)
 
 -- the row and its lists after the edit
 abbrev row : goal.After-self-1 → List Segment

@@ -1,5 +1,4 @@
-use Rattle.segmented_pool.proofs.Common.{ap}
-use Rattle.segmented_pool.specs.Segments.{Parts}
+use Rattle.segmented_pool.proofs.Common.{Parts, ap}
 use Rattle.segmented_pool.proofs.RowEdits.{live}
 use Rattle.segmented_pool.proofs.segments.Segments.halves.Goals as goal
 

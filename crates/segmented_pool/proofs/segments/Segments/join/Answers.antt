@@ -1,7 +1,5 @@
-use Rattle.segmented_pool.proofs.Common.{suc, ◌+◌, ◌≡◌, List, ℕ, length, take, set, refl, get_or, ap, sym, subst, ◌∙◌, arith, add-one, concat, remove}
-use Rattle.segmented_pool.specs.Segments.{Parts, part, AreSegments}
+use Rattle.segmented_pool.proofs.Common.{Parts, AreSegments, Segment, suc, ◌+◌, ◌≡◌, List, ℕ, take, set, refl, get_or, ap, sym, subst, ◌∙◌, arith, add-one, common_steps, concat, remove}
 use Rattle.segmented_pool.proofs.Rows.{parts_are}
-use Rattle.segmented_pool.specs.declared.segments.Segment.{Segment}
 use Rattle.segmented_pool.proofs.RowEdits.{here, live, listed, differ, united, sound}
 use Rattle.segmented_pool.proofs.Joined.{joined_at, join_joined, join_before}
 use Rattle.segmented_pool.proofs.segments.Segments.join.Goals as goal
@@ -18,36 +16,13 @@ splice-requires-clause-other_live c =
     (add-one c.args.index) c.remove-other.ensures.value)
 
 pub splice-requires-clause-differ : goal.splice-requires-clause-differ
-splice-requires-clause-differ c =
-    differ _ _ _ c.self.invariant (ap (λ (v : Parts). v.parts) c.self.view_is)
-    c.args.index _ (omega (arith, c.requires.index)) c.index-segment.ensures _ (omega (arith, c.requires.index))
-    (subst (λ (k : ℕ). c.remove-other.result ≡ get_or c.self.inside.row.items k c.remove-other.result)
-    (add-one c.args.index) c.remove-other.ensures.value)
+splice-requires-clause-differ c = grind (arith, common_steps, differ, add-one)
 
 pub splice-requires-clause-place : goal.splice-requires-clause-place
-splice-requires-clause-place c =
-    omega (
-      arith,
-      (here _ _ _ c.self.invariant (ap (λ (v : Parts). v.parts) c.self.view_is)
-          c.args.index _ (omega (arith, c.requires.index)) c.index-segment.ensures).counted,
-      ap (λ (l : List ℕ). length l) (listed _ _ _ c.self.invariant (ap (λ (v : Parts). v.parts) c.self.view_is)
-          c.args.index _ (omega (arith, c.requires.index)) c.index-segment.ensures),
-    )
+splice-requires-clause-place c = grind (arith, here, listed)
 
 pub overflow_add-segment : goal.overflow_add-segment
-overflow_add-segment c =
-    let more : length (part c.args.self.now.parts (c.args.index + 1)) ≡ length (part c.args.self.now.parts (suc c.args.index)) =
-    ap (λ (k : ℕ). length (part c.args.self.now.parts k)) (add-one c.args.index) in
-    omega (
-      arith,
-      c.requires.few,
-      more,
-      (here _ _ _ c.self.invariant (ap (λ (v : Parts). v.parts) c.self.view_is)
-          c.args.index _ (omega (arith, c.requires.index)) c.index-segment.ensures).counted,
-      (here _ _ _ c.self.invariant (ap (λ (v : Parts). v.parts) c.self.view_is) (suc c.args.index) _ (omega (arith, c.requires.index))
-          (subst (λ (k : ℕ). c.remove-other.result ≡ get_or c.self.inside.row.items k c.remove-other.result)
-          (add-one c.args.index) c.remove-other.ensures.value)).counted,
-    )
+overflow_add-segment c = grind (arith, add-one, here)
 
 -- the row after the edit
 abbrev row : goal.After-self-1 → List Segment

@@ -13,13 +13,7 @@ overflow_sub-result c =
     )
 
 pub returns-clause-mark : goal.returns-clause-mark
-returns-clause-mark c =
-    last_mark c.args.self.now.parts _ (omega (arith, c.requires.some, c.count-index.ensures)) (omega (
-      arith,
-      c.len.ensures,
-      c.requires.len,
-      end_of_last c.args.self.now.parts (c.count-index.result - 1) (omega (arith, c.requires.some, c.count-index.ensures)),
-    ))
+returns-clause-mark c = grind (arith, last_mark, end_of_last)
 
 pub returns-clause-end : goal.returns-clause-end
 returns-clause-end c =

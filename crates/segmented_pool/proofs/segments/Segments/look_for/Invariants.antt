@@ -1,5 +1,4 @@
-use Rattle.segmented_pool.proofs.Common.{◌-◌, ◌≤◌, length}
-use Rattle.segmented_pool.specs.Segments.{IsMark}
+use Rattle.segmented_pool.proofs.Common.{IsMark, ◌-◌, ◌≤◌, length}
 use Rattle.segmented_pool.proofs.segments.Segments.look_for.Given as goal
 
 abbrev pub invariant-loop-mark : goal.invariant-loop-mark
