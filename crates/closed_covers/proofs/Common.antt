@@ -1,4 +1,4 @@
--- What proofs of this crate cite of others, passed on from one place (by tools/imports). Declares nothing.
+-- What proofs of this crate cite of its definitions and of other crates, passed on from one place (by tools/imports). Declares nothing.
 pub use Rattle.closed_doubles.proofs.SideSums.{below, below-add, below-alike, by_faces, face_sum, faces_sum, faces_sum-append, side_sum}
 pub use Rattle.connectivity.proofs.CornerLemmas.{after_in_mesh, corner_below, corner_used, corner_vertex, used_corner}
 pub use Rattle.double_covers.proofs.CoverFaces.{IsOver, all_faces, begins_on, each_over, edge_lifted, face_over, over_below, over_is}

@@ -89,41 +89,17 @@ module _ (turns : ℕ → ℕ → Bool) (swap : (u v : ℕ) → turns u v ≡ tu
   -- one of the two darts over a dart of the edge joins the ends of an edge over it
   along : (s : Bool) (u v : ℕ) → u < count → v < count → u ≢ v
       → both_over turns count (on_edge (over count s u) (over count (sheet_behind turns s u v) v)) u v ≡ 1
-  along s u v lu lv apart =
-      let a : ℕ = over count s u in
-      let b : ℕ = over count (sheet_behind turns s u v) v in
-      let dart : Bool → ℕ = λ p. on_edge a b (over count p u) (over count (sheet_behind turns p u v) v) in
-      let other : dart (not s) ≡ 0 =
-      off_edge a b (over count (not s) u) (over count (sheet_behind turns (not s) u v) v)
-      (λ e. not_itself s (apart_over count (not s) s u u lu lu e.0).sheets)
-      (λ e. apart (apart_over count (not s) (sheet_behind turns s u v) u v lu lv e.0).below) in
-      omega (arith, either_order dart s (not s) refl, on_itself a b, other)
+  along s u v lu lv apart = grind (arith, over, on_edge, off_edge, not_itself, apart_over, either_order, on_itself)
 
   against : (s : Bool) (u v : ℕ) → u < count → v < count → u ≢ v
       → both_over turns count (on_edge (over count s u) (over count (sheet_behind turns s u v) v)) v u ≡ 1
-  against s u v lu lv apart =
-      let t : Bool = sheet_behind turns s u v in
-      let a : ℕ = over count s u in
-      let b : ℕ = over count t v in
-      let dart : Bool → ℕ = λ p. on_edge a b (over count p v) (over count (sheet_behind turns p v u) u) in
-      let home : dart t ≡ 1 =
-      ap (λ (p : Bool). on_edge a b b (over count p u)) (back turns swap s u v) ∙ on_turned a b in
-      let other : dart (not t) ≡ 0 =
-      off_edge a b (over count (not t) v) (over count (sheet_behind turns (not t) v u) u)
-      (λ e. apart (sym (apart_over count (not t) s v u lv lu e.0).below))
-      (λ e. not_itself t (apart_over count (not t) t v v lv lv e.0).sheets) in
-      omega (arith, either_order dart t (not t) refl, home, other)
+  against s u v lu lv apart = grind (arith, over, on_edge, back, on_turned, off_edge, apart_over, not_itself, either_order)
 
   -- and none over another dart
   away : (s t : Bool) (u v x y : ℕ) → u < count → v < count → x < count → y < count
       → ((x ≡ u) × (y ≡ v) → ⊥) → ((x ≡ v) × (y ≡ u) → ⊥)
       → both_over turns count (on_edge (over count s u) (over count t v)) x y ≡ 0
-  away s t u v x y lu lv lx ly one other =
-      let none : (p q : Bool) → on_edge (over count s u) (over count t v) (over count p x) (over count q y) ≡ 0 =
-      λ p q. off_edge (over count s u) (over count t v) (over count p x) (over count q y)
-      (λ e. one ((apart_over count p s x u lx lu e.0).below, (apart_over count q t y v ly lv e.1).below))
-      (λ e. other ((apart_over count p t x v lx lv e.0).below, (apart_over count q s y u ly lu e.1).below)) in
-      omega (arith, none false (sheet_behind turns false x y), none true (sheet_behind turns true x y))
+  away s t u v x y lu lv lx ly one other = grind (arith, on_edge, over, off_edge, apart_over)
 
   on_lifted : (s : Bool) (u v x y : ℕ) → u < count → v < count → x < count → y < count → x ≢ y
       → both_over turns count (on_edge (over count s u) (over count (sheet_behind turns s u v) v)) x y ≡ on_edge u v x y
@@ -188,10 +164,8 @@ cover_two_sides mesh turns valid are two a b is =
     let v : ℕ = head_of mesh low in
     let s : Bool = start_sheet mesh turns above.upper low in
     let edge : is_edge mesh u v ≡ true = step_edge mesh low.face.0 true low.at above.in_mesh.face above.in_mesh.place in
-    let tail : tail_of cover found.side ≡ over mesh.count s u =
-    ap (tail_of cover) above.is ∙ over_tail mesh turns above.upper low above.in_mesh in
-    let head : head_of cover found.side ≡ over mesh.count (sheet_behind turns s u v) v =
-    ap (head_of cover) above.is ∙ over_head mesh turns are above.upper low above.in_mesh in
+    let tail : tail_of cover found.side ≡ over mesh.count s u = grind (arith, over_tail) in
+    let head : head_of cover found.side ≡ over mesh.count (sheet_behind turns s u v) v = grind (arith, head_of, over_head) in
     let there : sides_between cover (over mesh.count s u) (over mesh.count (sheet_behind turns s u v) v) ≡ 2 =
     cover_between mesh turns s u v valid are (corner_below mesh low valid above.in_mesh)
     (corner_below mesh _ valid (after_in_mesh mesh low above.in_mesh))

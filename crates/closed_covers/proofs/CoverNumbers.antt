@@ -1,12 +1,12 @@
 -- The numbers of the cover of a mesh each edge of which has two sides.
 use Rattle.closed_covers.proofs.Common.{side_sum, all_faces, edge_lifted, cover_valid, apart_over, sheet_behind, over, AreTurns, cover_of, ◌≡◌, ℕ, ◌+◌, ◌*◌, ◌-◌, ◌<◌, Bool, true, false, List, [], ◌∷◌, length, refl, ap₂, sym, ◌∙◌, subst, arith, ℤ, pos, ◌+ℤ◌, ◌-ℤ◌, tail_used, used_below, FaceList, FaceSide, IsFaceList, all_sides, total_sides, is_used, EachEdgeHasTwoSides}
+use Rattle.closed_covers.specs.TwiceNumbers.{AreTwice}
 use Rattle.closed_doubles.proofs.DoubleNumbers.{agree, some_edge, count_twice, ones, some_numbers}
 use Rattle.closed_doubles.proofs.EdgeSums.{edges_twice}
 use Rattle.std.proofs.lemmas.Int.{ints}
 use Rattle.surf_model.proofs.NumberLemmas.{length-all_sides}
 use Rattle.surf_model.specs.Genera.{AreNumbersOf, HasGenus}
 use Rattle.surf_model.specs.declared.numbers.SurfaceNumbers.{SurfaceNumbers}
-use Rattle.closed_covers.specs.TwiceNumbers.{AreTwice}
 use Rattle.closed_covers.proofs.CoverEdges.{cover_sum, cover_two_sides}
 use Rattle.closed_covers.proofs.JoinedCovers.{IsOverUsed, over_used}
 

@@ -41,13 +41,7 @@ module _ (mesh : FaceList) (turns : ℕ → ℕ → Bool) (are : AreTurns mesh t
         upper = b.0;
         beyond = w;
         ends = inl (e.0, refl);
-        ends_over =
-            inl (
-              tail,
-              over_head mesh turns are b.0 side is
-                  ∙ ap (λ (p : Bool). over mesh.count (sheet_behind turns p (tail_of mesh side) w) w) on
-                  ∙ ap (λ (x : ℕ). over mesh.count (sheet_behind turns s x w) w) e.0,
-            );
+        ends_over = grind (arith, over_head, over);
         corner_over = inl (tail, ap (side_over mesh b.0) e.1);
       }
   lifted_at s v side corner is (inr e) =
@@ -124,8 +118,7 @@ module _ (mesh : FaceList) (turns : ℕ → ℕ → Bool) (are : AreTurns mesh t
       let above : IsOverSide mesh turns corner = each_side mesh turns corner h.side in
       let s : Bool = start_sheet mesh turns above.upper above.low in
       let b = begins_on mesh turns are (face_at mesh above.low.face.0) above.low.at s in
-      let same : above.upper ≡ b.0 =
-      one_start turns above.upper b.0 (face_at mesh above.low.face.0) above.low.at (sym b.1) in
+      let same : above.upper ≡ b.0 = grind (arith, one_start) in
       record {
         low = above.low;
         upper = s;

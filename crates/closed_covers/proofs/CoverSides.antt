@@ -87,12 +87,7 @@ module _ (mesh : FaceList) (turns : ℕ → ℕ → Bool) where
 
   pub over_once : (p q : Bool) (side other : Side) → IsSide mesh side → IsSide mesh other → side_over mesh p side ≡ side_over mesh q other
       → side ≡ other
-  over_once p q side other is it e =
-      let faces : side.face.0 ≡ other.face.0 =
-      face_once (length mesh.faces) side.face.0 other.face.0 p q is.face it.face (ap (λ (s : Side). s.face.0) e) in
-      let places : side.at ≡ other.at = ap (λ (s : Side). s.at) e in
-      ap (λ (k : ℕ). let s : Side = record { face = record { 0 = k }; at = side.at } in s) faces
-      ∙ ap (λ (k : ℕ). let s : Side = record { face = other.face; at = k } in s) places
+  over_once p q side other is it e = grind (arith, face_once)
 
 module _ (mesh : FaceList) (turns : ℕ → ℕ → Bool) (are : AreTurns mesh turns) where
   -- behind a side the sheet changes where its edge turns

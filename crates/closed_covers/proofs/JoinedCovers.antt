@@ -57,10 +57,7 @@ module _ (mesh : FaceList) (turns : ℕ → ℕ → Bool) (are : AreTurns mesh t
     pub leads : (s : Bool) → AreJoined Step (over mesh.count s u) (over mesh.count (either turned s) v)
 
   path_lifted : (u : ℕ) (path : List ℕ) (v : ℕ) → IsPath (IsEdgeStep mesh) u path v → IsLiftedPath u v
-  path_lifted u [] v p = record {
-    turned = false;
-    leads = λ s. joined_refl Step (over mesh.count s u) (over mesh.count s v) (ap (over mesh.count s) p);
-  }
+  path_lifted u [] v p = grind (arith, joined_refl, over)
   path_lifted u (z ∷ path) v p =
       let rest : IsLiftedPath z v = path_lifted z path v p.1 in
       record {

@@ -1,7 +1,11 @@
--- What proofs of this crate cite of others, passed on from one place (by tools/imports). Declares nothing.
+-- What proofs of this crate cite of its definitions and of other crates, passed on from one place (by tools/imports). Declares nothing.
+pub use Rattle.file_pieces.specs.FileLines.{IsNumbered, IsOn, IsOneLine, LinesReading, Passes, ReadsLine, StandsBehind}
+pub use Rattle.file_pieces.specs.Reading.{Reading, Reads, left_of, read_so_far}
+pub use Rattle.file_pieces.specs.SameLines.{SameLine, SameWord, SameWords}
+pub use Rattle.file_pieces.specs.ShortLines.{HasEnded, IsShort, PutsByte, ShortText, Stands, is_lean, text_before}
 pub use Rattle.std.proofs.Common.{Bool, IfSome, List, MatchOption, None, Option, Some, ap, append-nil, append_assoc, ap₂, arith, cond, drop, drop-drop, eqb, false, fold, if◌then◌else◌, inl, inr, le_trans, length, length-append, lit≤, not, refl, rules, subst, suc, sym, take, take-append-drop, true, zero, ℕ, [], ◌&&◌, ◌*◌, ◌++◌, ◌+◌, ◌-◌, ◌<◌, ◌^◌, ◌||◌, ◌∙◌, ◌∷◌, ◌≡◌, ◌≢◌, ◌≤◌}
 pub use Rattle.std.proofs.lemmas.Bool.{and_from, and_parts, both_ways, eq-eqb, eqb-true, le-ltb, leb-true, ne_eqb, not-true, not_from_false, or_parts}
-pub use Rattle.std.proofs.lemmas.List.{drop-take, drop_all, length-drop, length-take, take-append-le}
+pub use Rattle.std.proofs.lemmas.Grind.{common_steps}
 pub use Rattle.std.proofs.lemmas.List.Folds.{list_all-append}
 pub use Rattle.std.specs.List.{before_first, list_all}
 pub use Rattle.std.specs.Prelude.{IsTrue, nat_eq, nat_le, slice_get, slice_index}

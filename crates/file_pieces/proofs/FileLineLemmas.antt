@@ -1,10 +1,6 @@
 -- Lines of a file that are read one by one.
-use Rattle.file_pieces.proofs.Common.{◌≡◌, ◌≢◌, ℕ, suc, ◌+◌, ◌<◌, ◌≤◌, Bool, true, false, not, cond, List, [], ◌∷◌, ◌++◌, length, Option, Some, None, IfSome, refl, sym, ap, subst, ◌∙◌, arith, append_assoc, append-nil, and_parts, and_from, not-true, not_from_false, ne_eqb, list_all-append, list_all, slice_get, words_here-nil, behind-line_feed, behind-other, cut_first, lines_from_here, Line, is_filled, cut, unmarked, lines_from, is_line_feed, words_here, behind}
+use Rattle.file_pieces.proofs.Common.{IsOneLine, ReadsLine, IsOn, StandsBehind, Passes, Reading, Reads, left_of, SameLine, ShortText, Stands, ◌≡◌, ◌≢◌, ℕ, ◌+◌, ◌<◌, ◌≤◌, Bool, true, false, not, cond, List, [], ◌∷◌, ◌++◌, length, Option, Some, None, IfSome, refl, sym, ap, subst, ◌∙◌, arith, append_assoc, append-nil, and_parts, and_from, not-true, not_from_false, ne_eqb, list_all-append, list_all, slice_get, words_here-nil, behind-line_feed, behind-other, cut_first, lines_from_here, Line, is_filled, cut, unmarked, lines_from, is_line_feed, words_here, behind}
 use Rattle.file_pieces.specs.declared.file_lines.Taken.{Taken}
-use Rattle.file_pieces.specs.Reading.{Reading, Reads, left_of}
-use Rattle.file_pieces.specs.SameLines.{SameLine}
-use Rattle.file_pieces.specs.ShortLines.{ShortText, Stands}
-use Rattle.file_pieces.specs.FileLines.{IsOneLine, ReadsLine, IsOn, StandsBehind, Passes}
 use Rattle.file_pieces.proofs.ReadingLemmas.{at_told}
 use Rattle.file_pieces.proofs.ShortLemmas.{words_here-cut, no_lines, none_behind}
 
@@ -31,28 +27,13 @@ puts_on first all old new number byte left other puts on =
 pub ends_blank : (first : ℕ) (all : List ℕ) (old new : ShortText) (number next : ℕ) (short : List (List ℕ)) (left : List ℕ)
     → ((bytes rest : List ℕ) → Stands old bytes → IsOneLine bytes → ReadsLine number (bytes ++ 10 ∷ rest) None short next rest)
     → Stands new [] → IsOn first all old number (10 ∷ left) → IsOn first all new next left
-ends_blank first all old new number next short left reads begins on =
-    let r = reads on.so_far left on.stands on.alone in
-    record {
-      so_far = [];
-      stands = begins;
-      alone = refl;
-      lines = on.lines ∙ r.lines;
-      count = on.count ∙ r.count;
-      later = omega (arith, on.later, r.later);
-    }
+ends_blank first all old new number next short left reads begins on = grind arith
 
 -- a line with words was found
 pub finds : (first : ℕ) (all : List ℕ) (old : ShortText) (number next n : ℕ) (short : List (List ℕ)) (left : List ℕ)
     → ((bytes rest : List ℕ) → Stands old bytes → IsOneLine bytes → ReadsLine number (bytes ++ 10 ∷ rest) (Some n) short next rest)
     → IsOn first all old number (10 ∷ left) → ReadsLine first all (Some n) short next left
-finds first all old number next n short left reads on =
-    let r = reads on.so_far left on.stands on.alone in
-    record {
-      lines = record { words = r.lines.words; first = on.lines ∙ r.lines.first; same = r.lines.same };
-      count = on.count ∙ r.count;
-      later = omega (arith, on.later, r.later);
-    }
+finds first all old number next n short left reads on = grind arith
 
 -- the text has ended
 pub ends_text : (first : ℕ) (all : List ℕ) (old : ShortText) (number next : ℕ) (found : Option ℕ) (short : List (List ℕ)) (left : List ℕ)
@@ -99,12 +80,7 @@ here : (number : ℕ) (bytes left : List ℕ) → IsOneLine bytes
     → lines_from number (bytes ++ 10 ∷ left)
     ≡ cond (is_filled (words_here bytes)) (record { number = number; words = words_here bytes } ∷ lines_from (number + 1) left)
     (lines_from (number + 1) left)
-here number bytes left alone =
-    lines_from_here number (bytes ++ 10 ∷ left)
-    ∙ ap (λ t. cond (is_filled (words_here (bytes ++ 10 ∷ left))) (record { number = number; words = words_here (bytes ++ 10 ∷ left) }
-    ∷ lines_from (number + 1) t) (lines_from (number + 1) t)) (behind_line bytes left alone)
-    ∙ ap (λ ws. cond (is_filled ws) (record { number = number; words = ws } ∷ lines_from (number + 1) left) (lines_from (number + 1) left))
-    (words_here-cut bytes left)
+here number bytes left alone = grind (arith, lines_from_here, behind_line, words_here-cut)
 
 same_filled : (a b : List (List ℕ)) → SameLine a b → is_filled a ≡ is_filled b
 same_filled [] [] same = refl
@@ -115,45 +91,28 @@ same_filled (x ∷ a) (y ∷ b) same = refl
 -- the line has words, or it has none
 pub line_found : (number next : ℕ) (bytes left : List ℕ) (short : List (List ℕ)) → IsOneLine bytes → SameLine short (words_here bytes)
     → is_filled short ≡ true → next ≡ number + 1 → ReadsLine number (bytes ++ 10 ∷ left) (Some number) short next left
-line_found number next bytes left short alone same filled is =
-    let some : is_filled (words_here bytes) ≡ true = sym (same_filled short (words_here bytes) same) ∙ filled in
-    subst (λ n. ReadsLine number (bytes ++ 10 ∷ left) (Some number) short n left) (sym is) (record {
-      lines = record { words = words_here bytes; first = here number bytes left alone ∙ rw some refl; same = same };
-      count = omega (arith, count_line bytes left alone);
-      later = omega arith;
-    })
+line_found number next bytes left short alone same filled is = grind (arith, same_filled, here, count_line)
 
 pub line_blank : (number next : ℕ) (bytes left : List ℕ) (short other : List (List ℕ)) → IsOneLine bytes → SameLine short (words_here bytes)
     → is_filled short ≡ false → next ≡ number + 1 → ReadsLine number (bytes ++ 10 ∷ left) None other next left
-line_blank number next bytes left short other alone same blank is =
-    let none : is_filled (words_here bytes) ≡ false = sym (same_filled short (words_here bytes) same) ∙ blank in
-    subst (λ n. ReadsLine number (bytes ++ 10 ∷ left) None other n left) (sym is) (record {
-      lines = here number bytes left alone ∙ rw none refl;
-      count = omega (arith, count_line bytes left alone);
-      later = omega arith;
-    })
+line_blank number next bytes left short other alone same blank is = grind (arith, same_filled, here, count_line)
 
 -- ---- the end of a text
 
 last_line : (number : ℕ) (bytes : List ℕ) → IsOneLine bytes
     → lines_from number bytes ≡ cond (is_filled (words_here bytes)) (record { number = number; words = words_here bytes } ∷ []) []
-last_line number bytes alone =
-    lines_from_here number bytes
-    ∙ ap (λ (ls : List Line). cond (is_filled (words_here bytes)) (record { number = number; words = words_here bytes } ∷ ls) ls)
-    (ap (lines_from (number + 1)) (none_behind bytes alone) ∙ no_lines (number + 1))
+last_line number bytes alone = grind (arith, lines_from_here, none_behind, no_lines)
 
 -- a line without a line feed counts where it has a byte
 count_last : (bytes : List ℕ) → IsOneLine bytes → length (cut bytes) ≡ cond (is_filled bytes) 1 0
 unfolding cut
 count_last [] alone = refl
-count_last (byte ∷ bytes) alone =
-    ap (λ (ls : List (List ℕ)). length ls) (cut_first byte bytes) ∙ ap (λ t. suc (length (cut t))) (none_behind (byte ∷ bytes) alone)
+count_last (byte ∷ bytes) alone = grind (arith, cut_first, none_behind)
 
 count_end : (number next : ℕ) (bytes : List ℕ) (begun : Bool) → IsOneLine bytes → begun ≡ is_filled bytes → next ≡ number + cond begun 1 0
     → number + length (cut bytes) ≡ next + length (cut [])
 unfolding cut
-count_end number next bytes begun alone some is =
-    omega (arith, count_last bytes alone, ap (λ b. let n : ℕ = cond b 1 0 in n) some, is)
+count_end number next bytes begun alone some is = grind (arith, count_last)
 
 -- a line with words has a byte
 filled_bytes : (bytes : List ℕ) → is_filled (words_here bytes) ≡ true → is_filled bytes ≡ true
@@ -199,9 +158,7 @@ pub reads_on : (file now : Option (List ℕ)) (start mid next : Reading) → now
     → IfSome file (λ f. Reads start f → Reads mid f) → IfSome now (λ f. Reads mid f → Reads next f)
     → IfSome file (λ f. Reads start f → Reads next f)
 reads_on None now start mid next same first second = tt
-reads_on (Some f) now start mid next same first second =
-    let then : Reads mid f → Reads next f = subst (λ o. IfSome o (λ g. Reads mid g → Reads next g)) same second in
-    λ reads. then (first reads)
+reads_on (Some f) now start mid next same first second = grind arith
 
 -- what was read of lines, as far as a state
 abbrev pub LinesTo : (start now : Reading) (old line : ShortText) (first_number number : ℕ) → List ℕ → Type 0
@@ -217,14 +174,7 @@ pub takes_on : (file now : Option (List ℕ)) (start mid next : Reading) (old li
     → IfSome file (λ f. Reads start f → (first : ℕ) (all : List ℕ) → IsOn first all old a (left_of start f)
     → StandsBehind taken first all new c (left_of next f))
 takes_on None now start mid next old line new a b c taken as_told same is reads so_far step = tt
-takes_on (Some f) now start mid next old line new a b c taken as_told same is reads so_far step =
-    let then : Reads mid f → (first : ℕ) (all : List ℕ) → IsOn first all line b (left_of mid f)
-    → StandsBehind taken first all new c (left_of next f) =
-    subst (λ t. Reads mid f → (first : ℕ) (all : List ℕ) → IsOn first all line b (left_of mid f)
-    → StandsBehind t first all new c (left_of next f)) is
-    (subst (λ o. IfSome o (λ g. Reads mid g → (first : ℕ) (all : List ℕ) → IsOn first all line b (left_of mid g)
-    → StandsBehind as_told first all new c (left_of next g))) same step) in
-    λ r first all on. then (reads r) first all (so_far r first all on)
+takes_on (Some f) now start mid next old line new a b c taken as_told same is reads so_far step = grind (arith, left_of)
 
 -- ---- texts with no mark, and one with it
 
@@ -252,14 +202,7 @@ marked bytes = refl
 -- where a part was looked at, and there is no mark
 pub no_mark_on : (file seen left : List ℕ) (line : ShortText) → unmarked file ≡ file → file ≡ seen ++ left → Stands line seen
     → IsOneLine seen → IsOn 1 (unmarked file) line 1 left
-no_mark_on file seen left line none parts stands alone = record {
-  so_far = seen;
-  stands = stands;
-  alone = alone;
-  lines = ap (lines_from 1) (none ∙ parts);
-  count = ap (λ t. 1 + length (cut t)) (none ∙ parts);
-  later = omega arith;
-}
+no_mark_on file seen left line none parts stands alone = grind arith
 
 -- the first, the second or the third byte is another
 pub no_mark_first : (file left : List ℕ) (line : ShortText) → Passes false 239 file left → Stands line []
@@ -268,46 +211,26 @@ no_mark_first file left line passes stands = no_mark_on file [] left line (other
 
 pub no_mark_second : (file left last : List ℕ) (line : ShortText) → file ≡ 239 ∷ left → Passes false 187 left last
     → Stands line (239 ∷ []) → IsOn 1 (unmarked file) line 1 last
-no_mark_second file left last line parts passes stands =
-    no_mark_on file (239 ∷ []) last line
-    (ap unmarked parts ∙ other_second left passes.1 ∙ sym parts) (parts ∙ ap (λ t. 239 ∷ t) (sym passes.0)) stands refl
+no_mark_second file left last line parts passes stands = grind (arith, no_mark_on, other_second)
 
 pub no_mark_third : (file left more last : List ℕ) (line : ShortText) → file ≡ 239 ∷ left → left ≡ 187 ∷ more → Passes false 191 more last
     → Stands line (239 ∷ 187 ∷ []) → IsOn 1 (unmarked file) line 1 last
-no_mark_third file left more last line parts next passes stands =
-    let whole : file ≡ 239 ∷ 187 ∷ more = parts ∙ ap (λ t. 239 ∷ t) next in
-    no_mark_on file (239 ∷ 187 ∷ []) last line
-    (ap unmarked whole ∙ other_third more passes.1 ∙ sym whole) (whole ∙ ap (λ t. 239 ∷ 187 ∷ t) (sym passes.0)) stands refl
+no_mark_third file left more last line parts next passes stands = grind (arith, no_mark_on, other_third)
 
 -- or none of them is
 pub mark_passed : (file left more last : List ℕ) (line : ShortText) → file ≡ 239 ∷ left → left ≡ 187 ∷ more → more ≡ 191 ∷ last
     → Stands line [] → IsOn 1 (unmarked file) line 1 last
-mark_passed file left more last line first second third stands =
-    let whole : unmarked file ≡ last =
-    ap unmarked (first ∙ ap (λ t. 239 ∷ t) (second ∙ ap (λ t. 187 ∷ t) third)) ∙ marked last in
-    record {
-      so_far = [];
-      stands = stands;
-      alone = refl;
-      lines = ap (lines_from 1) whole;
-      count = ap (λ t. 1 + length (cut t)) whole;
-      later = omega arith;
-    }
+mark_passed file left more last line first second third stands = grind (arith, marked)
 
 -- what a call says of the next byte, where the file is told
 pub passes_told : (file : Option (List ℕ)) (old new : Reading) (passed as_told : Bool) (byte : ℕ) (f : List ℕ) → file ≡ Some f
     → as_told ≡ passed → IfSome file (λ g. Reads old g → Reads new g)
     → IfSome file (λ g. Reads old g → Passes as_told byte (left_of old g) (left_of new g)) → Reads old f
     → Reads new f × Passes passed byte (left_of old f) (left_of new f)
-passes_told file old new passed as_told byte f is same reads passes now = (
-  at_told (λ (g : List ℕ). Reads old g → Reads new g) file f is reads now,
-  subst (λ b. Passes b byte (left_of old f) (left_of new f)) same
-      (at_told (λ (g : List ℕ). Reads old g → Passes as_told byte (left_of old g) (left_of new g)) file f is passes now),
-)
+passes_told file old new passed as_told byte f is same reads passes now = grind (arith, at_told, left_of)
 
 -- what the line stands for then
 pub put_told : (passed as_told : Bool) (old new : ShortText) (byte : ℕ) (bytes : List ℕ) → as_told ≡ passed
     → ((so_far : List ℕ) → Stands old so_far → Stands new (cond as_told (so_far ++ byte ∷ []) so_far)) → Stands old bytes
     → Stands new (cond passed (bytes ++ byte ∷ []) bytes)
-put_told passed as_told old new byte bytes same puts stands =
-    subst (λ b. Stands new (cond b (bytes ++ byte ∷ []) bytes)) same (puts bytes stands)
+put_told passed as_told old new byte bytes same puts stands = grind arith

@@ -1,11 +1,9 @@
 -- A line of which all bytes are kept, up to its line feed.
-use Rattle.file_pieces.proofs.Common.{◌≡◌, ℕ, suc, ◌+◌, ◌-◌, ◌<◌, ◌≤◌, Bool, true, List, ◌∷◌, ◌++◌, length, take, drop, sym, ap, ap₂, subst, ◌∙◌, arith, append_assoc, drop-drop, length-drop, length-take, drop-take, slice_index, is_filled, words_here}
+use Rattle.file_pieces.proofs.Common.{LinesReading, IsOneLine, ReadsLine, Reading, Reads, left_of, read_so_far, ◌≡◌, ℕ, suc, ◌+◌, ◌-◌, ◌<◌, ◌≤◌, Bool, true, List, ◌∷◌, ◌++◌, length, take, drop, sym, ap, ap₂, subst, ◌∙◌, arith, append_assoc, drop-drop, slice_index, is_filled, words_here}
 use Rattle.std.proofs.Math.Nat.{min-le_left}
 use Rattle.std.proofs.Math.Seq.{drop-cons}
-use Rattle.std.proofs.lemmas.List.{take-append-drop}
+use Rattle.std.proofs.lemmas.List.{length-drop, length-take, drop-take, take-append-drop}
 use Rattle.std.specs.Prelude.{Some}
-use Rattle.file_pieces.specs.Reading.{Reading, Reads, left_of, read_so_far}
-use Rattle.file_pieces.specs.FileLines.{LinesReading, IsOneLine, ReadsLine}
 use Rattle.file_pieces.proofs.ReadingLemmas.{kept_and_others}
 use Rattle.file_pieces.proofs.SameLemmas.{SameLine-refl}
 use Rattle.file_pieces.proofs.FileLineLemmas.{line_found}

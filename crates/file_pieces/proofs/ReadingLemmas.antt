@@ -1,7 +1,6 @@
 -- Bytes of a file that come one by one, or piece by piece.
-use Rattle.file_pieces.proofs.Common.{◌≡◌, ℕ, suc, ◌+◌, true, List, [], ◌∷◌, ◌++◌, length, take, drop, Option, None, Some, IfSome, MatchOption, refl, sym, ap, subst, ◌∙◌, arith, append_assoc, drop-drop, take-append-drop, drop_all, IsTrue, is_filled}
+use Rattle.file_pieces.proofs.Common.{Reading, Reads, left_of, read_so_far, ◌≡◌, ℕ, suc, ◌+◌, true, List, [], ◌∷◌, ◌++◌, length, take, drop, Option, None, Some, IfSome, MatchOption, refl, sym, ap, subst, ◌∙◌, arith, drop-drop, take-append-drop, common_steps, IsTrue, is_filled}
 use Rattle.std.specs.Prelude.{◌<◌}
-use Rattle.file_pieces.specs.Reading.{Reading, Reads, left_of, read_so_far}
 
 -- what holds of what a shelf holds, where it tells so
 pub told : {A : Type 0} (P : A → Type 0) (o : Option A) → ((x : A) → o ≡ Some x → P x) → IfSome o P
@@ -15,10 +14,7 @@ at_told P o x is holds = subst (λ p. IfSome p P) is holds
 front : (xs : List ℕ) (byte : ℕ) (kept : List ℕ) → byte ∷ kept ≡ take (suc (length kept)) xs
     → (xs ≡ byte ∷ drop 1 xs) × (kept ≡ take (length kept) (drop 1 xs))
 front [] byte kept is = cc
-front (x ∷ xs) byte kept is =
-    let first : byte ≡ x = cc in
-    let others : kept ≡ take (length kept) xs = cc in
-    (ap (λ b. b ∷ xs) (sym first), others)
+front (x ∷ xs) byte kept is = grind arith
 
 record TakesByte (old new : Reading) (file : List ℕ) (byte : ℕ) : Type 0 where
   reads : Reads new file
@@ -30,11 +26,7 @@ takes_byte old file byte kept reads is more =
     let parts = front (left_of old file) byte kept (sym is ∙ reads.kept ∙ ap (λ (k : List ℕ). take (length k) (left_of old file)) is) in
     let rest : drop 1 (left_of old file) ≡ drop (old.place + 1) file = drop-drop 1 old.place file in
     record {
-      reads = record {
-        within = omega (arith, reads.within, ap (λ (k : List ℕ). length k) is);
-        kept = parts.1 ∙ ap (take (length kept)) rest;
-        whole = λ ended. absurd (more ended);
-      };
+      reads = grind arith;
       first = parts.0 ∙ ap (λ t. byte ∷ t) rest;
     }
 
@@ -54,10 +46,7 @@ pub next_byte : (old mid new : Reading) (file : List ℕ) (byte : Option ℕ) �
     → MatchOption byte ((mid.kept ≡ []) × (new ≡ mid))
     (λ b. (mid.kept ≡ b ∷ new.kept) × (new ≡ record mid { place = mid.place + 1; kept = new.kept }))
     → Reads new file × MatchOption byte (left_of old file ≡ []) (λ b. left_of old file ≡ b ∷ left_of new file)
-next_byte old mid new file None same reads ends took = (
-  subst (λ (r : Reading). Reads r file) (sym took.1) reads,
-  ap (λ p. drop p file) (sym same) ∙ drop_all mid.place file (reads.whole (ends took.0)),
-)
+next_byte old mid new file None same reads ends took = grind (arith, common_steps)
 next_byte old mid new file (Some b) same reads ends took =
     let takes : TakesByte mid (record mid { place = mid.place + 1; kept = new.kept }) file b =
     takes_byte mid file b new.kept reads took.0 (not_ended mid file b new.kept reads took.0) in (
@@ -68,12 +57,7 @@ next_byte old mid new file (Some b) same reads ends took =
 -- all bytes that are kept were passed over
 pub pass_kept-reads : (old new : Reading) (file : List ℕ) → new ≡ record old { place = read_so_far old; kept = [] } → Reads old file
     → (old.ended ≡ true → ⊥) → Reads new file
-pass_kept-reads old new file is reads more =
-    subst (λ (r : Reading). Reads r file) (sym is) (record {
-      within = omega (arith, reads.within);
-      kept = refl;
-      whole = λ ended. absurd (more ended);
-    })
+pass_kept-reads old new file is reads more = grind arith
 
 -- those, and the others
 pub kept_and_others : (reading : Reading) (file : List ℕ) → Reads reading file
@@ -87,13 +71,7 @@ kept_and_others reading file reads =
 pub gathered : (old mid new : Reading) (file before after all kept : List ℕ) → Reads old file
     → before ++ left_of old file ≡ all → after ≡ before ++ kept → kept ≡ old.kept
     → mid ≡ record old { place = read_so_far old; kept = [] } → new.place ≡ mid.place → after ++ left_of new file ≡ all
-gathered old mid new file before after all kept reads so_far more same passed stays =
-    let place : new.place ≡ read_so_far old = stays ∙ ap (λ (r : Reading). r.place) passed in
-    ap (λ p. after ++ drop p file) place
-    ∙ ap (λ t. t ++ drop (read_so_far old) file) (more ∙ ap (λ t. before ++ t) same)
-    ∙ append_assoc before old.kept (drop (read_so_far old) file)
-    ∙ ap (λ t. before ++ t) (sym (kept_and_others old file reads))
-    ∙ so_far
+gathered old mid new file before after all kept reads so_far more same passed stays = grind (arith, common_steps, kept_and_others)
 
 -- bytes were read that were not looked at yet
 pub filled_kept : (reading : Reading) → reading.place < read_so_far reading → IsTrue (is_filled reading.kept)

@@ -1,8 +1,6 @@
 -- Words and lines that say the same.
-use Rattle.file_pieces.proofs.Common.{◌≡◌, ◌≢◌, lit≤, le_trans, ℕ, zero, suc, ◌+◌, ◌-◌, ◌*◌, ◌^◌, ◌≤◌, Bool, true, false, eqb, not, ◌&&◌, List, [], ◌∷◌, ◌++◌, length, take, fold, refl, sym, ap, subst, ◌∙◌, arith, length-append, and_parts, leb-true, le-ltb, ne_eqb, not-true, eq-eqb, both_ways, take-append-le, list_all, nat_le, nat_eq, bytes_eq, is_digit, is_natural, value_of, number_below}
+use Rattle.file_pieces.proofs.Common.{SameWord, SameWords, SameLine, is_lean, ◌≡◌, ◌≢◌, lit≤, le_trans, ℕ, zero, suc, ◌+◌, ◌-◌, ◌*◌, ◌^◌, ◌≤◌, Bool, true, false, eqb, not, ◌&&◌, List, [], ◌∷◌, ◌++◌, length, take, fold, refl, sym, ap, ◌∙◌, arith, length-append, and_parts, leb-true, le-ltb, eq-eqb, both_ways, list_all, nat_le, nat_eq, bytes_eq, is_digit, is_natural, value_of, number_below}
 use Rattle.std.specs.Prelude.{None}
-use Rattle.file_pieces.specs.SameLines.{SameWord, SameWords, SameLine}
-use Rattle.file_pieces.specs.ShortLines.{is_lean}
 
 -- ---- words
 
@@ -10,32 +8,18 @@ pub SameWord-refl : (word : List ℕ) → SameWord word word
 SameWord-refl word = record { keyword = λ wanted is. refl; number = λ bound below. refl }
 
 SameWord-trans : (a b c : List ℕ) → SameWord a b → SameWord b c → SameWord a c
-SameWord-trans a b c first second = record {
-  keyword = λ wanted is. first.keyword wanted is ∙ second.keyword wanted is;
-  number = λ bound below. first.number bound below ∙ second.number bound below;
-}
+SameWord-trans a b c first second = grind arith
 
 -- a digit is no byte of a keyword
 no_keyword : (byte : ℕ) (rest wanted : List ℕ) → is_digit byte ≡ true → list_all (λ b. not (is_digit b)) wanted ≡ true
     → bytes_eq (byte ∷ rest) wanted ≡ false
 no_keyword byte rest [] digit none = refl
-no_keyword byte rest (other ∷ wanted) digit none =
-    let no_digit : is_digit other ≡ false = not-true (is_digit other)
-    (and_parts (not (is_digit other)) (list_all (λ b. not (is_digit b)) wanted)
-    none).0 in
-    let differ : nat_eq byte other ≡ false =
-    ne_eqb byte other (λ same. both_ways (is_digit other) no_digit (ap is_digit (sym same) ∙ digit)) in
-    rw differ refl
+no_keyword byte rest (other ∷ wanted) digit none = grind arith
 
 -- a leading zero says nothing
 pub SameWord-zero : (byte : ℕ) (rest : List ℕ) → is_digit byte ≡ true → SameWord (byte ∷ rest) (48 ∷ byte ∷ rest)
 unfolding is_natural value_of
-SameWord-zero byte rest digit = record {
-  keyword = λ wanted is.
-      let none = (and_parts (nat_le (length wanted) 9) (list_all (λ b. not (is_digit b)) wanted) is).1 in
-      no_keyword byte rest wanted digit none ∙ sym (no_keyword 48 (byte ∷ rest) wanted refl none);
-  number = λ bound below. refl;
-}
+SameWord-zero byte rest digit = grind (arith, no_keyword)
 
 -- ---- long words
 
@@ -159,5 +143,4 @@ SameLine-append words a b same = SameWords-take 7 (words ++ a) (words ++ b) (Sam
 
 -- words past the seventh are not looked at
 pub SameLine-many : (words more : List (List ℕ)) → 7 ≤ length words → SameLine words (words ++ more)
-SameLine-many words more many =
-    subst (λ ws. SameWords (take 7 words) ws) (sym (take-append-le 7 words more many)) (SameWords-refl (take 7 words))
+SameLine-many words more many = grind (arith, SameWords-refl)

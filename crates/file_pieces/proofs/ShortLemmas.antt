@@ -1,10 +1,8 @@
 -- Short lines, byte by byte.
-use Rattle.file_pieces.proofs.Common.{◌≡◌, ℕ, ◌+◌, ◌<◌, ◌≤◌, Bool, true, false, eqb, not, ◌&&◌, ◌||◌, List, [], ◌∷◌, ◌++◌, length, drop, refl, sym, ap, ap₂, subst, ◌∙◌, arith, append_assoc, append-nil, length-append, and_parts, and_from, or_parts, not-true, not_from_false, both_ways, eqb-true, list_all-append, list_all, before_first, bytes_eq, is_hash, words_here-nil, words_here-line_feed, words_here-hash, words_here-blank, words_here-word, behind-nil, behind-other, lines_from_here, Line, is_filled, is_blank, words, cut, unmarked, lines_from, full_lines, is_digit, is_line_feed, words_here, behind}
+use Rattle.file_pieces.proofs.Common.{SameLine, ShortText, text_before, Stands, IsShort, HasEnded, PutsByte, is_lean, ◌≡◌, ℕ, ◌+◌, ◌<◌, Bool, true, false, eqb, not, ◌&&◌, ◌||◌, List, [], ◌∷◌, ◌++◌, length, drop, refl, sym, ap, subst, ◌∙◌, arith, append_assoc, append-nil, length-append, and_parts, and_from, or_parts, not-true, not_from_false, both_ways, eqb-true, common_steps, list_all-append, list_all, before_first, bytes_eq, is_hash, words_here-nil, words_here-line_feed, words_here-hash, words_here-blank, words_here-word, behind-nil, behind-other, lines_from_here, is_filled, is_blank, words, cut, unmarked, lines_from, full_lines, is_digit, is_line_feed, words_here, behind}
 use Rattle.std.specs.Prelude.{cond}
 use Rattle.text_scan.proofs.ListLemmas.{before_first-append, before_first-yes, before_first-no, from_first-append, from_first-yes}
 use Rattle.text_scan.specs.Steps.{ends_word, begins_word, from_first}
-use Rattle.file_pieces.specs.SameLines.{SameWord, SameLine}
-use Rattle.file_pieces.specs.ShortLines.{ShortText, text_before, Stands, IsShort, HasEnded, PutsByte, is_lean}
 use Rattle.file_pieces.proofs.SameLemmas.{ne_of_eqb, SameWord-refl, SameWord-zero, SameWord-long, SameWords-refl, SameLine-refl, SameLine-trans, SameLine-append, SameLine-many}
 
 abbrev pub is_word : List ℕ → Bool
@@ -36,19 +34,12 @@ begins (byte ∷ word) after some all = (and_parts (not (ends_word byte)) (is_wo
 -- a word that has begun, and what goes on with it
 word_goes_on : (word after : List ℕ) → is_filled word ≡ true → is_word word ≡ true
     → words_here (word ++ after) ≡ (word ++ before_first ends_word after) ∷ words_here (from_first ends_word after)
-word_goes_on word after some all =
-    words_here-word (word ++ after) (begins word after some all)
-    ∙ ap₂ (λ (w : List ℕ) (r : List ℕ). w ∷ words_here r) (before_first-append ends_word word after all)
-    (from_first-append ends_word word after all)
+word_goes_on word after some all = grind (arith, words_here-word, begins, before_first-append, from_first-append)
 
 -- or what ends it
 word_ends : (word : List ℕ) (mark : ℕ) (after : List ℕ) → is_filled word ≡ true → is_word word ≡ true → ends_word mark ≡ true
     → words_here (word ++ mark ∷ after) ≡ word ∷ words_here (mark ∷ after)
-word_ends word mark after some all ends =
-    word_goes_on word (mark ∷ after) some all
-    ∙ ap₂ (λ (w : List ℕ) (r : List ℕ). (word ++ w) ∷ words_here r) (before_first-yes ends_word mark after ends)
-    (from_first-yes ends_word mark after ends)
-    ∙ ap (λ w. w ∷ words_here (mark ∷ after)) (append-nil word)
+word_ends word mark after some all ends = grind (arith, common_steps, word_goes_on, before_first-yes, ends, from_first-yes)
 
 -- ---- a word that is kept
 
@@ -57,16 +48,7 @@ pub zero_replaced : (old new : List ℕ) (byte : ℕ) → is_digit byte ≡ true
     → ends_word byte ≡ false → PutsByte old new byte
 zero_replaced [] new byte digit zero is goes_on = cc
 zero_replaced (first ∷ next ∷ old) new byte digit zero is goes_on = absurd (both_ways false refl (and_parts (eqb first 48) false zero).1)
-zero_replaced (first ∷ []) new byte digit zero is goes_on =
-    let same : first ≡ 48 = eqb-true first 48 (and_parts (eqb first 48) true zero).0 in
-    subst (λ n. PutsByte (first ∷ []) n byte) (sym is)
-    (subst (λ f. PutsByte (f ∷ []) (byte ∷ []) byte) (sym same) (record {
-      same = λ rest. SameWord-zero byte rest digit;
-      filled = refl;
-      short = omega arith;
-      lean = refl;
-      inside = and_from _ _ (not_from_false (ends_word byte) goes_on) refl;
-    }))
+zero_replaced (first ∷ []) new byte digit zero is goes_on = grind (arith, SameWord-zero, and_from, not_from_false, goes_on)
 
 lean_more : (old : List ℕ) (byte : ℕ) → is_lean old ≡ true → (is_digit byte && bytes_eq old (48 ∷ [])) ≡ false
     → is_lean (old ++ byte ∷ []) ≡ true
@@ -84,20 +66,12 @@ filled-last [] byte = refl
 filled-last (first ∷ old) byte = refl
 
 inside_more : (old : List ℕ) (byte : ℕ) → is_word old ≡ true → ends_word byte ≡ false → is_word (old ++ byte ∷ []) ≡ true
-inside_more old byte inside goes_on =
-    list_all-append (λ b. not (ends_word b)) old (byte ∷ [])
-    ∙ and_from _ _ inside (and_from _ _ (not_from_false (ends_word byte) goes_on) refl)
+inside_more old byte inside goes_on = grind (arith, common_steps, and_from, not_from_false, goes_on)
 
 pub byte_put : (old new : List ℕ) (byte : ℕ) → is_lean old ≡ true → is_word old ≡ true → ends_word byte ≡ false
     → (is_digit byte && bytes_eq old (48 ∷ [])) ≡ false → length old < 21 → new ≡ old ++ byte ∷ [] → PutsByte old new byte
 byte_put old new byte lean inside goes_on no_zero room is =
-    subst (λ n. PutsByte old n byte) (sym is) (record {
-      same = λ rest. subst (λ t. SameWord ((old ++ byte ∷ []) ++ rest) t) (append_assoc old (byte ∷ []) rest) (SameWord-refl _);
-      filled = filled-last old byte;
-      short = omega (arith, length-append old (byte ∷ []), room);
-      lean = lean_more old byte lean no_zero;
-      inside = inside_more old byte inside goes_on;
-    })
+    grind (arith, common_steps, SameWord-refl, filled-last, lean_more, inside_more, goes_on)
 
 pub byte_left_out : (old : List ℕ) (byte : ℕ) → is_lean old ≡ true → is_word old ≡ true → length old ≡ 21 → PutsByte old old byte
 byte_left_out old byte lean inside long = record {
@@ -149,13 +123,7 @@ starts_short done closed begun is open_yet =
 
 pub starts_standing : (done : List ℕ) (line : ShortText) → line ≡ record { done = done; word = []; closed = false; begun = false }
     → done ≡ 32 ∷ [] → Stands line []
-starts_standing done line is blank =
-    subst (λ (l : ShortText). Stands l []) (sym is ∙ refl)
-    (subst (λ d. Stands (record { done = d; word = []; closed = false; begun = false }) []) (sym blank) (record {
-      same = λ after. subst (λ ws. SameLine ws (words_here after)) (sym (words_here-blank 32 after refl))
-          (SameLine-refl (words_here after));
-      begun = refl;
-    }))
+starts_standing done line is blank = grind (arith, words_here-blank, SameLine-refl)
 
 -- what a word that ends leaves
 record Ends (line : ShortText) (done : List ℕ) : Type 0 where
@@ -165,10 +133,7 @@ record Ends (line : ShortText) (done : List ℕ) : Type 0 where
 pub word_ended : (line : ShortText) (count : ℕ) → IsShort line count → is_filled line.word ≡ true → (mark : ℕ) (after : List ℕ)
     → ends_word mark ≡ true
     → words_here (line.done ++ (line.word ++ mark ∷ after)) ≡ (words_here line.done ++ line.word ∷ []) ++ words_here (mark ∷ after)
-word_ended line count short some mark after ends =
-    short.closes (line.word ++ mark ∷ after)
-    ∙ ap (λ ws. words_here line.done ++ ws) (word_ends line.word mark after some short.inside ends)
-    ∙ sym (append_assoc (words_here line.done) (line.word ∷ []) (words_here (mark ∷ after)))
+word_ended line count short some mark after ends = grind (arith, common_steps, word_ends, ends)
 
 ends : (line : ShortText) (count : ℕ) → IsShort line count → is_filled line.word ≡ true → Ends line ((line.done ++ line.word) ++ 32 ∷ [])
 ends line count short some =
@@ -258,8 +223,7 @@ pub goes_on : (done old new : List ℕ) (byte : ℕ) → ((after : List ℕ) →
 goes_on done old new byte closes inside goes puts after =
     let rest : List ℕ = before_first ends_word after in
     let others : List (List ℕ) = words_here (from_first ends_word after) in
-    let here : words_here (done ++ (new ++ after)) ≡ words_here done ++ (new ++ rest) ∷ others =
-    closes (new ++ after) ∙ ap (λ ws. words_here done ++ ws) (word_goes_on new after puts.filled puts.inside) in
+    let here : words_here (done ++ (new ++ after)) ≡ words_here done ++ (new ++ rest) ∷ others = grind (arith, word_goes_on) in
     let there : words_here (done ++ (old ++ byte ∷ after)) ≡ words_here done ++ (old ++ byte ∷ rest) ∷ others =
     closes (old ++ byte ∷ after)
     ∙ ap (λ ws. words_here done ++ ws) (ap words_here (sym (append_assoc old (byte ∷ []) after))
@@ -274,10 +238,7 @@ goes_on done old new byte closes inside goes puts after =
 -- what the line is before a byte that counts
 before_byte : (old : ShortText) (bytes : List ℕ) (byte : ℕ) (after : List ℕ) → old.closed ≡ false → Stands old bytes
     → SameLine (words_here (old.done ++ (old.word ++ byte ∷ after))) (words_here ((bytes ++ byte ∷ []) ++ after))
-before_byte old bytes byte after going stands =
-    let same_text : text_before old (byte ∷ after) ≡ old.done ++ (old.word ++ byte ∷ after) = rw going refl in
-    subst (λ t. SameLine (words_here (old.done ++ (old.word ++ byte ∷ after))) (words_here t)) (sym (append_assoc bytes (byte ∷ []) after))
-    (subst (λ t. SameLine (words_here t) (words_here (bytes ++ byte ∷ after))) same_text (stands.same (byte ∷ after)))
+before_byte old bytes byte after going stands = grind (arith, common_steps)
 
 -- a blank
 pub stands_blank : (old new : ShortText) (bytes : List ℕ) (byte : ℕ) → old.closed ≡ false → is_blank byte ≡ true
@@ -311,15 +272,7 @@ stands_blank old new bytes byte going blank ended none begun stands = record {
 pub stands_hash : (old mid new : ShortText) (bytes : List ℕ) → old.closed ≡ false
     → HasEnded old.done old.word mid → new ≡ record mid { closed = true } → mid.begun ≡ true → Stands old bytes
     → Stands new (bytes ++ 35 ∷ [])
-stands_hash old mid new bytes going ended is begun stands =
-    subst (λ (l : ShortText). Stands l (bytes ++ 35 ∷ [])) (sym is) (record {
-      same = λ after.
-          subst (λ ws. SameLine ws (words_here ((bytes ++ 35 ∷ []) ++ after)))
-          (ended.ended 35 after refl ∙ ap (λ ws. words_here mid.done ++ ws) (words_here-hash 35 after refl)
-          ∙ append-nil (words_here mid.done))
-          (before_byte old bytes 35 after going stands);
-      begun = begun ∙ sym (filled-last bytes 35);
-    })
+stands_hash old mid new bytes going ended is begun stands = grind (arith, common_steps, words_here-hash, before_byte, filled-last)
 
 -- a byte of a word
 pub stands_word : (old new : ShortText) (bytes : List ℕ) (byte : ℕ) → old.closed ≡ false → new.closed ≡ false → new.begun ≡ true
@@ -372,11 +325,7 @@ no_mark (byte ∷ done) is = let first : byte ≡ 32 = cc in subst (λ b. unmark
 pub own_line : (line : ShortText) (count : ℕ) → IsShort line count
     → full_lines line.done
     ≡ cond (is_filled (words_here line.done)) (record { number = 1; words = words_here line.done } ∷ []) []
-own_line line count short =
-    ap (lines_from 1) (no_mark line.done short.first)
-    ∙ lines_from_here 1 line.done
-    ∙ ap (λ (ls : List Line). cond (is_filled (words_here line.done)) (record { number = 1; words = words_here line.done } ∷ ls) ls)
-    (ap (lines_from (1 + 1)) (none_behind line.done short.alone) ∙ no_lines (1 + 1))
+own_line line count short = grind (arith, no_mark, lines_from_here, none_behind, no_lines)
 
 pub filled_word : (word : List ℕ) → eqb (length word) 0 ≡ false → is_filled word ≡ true
 filled_word [] some = cc

@@ -1,6 +1,5 @@
 -- Reading one thing after another.
-use Rattle.text_scan.proofs.Common.{◌≡◌, List, [], ◌∷◌, ◌++◌, refl, sym, ap, append_assoc, Option, Some, None, Result, Ok, Err}
-use Rattle.text_scan.specs.Each.{ok_first}
+use Rattle.text_scan.proofs.Common.{◌≡◌, List, [], ◌∷◌, ◌++◌, refl, sym, ap, append_assoc, Option, Some, None, Result, Ok, Err, ok_first}
 
 -- what was read before the rest
 abbrev pub before_some : {B : Type 0} → List B → Option (List B) → Option (List B)

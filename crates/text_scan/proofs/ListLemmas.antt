@@ -1,6 +1,5 @@
 -- Lists up to the first element that passes a test, and lists of which each passes one.
-use Rattle.text_scan.proofs.Common.{◌≡◌, ℕ, suc, ◌≤◌, Bool, true, false, cond, not, ltb, List, [], ◌∷◌, ◌++◌, length, refl, sym, ap, ◌∙◌, one-add, add-one, and_parts, and_from, ltb-false, none-some, before_first, after_first, position_or_len, list_all, Some, None, position}
-use Rattle.text_scan.specs.Steps.{from_first}
+use Rattle.text_scan.proofs.Common.{◌≡◌, ℕ, suc, ◌≤◌, Bool, true, false, cond, not, ltb, List, [], ◌∷◌, ◌++◌, length, refl, sym, ap, ◌∙◌, one-add, add-one, and_parts, and_from, ltb-false, none-some, before_first, after_first, position_or_len, list_all, Some, None, position, from_first}
 
 pub before_first-yes : {A : Type 0} (p : A → Bool) (x : A) (xs : List A) → p x ≡ true → before_first p (x ∷ xs) ≡ []
 before_first-yes p x xs e = rw e refl

@@ -1,8 +1,5 @@
 -- Digits, and words that are numbers.
-use Rattle.text_scan.proofs.Common.{◌≡◌, ℕ, zero, suc, ◌+◌, ◌-◌, ◌*◌, ◌<◌, ◌≤◌, Bool, true, false, cond, not, eqb, ltb, ◌&&◌, ◌||◌, List, [], ◌∷◌, ◌++◌, length, take, drop, get_or, fold, refl, sym, ap, ◌∙◌, append_assoc, append-nil, take-append-drop, length-drop, arith, le_trans, and_parts, and_left, and_right, ltb-true, leb-true, take_more, take_all, list_all-append, fold-append, cond_some, list_all, list_any, before_first, after_first, position_or_len, Some, None, position, bytes_eq, codes}
-use Rattle.text_scan.specs.Lines.{is_filled}
-use Rattle.text_scan.specs.Numbers.{is_digit, is_natural, value_of, unsigned, is_exponent_mark, is_decimal, has_exponent_or_none, is_unsigned_text}
-use Rattle.text_scan.specs.Steps.{begins_with, IsPastDigits}
+use Rattle.text_scan.proofs.Common.{◌≡◌, ℕ, zero, suc, ◌+◌, ◌-◌, ◌*◌, ◌<◌, ◌≤◌, Bool, true, false, cond, not, eqb, ◌&&◌, ◌||◌, List, [], ◌∷◌, ◌++◌, length, take, drop, get_or, fold, refl, sym, ap, ◌∙◌, append_assoc, append-nil, take-append-drop, arith, le_trans, and_parts, and_left, and_right, leb-true, common_steps, take_all, list_all-append, fold-append, cond_some, list_all, list_any, before_first, after_first, position_or_len, Some, None, position, bytes_eq, codes, is_filled, is_digit, is_natural, value_of, unsigned, is_exponent_mark, is_decimal, has_exponent_or_none, is_unsigned_text, begins_with, IsPastDigits}
 use Rattle.text_scan.proofs.ListLemmas.{nowhere}
 use Rattle.text_scan.proofs.StepLemmas.{after_head, by_head}
 
@@ -37,9 +34,7 @@ no_bytes (byte ∷ bytes) none = absurd (grind (arith, none))
 pub value_step : (digits : List ℕ) (i : ℕ) → i < length digits
     → value_of (take (i + 1) digits) ≡ value_of (take i digits) * 10 + (get_or digits i 0 - 48)
 unfolding value_of
-value_step digits i below =
-    ap (fold (λ value digit. value * 10 + (digit - 48)) 0) (take_more digits i 0 below)
-    ∙ fold-append (λ value digit. value * 10 + (digit - 48)) 0 (take i digits) (get_or digits i 0 ∷ [])
+value_step digits i below = grind (arith, common_steps, fold-append)
 
 value_grows : (digits : List ℕ) (value : ℕ) → value ≤ fold (λ value digit. value * 10 + (digit - 48)) value digits
 value_grows [] value = omega arith
@@ -86,18 +81,11 @@ filled (byte ∷ bytes) some = refl
 pub natural_both : (front back : List ℕ) → eqb (length front) 0 ≡ false → is_natural front ≡ true → eqb (length back) 0 ≡ false
     → is_natural back ≡ is_natural (front ++ back)
 unfolding is_natural
-natural_both front back some natural more =
-    let first = filled front some in
-    let second = filled back more in
-    let digits : list_all is_digit front ≡ true = (and_parts (is_filled front) (list_all is_digit front) natural).1 in
-    sym (natural-append front back first ∙ rw (digits, second) refl)
+natural_both front back some natural more = grind (arith, filled, natural-append)
 
 pub natural_front : (front back : List ℕ) → eqb (length front) 0 ≡ false → is_natural front ≡ false → false ≡ is_natural (front ++ back)
 unfolding is_natural
-natural_front front back some other =
-    let first = filled front some in
-    let digits : list_all is_digit front ≡ false = rw first at other in
-    sym (natural-append front back first ∙ rw digits refl)
+natural_front front back some other = grind (arith, filled, natural-append)
 
 -- ---- words cut at their exponent
 
@@ -126,15 +114,7 @@ record IsFirst (p : ℕ → Bool) (xs : List ℕ) (i : ℕ) : Type 0 where
   after : after_first p xs ≡ take (length xs - (i + 1)) (drop (i + 1) xs)
 
 is_first : (p : ℕ → Bool) (xs : List ℕ) (i : ℕ) → position p xs ≡ Some i → IsFirst p xs i
-is_first p xs i e =
-    let here = cond_some (ltb (position_or_len p xs) (length xs)) (position_or_len p xs) i e in
-    let same : position_or_len p xs ≡ i = here.1 in
-    record {
-      any = list_any-found p xs (ltb-true _ _ here.0);
-      before = ap (λ n. take n xs) same;
-      after = ap (λ n. drop (n + 1) xs) same
-          ∙ sym (take_all (length xs - (i + 1)) (drop (i + 1) xs) (omega (arith, length-drop (i + 1) xs)));
-    }
+is_first p xs i e = grind (arith, common_steps, cond_some, list_any-found)
 
 abbrev pub nan : List ℕ
 nan = codes "nan"

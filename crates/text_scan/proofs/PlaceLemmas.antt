@@ -1,8 +1,5 @@
 -- The words of the present line and the lines behind it, byte by byte from a place in a text.
-use Rattle.text_scan.proofs.Common.{◌≡◌, ℕ, ◌+◌, Bool, true, false, cond, eqb, ◌||◌, List, [], ◌∷◌, map, filter, refl, sym, ap, ◌∙◌, inl, inr, arith, or_parts, or_cases, not-true, eqb-true, ne_eqb, before_first, slice_split, onto_first, enumerate_from}
-use Rattle.text_scan.specs.Lines.{Line, is_filled, is_blank, uncommented, cut, words, lines_from}
-use Rattle.text_scan.specs.Unread.{is_line_feed, words_here, behind}
-use Rattle.text_scan.specs.Steps.{ends_word, from_first, begins_word}
+use Rattle.text_scan.proofs.Common.{◌≡◌, ℕ, ◌+◌, Bool, true, false, cond, eqb, ◌||◌, List, [], ◌∷◌, filter, refl, sym, ap, ◌∙◌, inl, inr, arith, or_parts, or_cases, not-true, eqb-true, ne_eqb, before_first, slice_split, onto_first, is_filled, is_blank, uncommented, cut, words, lines_from, ends_word, from_first, begins_word, is_line_feed, words_here, behind}
 use Rattle.text_scan.proofs.ListLemmas.{before_first-yes, before_first-no, after_first-yes, after_first-no, from_first-yes, from_first-no}
 
 abbrev pub is_hash : ℕ → Bool
@@ -21,15 +18,11 @@ parts_at_line_feed : (byte : ℕ) (rest : List ℕ) → is_line_feed byte ≡ tr
 parts_at_line_feed byte rest e = ap (λ t. slice_split is_blank (uncommented t)) (before_first-yes is_line_feed byte rest e)
 
 parts_at_hash : (byte : ℕ) (rest : List ℕ) → is_line_feed byte ≡ false → is_hash byte ≡ true → parts (byte ∷ rest) ≡ [] ∷ []
-parts_at_hash byte rest no_feed e =
-    ap (λ t. slice_split is_blank (uncommented t)) (before_first-no is_line_feed byte rest no_feed)
-    ∙ ap (λ t. slice_split is_blank t) (before_first-yes is_hash byte (before_first is_line_feed rest) e)
+parts_at_hash byte rest no_feed e = grind (arith, before_first-no, before_first-yes)
 
 parts_at_other : (byte : ℕ) (rest : List ℕ) → is_line_feed byte ≡ false → is_hash byte ≡ false
     → parts (byte ∷ rest) ≡ cond (is_blank byte) ([] ∷ parts rest) (onto_first byte (parts rest))
-parts_at_other byte rest no_feed no_hash =
-    ap (λ t. slice_split is_blank (uncommented t)) (before_first-no is_line_feed byte rest no_feed)
-    ∙ ap (λ t. slice_split is_blank t) (before_first-no is_hash byte (before_first is_line_feed rest) no_hash)
+parts_at_other byte rest no_feed no_hash = grind (arith, before_first-no)
 
 -- a blank is no other mark
 blank_only : (byte : ℕ) → is_blank byte ≡ true → (is_line_feed byte ≡ false) × (is_hash byte ≡ false)
@@ -39,20 +32,10 @@ hash_only : (byte : ℕ) → is_hash byte ≡ true → is_line_feed byte ≡ fal
 hash_only byte e = ne_eqb byte 10 (λ is. omega (arith, eqb-true byte 35 e, is))
 
 parts_at_blank : (byte : ℕ) (rest : List ℕ) → is_blank byte ≡ true → parts (byte ∷ rest) ≡ [] ∷ parts rest
-parts_at_blank byte rest blank =
-    let others = blank_only byte blank in
-    let this : parts (byte ∷ rest) ≡ cond (is_blank byte) ([] ∷ parts rest) (onto_first byte (parts rest)) =
-    parts_at_other byte rest others.0 others.1 in
-    rw blank at this
+parts_at_blank byte rest blank = grind (arith, blank_only, parts, parts_at_other)
 
 parts_in_word : (byte : ℕ) (rest : List ℕ) → ends_word byte ≡ false → parts (byte ∷ rest) ≡ onto_first byte (parts rest)
-parts_in_word byte rest e =
-    let here = or_parts (is_blank byte || is_line_feed byte) (is_hash byte) e in
-    let other = or_parts (is_blank byte) (is_line_feed byte) here.0 in
-    let blank : is_blank byte ≡ false = other.0 in
-    let this : parts (byte ∷ rest) ≡ cond (is_blank byte) ([] ∷ parts rest) (onto_first byte (parts rest)) =
-    parts_at_other byte rest other.1 here.1 in
-    rw blank at this
+parts_in_word byte rest e = grind (arith, or_parts, parts, parts_at_other)
 
 -- ---- the words left
 
@@ -64,13 +47,10 @@ pub words_here-line_feed : (byte : ℕ) (rest : List ℕ) → is_line_feed byte 
 words_here-line_feed byte rest e = words_are_parts (byte ∷ rest) ∙ ap (filter is_filled) (parts_at_line_feed byte rest e)
 
 pub words_here-hash : (byte : ℕ) (rest : List ℕ) → is_hash byte ≡ true → words_here (byte ∷ rest) ≡ []
-words_here-hash byte rest e =
-    let no_feed : is_line_feed byte ≡ false = hash_only byte e in
-    words_are_parts (byte ∷ rest) ∙ ap (filter is_filled) (parts_at_hash byte rest no_feed e)
+words_here-hash byte rest e = grind (arith, hash_only, words_are_parts, parts_at_hash)
 
 pub words_here-blank : (byte : ℕ) (rest : List ℕ) → is_blank byte ≡ true → words_here (byte ∷ rest) ≡ words_here rest
-words_here-blank byte rest e =
-    words_are_parts (byte ∷ rest) ∙ ap (filter is_filled) (parts_at_blank byte rest e) ∙ sym (words_are_parts rest)
+words_here-blank byte rest e = grind (arith, words_are_parts, parts_at_blank)
 
 -- the first part ends where a word ends
 record StartsParts (rest : List ℕ) : Type 0 where
@@ -80,12 +60,7 @@ record StartsParts (rest : List ℕ) : Type 0 where
 
 starts_at_end : (rest : List ℕ) → before_first ends_word rest ≡ [] → from_first ends_word rest ≡ rest
     → (others : List (List ℕ)) → parts rest ≡ [] ∷ others → StartsParts rest
-starts_at_end rest none all others split =
-    record {
-      others = others;
-      split = split ∙ ap (λ t. t ∷ others) (sym none);
-      full = sym (words_are_parts (from_first ends_word rest) ∙ ap (λ t. filter is_filled (parts t)) all ∙ ap (filter is_filled) split);
-    }
+starts_at_end rest none all others split = grind (arith, words_are_parts, from_first, parts)
 
 starts_by_cases : (byte : ℕ) (rest : List ℕ) → (b : Bool) → ends_word byte ≡ b → StartsParts rest → StartsParts (byte ∷ rest)
 starts_by_cases byte rest false e before =
@@ -157,6 +132,4 @@ pub lines_from_here : (n : ℕ) (rest : List ℕ)
     ∷ lines_from (n + 1) (behind rest)) (lines_from (n + 1) (behind rest))
 unfolding lines_from words_here words cut behind
 lines_from_here n [] = refl
-lines_from_here n (byte ∷ rest) =
-    ap (λ lines. filter (λ (line : Line). is_filled line.words) (map (λ (p : ℕ × List ℕ). record { number = p.0; words = words p.1 })
-    (enumerate_from n lines))) (cut_first byte rest)
+lines_from_here n (byte ∷ rest) = grind (arith, cut_first)

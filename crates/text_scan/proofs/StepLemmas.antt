@@ -1,12 +1,6 @@
 -- One step over the bytes of a text.
-use Rattle.text_scan.proofs.Common.{◌≡◌, ◌≢◌, ℕ, ◌+◌, ◌-◌, ◌*◌, ◌/◌, ◌^◌, ◌<◌, ◌≤◌, min, Bool, true, false, cond, not, eqb, ◌||◌, List, [], ◌∷◌, ◌++◌, length, take, drop, get_or, length-append, length-drop, refl, sym, ap, ap₂, subst, ◌∙◌, append_assoc, append-nil, inl, inr, arith, cases_Bool, not-true, not-false, ne_eqb, eq-eqb, and_parts, and_from, and_left, and_right, or_parts, or_cases, both_ways, cases_lt, take_all, get_or-drop, list_all-append, fold-append, list_all, before_first, position_or_len, onto_first, Some, None, option_map}
-use Rattle.std.proofs.Math.Nat.{min-eq_left, min-eq_right, pow-le-pow_right}
-use Rattle.std.proofs.lemmas.Grind.{pow_more}
-use Rattle.std.proofs.lemmas.List.{drop-drop}
-use Rattle.text_scan.specs.Lines.{is_filled, is_blank, cut, lines_from}
-use Rattle.text_scan.specs.Numbers.{is_digit, is_natural, value_of, natural_of}
-use Rattle.text_scan.specs.Unread.{is_line_feed, words_here, behind, next_natural}
-use Rattle.text_scan.specs.Steps.{ends_word, from_first, begins_with, begins_word, IsPast, ArePastDigits, IsLineEnd}
+use Rattle.text_scan.proofs.Common.{◌≡◌, ◌≢◌, ℕ, ◌+◌, ◌-◌, ◌*◌, ◌/◌, ◌^◌, ◌<◌, ◌≤◌, min, Bool, true, false, cond, not, eqb, ◌||◌, List, [], ◌∷◌, ◌++◌, length, take, drop, get_or, length-append, length-drop, refl, sym, ap, subst, ◌∙◌, append_assoc, inl, inr, arith, cases_Bool, not-true, not-false, eq-eqb, and_parts, and_from, and_left, and_right, or_parts, common_steps, pow_more, take_all, get_or-drop, drop-drop, list_all-append, fold-append, list_all, before_first, position_or_len, onto_first, Some, None, option_map, is_filled, is_blank, cut, lines_from, is_digit, is_natural, value_of, natural_of, ends_word, from_first, begins_with, begins_word, IsPast, ArePastDigits, IsLineEnd, is_line_feed, words_here, behind, next_natural}
+use Rattle.std.proofs.Math.Nat.{min-eq_left, pow-le-pow_right}
 use Rattle.text_scan.proofs.ListLemmas.{before_first-yes, before_first-no, from_first-yes, from_first-no, before_first-append, from_first-append}
 use Rattle.text_scan.proofs.PlaceLemmas.{is_hash, words_here-nil, words_here-line_feed, words_here-hash, words_here-blank, words_here-word, behind-nil, behind-line_feed, behind-other, cut_first, lines_from_here}
 
@@ -38,14 +32,7 @@ here bytes = record { words = refl; behind = refl; shorter = omega arith }
 
 pub past_blank : (bytes rest : List ℕ) → 1 ≤ length rest → is_blank (get_or rest 0 0) ≡ true → IsPast 0 bytes rest
     → IsPast 0 bytes (after_head rest)
-past_blank bytes = by_head (λ first rest after. is_blank first ≡ true → IsPast 0 bytes rest → IsPast 0 bytes after)
-    (λ byte rest is_kind so_far.
-    let blank : is_blank byte ≡ true = is_kind in
-    record {
-      words = sym (words_here-blank byte rest blank) ∙ so_far.words;
-      behind = sym (behind-other byte rest (blank_is_no_feed byte blank)) ∙ so_far.behind;
-      shorter = omega (arith, so_far.shorter);
-    })
+past_blank bytes = grind (arith, common_steps, by_head, words_here-blank, behind, behind-other, blank_is_no_feed)
 
 pub no_blank : (rest : List ℕ) → 1 ≤ length rest → is_blank (get_or rest 0 0) ≡ false → begins_with is_blank rest ≡ false
 no_blank = by_head (λ first rest after. is_blank first ≡ false → begins_with is_blank rest ≡ false) (λ byte rest is_kind. is_kind)
@@ -54,14 +41,10 @@ no_blank = by_head (λ first rest after. is_blank first ≡ false → begins_wit
 pub on_in_line : (bytes rest : List ℕ) → 1 ≤ length rest → get_or rest 0 0 ≢ 10
     → (behind rest ≡ behind bytes) × (length rest ≤ length bytes)
     → (behind (after_head rest) ≡ behind bytes) × (length (after_head rest) ≤ length bytes)
-on_in_line bytes =
-    by_head (λ first rest after. first ≢ 10 → (behind rest ≡ behind bytes) × (length rest ≤ length bytes)
-    → (behind after ≡ behind bytes) × (length after ≤ length bytes))
-    (λ byte rest other so_far. (sym (behind-other byte rest (ne_eqb byte 10 other)) ∙ so_far.0, omega (arith, so_far.1)))
+on_in_line bytes = grind (arith, common_steps, by_head, behind, behind-other)
 
 pub at_line_feed : (rest : List ℕ) → 1 ≤ length rest → get_or rest 0 0 ≡ 10 → words_here rest ≡ []
-at_line_feed = by_head (λ first rest after. first ≡ 10 → words_here rest
-    ≡ []) (λ byte rest e. words_here-line_feed byte rest (eq-eqb byte 10 e))
+at_line_feed = grind (arith, common_steps, by_head, words_here-line_feed)
 
 pub at_end : (rest : List ℕ) → length rest < 1 → words_here rest ≡ []
 at_end [] h = words_here-nil
@@ -83,39 +66,17 @@ no_words n rest none = lines_from_here n rest ∙ rw none refl
 
 pub pass_blank : (n m : ℕ) (bytes rest : List ℕ) → 1 ≤ length rest → is_blank (get_or rest 0 0) ≡ true → SoFar n bytes m rest
     → SoFar n bytes m (after_head rest)
-pass_blank n m bytes = by_head (λ first rest after. is_blank first ≡ true → SoFar n bytes m rest → SoFar n bytes m after)
-    (λ byte rest is_kind so_far.
-    let blank : is_blank byte ≡ true = is_kind in (
-      so_far.0 ∙ same_lines m (byte ∷ rest) rest (words_here-blank byte rest blank) (behind-other byte rest (blank_is_no_feed byte blank)),
-      omega (arith, so_far.1),
-      omega (arith, so_far.2),
-    ))
+pass_blank n m bytes = grind (arith, common_steps, by_head, same_lines, words_here-blank, behind-other, blank_is_no_feed)
 
 pub pass_line_feed : (n m : ℕ) (bytes rest : List ℕ) → 1 ≤ length rest → get_or rest 0 0 ≡ 10 → SoFar n bytes m rest
     → SoFar n bytes (m + 1) (after_head rest)
-pass_line_feed n m bytes = by_head (λ first rest after. first ≡ 10 → SoFar n bytes m rest → SoFar n bytes (m + 1) after)
-    (λ byte rest is_kind so_far.
-    let feed = eq-eqb byte 10 is_kind in (
-      so_far.0 ∙ no_words m (byte ∷ rest) (words_here-line_feed byte rest feed) ∙ ap (lines_from (m + 1)) (behind-line_feed byte rest feed),
-      omega (arith, so_far.1),
-      omega (arith, so_far.2),
-    ))
+pass_line_feed n m bytes = grind (arith, common_steps, by_head, no_words, words_here-line_feed, behind-line_feed)
 
 pub pass_comment : (n m : ℕ) (bytes rest after : List ℕ) → 1 ≤ length rest → get_or rest 0 0 ≡ 35
     → words_here after ≡ [] → behind after ≡ behind (after_head rest) → length after ≤ length (after_head rest)
     → SoFar n bytes m rest → SoFar n bytes m after
 pass_comment n m bytes rest after =
-    by_head
-    (λ first rest tail. first ≡ 35 → words_here after ≡ [] → behind after ≡ behind tail → length after ≤ length tail → SoFar n bytes m rest
-    → SoFar n bytes m after)
-    (λ byte tail is_kind none same shorter so_far.
-    let hash = eq-eqb byte 35 is_kind in (
-      so_far.0 ∙ same_lines m (byte ∷ tail) after (words_here-hash byte tail hash
-          ∙ sym none) (behind-other byte tail (hash_is_no_feed byte hash) ∙ sym same),
-      omega (arith, so_far.1, shorter),
-      so_far.2,
-    ))
-    rest
+    grind (arith, common_steps, by_head, behind, same_lines, words_here-hash, behind-other, hash_is_no_feed)
 
 pub no_more : (n m : ℕ) (bytes rest : List ℕ) → length rest < 1 → SoFar n bytes m rest → lines_from n bytes ≡ []
 unfolding lines_from cut
@@ -130,9 +91,7 @@ is_word = list_all (λ byte. not (ends_word byte))
 
 ends_here : (after : List ℕ) → begins_word after ≡ false → (before_first ends_word after ≡ []) × (from_first ends_word after ≡ after)
 ends_here [] e = (refl, refl)
-ends_here (byte ∷ after) e =
-    let ends : ends_word byte ≡ true = not-false (ends_word byte) e in
-    (before_first-yes ends_word byte after ends, from_first-yes ends_word byte after ends)
+ends_here (byte ∷ after) e = grind (arith, not-false, before_first-yes, from_first-yes)
 
 word_begins : (word after : List ℕ) → is_filled word ≡ true → is_word word ≡ true → begins_word (word ++ after) ≡ true
 word_begins [] after some all = cc
@@ -142,11 +101,7 @@ word_begins (byte ∷ word) after some all = (and_parts (not (ends_word byte)) (
 pub word_first : (word after : List ℕ) → is_filled word ≡ true → is_word word ≡ true → begins_word after ≡ false
     → words_here (word ++ after) ≡ word ∷ words_here after
 word_first word after some all e =
-    let ends = ends_here after e in
-    words_here-word (word ++ after) (word_begins word after some all)
-    ∙ ap₂ (λ (w : List ℕ) (r : List ℕ). w ∷ words_here r)
-    (before_first-append ends_word word after all ∙ ap (λ t. word ++ t) ends.0 ∙ append-nil word)
-    (from_first-append ends_word word after all ∙ ends.1)
+    grind (arith, common_steps, ends_here, words_here-word, word_begins, before_first-append, from_first-append)
 
 pub word_behind : (word after : List ℕ) → is_word word ≡ true → behind (word ++ after) ≡ behind after
 word_behind [] after all = refl
@@ -159,12 +114,7 @@ word_behind (byte ∷ word) after all =
 
 pub past_word : (word after : List ℕ) → is_filled word ≡ true → is_word word ≡ true → begins_word after ≡ false
     → IsPast 1 (word ++ after) after
-past_word word after some all e =
-    record {
-      words = sym (ap (λ t. drop 1 t) (word_first word after some all e));
-      behind = sym (word_behind word after all);
-      shorter = omega (arith, length-append word after);
-    }
+past_word word after some all e = grind (arith, common_steps, word_first, behind, word_behind)
 
 -- ---- naturals
 
@@ -178,24 +128,7 @@ digits_in_word (byte ∷ digits) all =
     and_from _ _ (digit_in_word byte both.0) (digits_in_word digits both.1)
 
 capped_step : (v d cap : ℕ) → min (min (min v cap * 10) cap + d) cap ≡ min (v * 10 + d) cap
-capped_step v d cap =
-    elim (cases_lt cap v) as (λ _. min (min (min v cap * 10) cap + d) cap ≡ min (v * 10 + d) cap) [
-      | inl above ↦
-          let first : min v cap ≡ cap = min-eq_right (omega (arith, above)) in
-          let second : min (cap * 10) cap ≡ cap = min-eq_right (omega arith) in
-          let third : min (cap + d) cap ≡ cap = min-eq_right (omega arith) in
-          let whole : min (v * 10 + d) cap ≡ cap = min-eq_right (omega (arith, above)) in
-          rw (first, second, third, whole) refl
-      | inr below ↦ let first : min v cap ≡ v = min-eq_left below in
-          elim (cases_lt cap (v * 10)) as (λ _. min (min (min v cap * 10) cap + d) cap ≡ min (v * 10 + d) cap) [
-            | inl above ↦
-                let second : min (v * 10) cap ≡ cap = min-eq_right (omega (arith, above)) in
-                let third : min (cap + d) cap ≡ cap = min-eq_right (omega arith) in
-                let whole : min (v * 10 + d) cap ≡ cap = min-eq_right (omega (arith, above)) in
-                rw (first, second, third, whole) refl
-            | inr fits ↦ let second : min (v * 10) cap ≡ v * 10 = min-eq_left fits in rw (first, second) refl
-          ]
-    ]
+capped_step v d cap = grind arith
 
 pub no_digits : (bytes : List ℕ) → ArePastDigits bytes 0 bytes
 unfolding value_of
@@ -213,9 +146,7 @@ one_digit bytes rest capped next =
       digits = so_far.digits ++ byte ∷ [];
       parts = so_far.parts ∙ sym (append_assoc so_far.digits (byte ∷ []) rest);
       all = list_all-append is_digit so_far.digits (byte ∷ []) ∙ rw (so_far.all, digit) refl;
-      value = is_next ∙ ap (λ c. min (min (c * 10) (2 ^ 64 - 1) + (byte - 48)) (2 ^ 64 - 1)) so_far.value
-          ∙ capped_step (value_of so_far.digits) (byte - 48) (2 ^ 64 - 1)
-          ∙ ap (λ v. min v (2 ^ 64 - 1)) (sym (fold-append (λ value digit. value * 10 + (digit - 48)) 0 so_far.digits (byte ∷ [])));
+      value = grind (arith, capped_step, fold-append);
     })
     rest
 
@@ -225,8 +156,7 @@ pub small_digit : (bytes rest : List ℕ) (capped : ℕ) → 1 ≤ length rest �
 small_digit bytes rest capped some digit small so_far =
     let low : get_or rest 0 0 - 48 < 10 = grind (arith, digit) in
     let first : min (capped * 10) (2 ^ 64 - 1) ≡ capped * 10 = min-eq_left (omega (arith, small)) in
-    let second : min (capped * 10 + (get_or rest 0 0 - 48)) (2 ^ 64 - 1) ≡ capped * 10 + (get_or rest 0 0 - 48) =
-    min-eq_left (omega (arith, small, low)) in
+    let second : min (capped * 10 + (get_or rest 0 0 - 48)) (2 ^ 64 - 1) ≡ capped * 10 + (get_or rest 0 0 - 48) = grind arith in
     one_digit bytes rest capped (capped * 10 + (get_or rest 0 0 - 48)) some digit
     (sym (ap (λ n. min (n + (get_or rest 0 0 - 48)) (2 ^ 64 - 1)) first ∙ second)) so_far
 
@@ -310,11 +240,7 @@ digit_between digit after kind ends =
     let first : words_here (32 ∷ digit ∷ after) ≡ (digit ∷ []) ∷ words_here after = same ∙ word_first (digit ∷ []) after refl word ends in
     record {
       value = ap next_natural first ∙ rw natural (ap Some (omega arith));
-      place = record {
-        words = past.words ∙ ap (λ (ws : List (List ℕ)). drop 1 ws) (sym same);
-        behind = past.behind ∙ sym (behind-other 32 (digit ∷ after) refl);
-        shorter = omega arith;
-      };
+      place = grind (arith, behind, behind-other);
     }
 
 digit_first : (rest : List ℕ) → 3 ≤ length rest → get_or rest 0 0 ≡ 32 → is_digit (get_or rest 1 0) ≡ true
@@ -363,22 +289,12 @@ word_goes_on digits after all word stop =
 
 pub no_word : (rest : List ℕ) → begins_with is_blank rest ≡ false → begins_word rest ≡ false → words_here rest ≡ []
 no_word [] no_blank e = words_here-nil
-no_word (byte ∷ rest) no_blank e =
-    let ends : (is_blank byte || is_line_feed byte || is_hash byte) ≡ true = not-false (ends_word byte) e in
-    elim (or_cases (is_blank byte || is_line_feed byte) (is_hash byte) ends) as (λ _. words_here (byte ∷ rest) ≡ []) [
-      | inl front ↦ elim (or_cases (is_blank byte) (is_line_feed byte) front) as (λ _. words_here (byte ∷ rest) ≡ []) [
-        | inl blank ↦ absurd (both_ways (is_blank byte) no_blank blank)
-        | inr feed ↦ words_here-line_feed byte rest feed
-      ]
-      | inr hash ↦ words_here-hash byte rest hash
-    ]
+no_word (byte ∷ rest) no_blank e = grind (arith, not-false, no_blank, words_here-line_feed, words_here-hash)
 
 pub no_natural : (rest : List ℕ) (capped : ℕ) (after : List ℕ) → ArePastDigits rest capped after → begins_with is_digit after ≡ false
     → begins_word after ≡ true
     → None ≡ option_map (λ n. min n (2 ^ 64 - 1)) (next_natural (words_here rest))
-no_natural rest capped after h stop word =
-    sym (ap (λ t. option_map (λ n. min n (2 ^ 64 - 1)) (next_natural (words_here t))) h.parts
-    ∙ ap (option_map (λ n. min n (2 ^ 64 - 1))) (word_goes_on h.digits after h.all word stop))
+no_natural rest capped after h stop word = grind (arith, word_goes_on)
 
 -- no digits at the front
 pub no_natural_here : (rest : List ℕ) (capped : ℕ) (after : List ℕ) → ArePastDigits rest capped after → begins_with is_digit after ≡ false
@@ -412,12 +328,7 @@ behind-word (byte ∷ rest) = by_test (ends_word byte) refl (behind-word rest)
 
 -- past the word at the front
 pub past_word_here : (rest : List ℕ) → begins_word rest ≡ true → IsPast 1 rest (from_first ends_word rest)
-past_word_here rest e =
-    record {
-      words = sym (ap (λ t. drop 1 t) (words_here-word rest e));
-      behind = behind-word rest;
-      shorter = omega (arith, length-drop (position_or_len ends_word rest) rest);
-    }
+past_word_here rest e = grind (arith, common_steps, words_here-word, behind, behind-word)
 
 -- ---- lines
 

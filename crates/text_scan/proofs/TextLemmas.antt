@@ -1,9 +1,5 @@
 -- Number texts at the front of a text.
-use Rattle.text_scan.proofs.Common.{◌≡◌, ℕ, ◌≤◌, Bool, true, false, not, eqb, ◌||◌, List, [], ◌∷◌, ◌++◌, length, get_or, refl, sym, ap, ap₂, subst, ◌∙◌, append_assoc, append-nil, arith, and_parts, and_from, not_from_false, or_left, or_right, both_ways, list_all-append, list_all, list_any, before_first, after_first, bytes_eq, codes}
-use Rattle.text_scan.specs.Lines.{is_filled, is_blank}
-use Rattle.text_scan.specs.Numbers.{is_digit, is_natural, unsigned, is_point, is_exponent_mark, is_decimal, has_exponent_or_none, is_unsigned_text, is_number_text}
-use Rattle.text_scan.specs.Unread.{words_here, next_is_number_text}
-use Rattle.text_scan.specs.Steps.{ends_word, from_first, begins_with, begins_word, IsPast, IsPastDigits, IsPastDecimal}
+use Rattle.text_scan.proofs.Common.{◌≡◌, ℕ, ◌≤◌, Bool, true, false, not, eqb, ◌||◌, List, [], ◌∷◌, ◌++◌, length, get_or, refl, sym, ap, ap₂, subst, ◌∙◌, append_assoc, append-nil, arith, and_parts, and_from, not_from_false, or_left, or_right, both_ways, list_all-append, list_all, list_any, before_first, after_first, bytes_eq, codes, is_filled, is_blank, is_digit, is_natural, unsigned, is_point, is_exponent_mark, is_decimal, has_exponent_or_none, is_unsigned_text, is_number_text, ends_word, from_first, begins_with, begins_word, IsPast, IsPastDigits, IsPastDecimal, words_here, next_is_number_text}
 use Rattle.text_scan.proofs.ListLemmas.{all_weaker, before_first-append, after_first-no}
 use Rattle.text_scan.proofs.PlaceLemmas.{words_here-word}
 use Rattle.text_scan.proofs.StepLemmas.{after_head, by_head, is_word, word_first, past_word, past_word_here, no_word}
@@ -100,9 +96,7 @@ record IsSigned (rest : List ℕ) : Type 0 where
 
 digit_no_sign : (text : List ℕ) → begins_with is_digit text ≡ true → unsigned text ≡ text
 digit_no_sign [] first = refl
-digit_no_sign (byte ∷ text) first =
-    let no_sign : (eqb byte 43 || eqb byte 45) ≡ false = grind (arith, first) in
-    rw no_sign refl
+digit_no_sign (byte ∷ text) first = grind arith
 
 signed_by : (byte : ℕ) (rest : List ℕ) (b : Bool) → (eqb byte 43 || eqb byte 45) ≡ b → IsSigned (byte ∷ rest)
 signed_by byte rest true e =
@@ -156,8 +150,7 @@ plain_number rest after h stop =
     let word : List ℕ = s.sign ++ h.text in
     let parts : rest ≡ word ++ after = s.parts ∙ ap (λ t. s.sign ++ t) h.parts ∙ sym (append_assoc s.sign h.text after) in
     let some : is_filled word ≡ true = begins_filled s.sign h.text h.first in
-    let all : is_word word ≡ true = list_all-append (λ byte. not (ends_word byte)) s.sign h.text
-    ∙ and_from _ _ s.word (plain_word h.text h.plain) in
+    let all : is_word word ≡ true = grind (arith, and_from, plain_word) in
     let is_text : is_number_text word ≡ true = ap is_unsigned_text (s.away h.text h.first) ∙ plain_text h.text h.plain h.decimal in (
       ap (λ t. next_is_number_text (words_here t)) parts ∙ ap next_is_number_text (word_first word after some all stop) ∙ is_text,
       subst (λ t. IsPast 1 t after) (sym parts) (past_word word after some all stop),

@@ -1,9 +1,6 @@
 -- What the steps over the bytes are to what is left to read.
-use Rattle.text_scan.proofs.Common.{◌≡◌, ℕ, ◌+◌, Bool, true, false, List, [], ◌∷◌, drop, refl, sym, ap, subst, ◌∙◌, take, drop-drop, length-take, filter, cond, ◌<◌, ◌≤◌, ◌^◌, ◌-◌, arith, Bor, eqb, length, before_first, position_or_len, slice_split, onto_first, Option, Some, None, MatchOption, unwrap_or}
+use Rattle.text_scan.proofs.Common.{◌≡◌, ℕ, ◌+◌, Bool, true, false, List, [], ◌∷◌, drop, refl, sym, ap, subst, ◌∙◌, take, filter, cond, ◌<◌, ◌≤◌, ◌^◌, ◌-◌, arith, Bor, eqb, length, common_steps, before_first, slice_split, onto_first, Option, Some, None, MatchOption, unwrap_or, cut, is_filled, is_blank, words, unmarked, lines_from, full_lines, ends_word, begins_with, begins_word, IsPast, IsFirstWord, Unread, LinesLeft, lines_left, at_line, past_word, next_word, words_here, behind, unread_at}
 use Rattle.std.specs.Cmp.Lexicographic.{pointwise}
-use Rattle.text_scan.specs.Lines.{Line, cut, is_filled, is_blank, uncommented, words, unmarked, lines_from, full_lines}
-use Rattle.text_scan.specs.Unread.{Unread, LinesLeft, lines_left, at_line, past_word, next_word, is_line_feed, words_here, behind, unread_at}
-use Rattle.text_scan.specs.Steps.{ends_word, begins_with, begins_word, IsPast, IsFirstWord}
 use Rattle.text_scan.proofs.PlaceLemmas.{words_here-word, lines_from_here}
 use Rattle.text_scan.proofs.StepLemmas.{no_word}
 
@@ -30,9 +27,7 @@ record FindsNothing (unread : Unread) : Type 0 where
   place : unread ≡ at_line unread (lines_left unread)
 
 finds_nothing : (text : List ℕ) (n : ℕ) (rest : List ℕ) → lines_from n rest ≡ [] → FindsNothing (unread_at text n rest)
-finds_nothing text n rest none =
-    let left : lines_left (unread_at text n rest) ≡ [] = lines_left-unread_at text n rest ∙ none in
-    record { found = sym (ap is_filled left); place = sym (ap (at_line (unread_at text n rest)) left) }
+finds_nothing text n rest none = grind (arith, lines_left-unread_at)
 
 pub none_found : (text : List ℕ) (n : ℕ) (rest : List ℕ) (unread : Unread) → unread_at text n rest ≡ unread → lines_from n rest ≡ []
     → false ≡ is_filled (lines_left unread)
@@ -48,13 +43,7 @@ record Finds (unread next : Unread) : Type 0 where
 
 finds : (text : List ℕ) (n : ℕ) (rest : List ℕ) (m : ℕ) (after : List ℕ) → IsFirstWord n rest m after
     → Finds (unread_at text n rest) (unread_at text m after)
-finds text n rest m after h =
-    let some : is_filled (words_here after) ≡ true = ap is_filled (words_here-word after h.word) in
-    let first : lines_from m after ≡ record { number = m; words = words_here after } ∷ lines_from (m + 1) (behind after) =
-    lines_from_here m after ∙ rw some refl in
-    let left : lines_left (unread_at text n rest) ≡ record { number = m; words = words_here after } ∷ lines_from (m + 1) (behind after)
-    = lines_left-unread_at text n rest ∙ h.lines ∙ first in
-    record { found = sym (ap is_filled left); place = sym (ap (at_line (unread_at text n rest)) left) }
+finds text n rest m after h = grind (arith, words_here-word, behind, lines_from_here, lines_left-unread_at)
 
 pub some_found : (text : List ℕ) (n : ℕ) (rest : List ℕ) (m : ℕ) (after : List ℕ) (unread : Unread) → unread_at text n rest ≡ unread
     → IsFirstWord n rest m after
@@ -74,11 +63,7 @@ some_filled n rest m after h = ap is_filled (words_here-word after h.word)
 
 pub moved : (text : List ℕ) (n : ℕ) (rest after : List ℕ) (unread : Unread) → unread_at text n rest ≡ unread → IsPast 1 rest after
     → unread_at text n after ≡ past_word unread
-moved text n rest after unread is h =
-    subst (λ u. unread_at text n after ≡ past_word u) is
-    (let words : words_here after ≡ drop 1 (words_here rest) = h.words in
-    let lines : lines_from (n + 1) (behind after) ≡ lines_from (n + 1) (behind rest) = ap (lines_from (n + 1)) h.behind in
-    rw (words, lines) refl)
+moved text n rest after unread is h = grind (arith, past_word, behind)
 
 -- ---- words left
 
@@ -92,8 +77,7 @@ filled_here rest no_blank = by_test (begins_word rest) refl
 pub has_word : (text : List ℕ) (n : ℕ) (rest after : List ℕ) (unread : Unread) → unread_at text n rest ≡ unread → IsPast 0 rest after
     → begins_with is_blank after ≡ false
     → begins_word after ≡ is_filled unread.words
-has_word text n rest after unread is h no_blank = filled_here after no_blank ∙ ap is_filled h.words
-    ∙ ap (λ (u : Unread). is_filled u.words) is
+has_word text n rest after unread is h no_blank = grind (arith, filled_here)
 
 pub no_word_left : (text : List ℕ) (n : ℕ) (rest after : List ℕ) (unread : Unread) → unread_at text n rest ≡ unread → IsPast 0 rest after
     → begins_with is_blank after ≡ false
@@ -104,16 +88,10 @@ no_word_left text n rest after unread is h no_blank e = sym (ap (λ (u : Unread)
 pub word_left : (text : List ℕ) (n : ℕ) (rest after word : List ℕ) (unread : Unread) → unread_at text n rest ≡ unread
     → IsPast 0 rest after → begins_word after ≡ true
     → word ≡ before_first ends_word after → Some word ≡ next_word unread.words
-word_left text n rest after word unread is h begin same =
-    ap Some same ∙ sym (ap next_word (words_here-word after begin)) ∙ ap next_word h.words ∙ ap (λ (u : Unread). next_word u.words) is
+word_left text n rest after word unread is h begin same = grind (arith, next_word, words_here-word)
 
 pub both_past : (n m : ℕ) (first second third : List ℕ) → IsPast n first second → IsPast m second third → IsPast (n + m) first third
-both_past n m first second third h k =
-    record {
-      words = k.words ∙ ap (λ t. drop m t) h.words ∙ drop-drop m n (words_here first) ∙ ap (λ i. drop i (words_here first)) (omega arith);
-      behind = k.behind ∙ h.behind;
-      shorter = omega (arith, h.shorter, k.shorter);
-    }
+both_past n m first second third h k = grind (arith, common_steps, behind)
 
 pub moved_past : (text : List ℕ) (n : ℕ) (rest start after : List ℕ) (unread : Unread) → unread_at text n rest ≡ unread
     → IsPast 0 rest start → IsPast 1 start after
@@ -121,8 +99,7 @@ pub moved_past : (text : List ℕ) (n : ℕ) (rest start after : List ℕ) (unre
 moved_past text n rest start after unread is h k = moved text n rest after unread is (both_past 0 1 rest start after h k)
 
 pub nothing_past : (unread : Unread) → unread.words ≡ [] → unread ≡ past_word unread
-nothing_past unread none = ap (λ (ws : List (List ℕ)). record unread { words = ws }) (none
-    ∙ sym (ap (λ (ws : List (List ℕ)). drop 1 ws) none))
+nothing_past unread none = grind arith
 
 -- ---- how many words are left
 
@@ -139,14 +116,7 @@ few_parts (byte ∷ line) = by_test (is_blank byte) (slice_split is_blank line) 
 
 few_words : (rest : List ℕ) → length (words_here rest) ≤ length rest
 unfolding words_here words
-few_words rest =
-    let line : List ℕ = before_first is_line_feed rest in
-    omega (
-      arith,
-      few_parts (uncommented line),
-      length-take (position_or_len (λ byte. eqb byte 35) line) line,
-      length-take (position_or_len is_line_feed rest) rest,
-    )
+few_words rest = grind (arith, common_steps, few_parts)
 
 -- further on there are no more words than bytes
 pub few_left : (n : ℕ) (rest start after : List ℕ) → 0 < n → n + length rest < 2 ^ 64 → IsPast 0 rest start → IsPast 1 start after
@@ -163,14 +133,7 @@ pub a_line : (n m : ℕ) (rest found after text : List ℕ) (left : LinesLeft)
     → record { lines = lines_from n rest; count = length (cut text) } ≡ left → IsFirstWord n rest m found
     → words_here after ≡ [] → behind after ≡ behind found
     → left ≡ record { lines = record { number = m; words = words_here found } ∷ lines_from m after; count = length (cut text) }
-a_line n m rest found after text left is h none same =
-    let some : is_filled (words_here found) ≡ true = ap is_filled (words_here-word found h.word) in
-    let first : lines_from m found ≡ record { number = m; words = words_here found } ∷ lines_from (m + 1) (behind found) =
-    lines_from_here m found ∙ rw some refl in
-    let others : lines_from m after ≡ lines_from (m + 1) (behind found) = lines_from_here m after
-    ∙ rw none (ap (lines_from (m + 1)) same) in
-    sym is ∙ ap (λ (ls : List Line). record { lines = ls; count = length (cut text) }) (h.lines ∙ first
-    ∙ ap (λ (ls : List Line). record { number = m; words = words_here found } ∷ ls) (sym others))
+a_line n m rest found after text left is h none same = grind (arith, words_here-word, behind, lines_from_here)
 
 pub none_in_line : (rest after : List ℕ) (left : List (List ℕ)) → words_here rest ≡ left → IsPast 0 rest after
     → begins_with is_blank after ≡ false → begins_word after ≡ false → left ≡ []
@@ -179,8 +142,7 @@ none_in_line rest after left is h no_blank e = sym is ∙ sym h.words ∙ no_wor
 pub first_in_line : (rest after word : List ℕ) (left : List (List ℕ)) → words_here rest ≡ left → IsPast 0 rest after
     → begins_word after ≡ true
     → word ≡ before_first ends_word after → Some word ≡ next_word left
-first_in_line rest after word left is h begin same = ap Some same ∙ sym (ap next_word (words_here-word after begin))
-    ∙ ap next_word (h.words ∙ is)
+first_in_line rest after word left is h begin same = grind (arith, next_word, words_here-word)
 
 pub others_in_line : (rest start after : List ℕ) (left : List (List ℕ)) → words_here rest ≡ left → IsPast 0 rest start
     → IsPast 1 start after → words_here after ≡ drop 1 left

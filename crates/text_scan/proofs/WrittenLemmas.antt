@@ -1,16 +1,11 @@
 -- Lines that were written are read again.
-use Rattle.text_scan.proofs.Common.{◌≡◌, ℕ, suc, ◌==◌, ◌+◌, ◌-◌, ◌*◌, ◌%◌, ◌^◌, ◌<◌, ◌≤◌, true, false, not, List, [], ◌∷◌, ◌++◌, refl, ap, ◌∙◌, append_assoc, arith, lt-ltb, le-leb, leb-true, and_parts, and_from, list_all-append, list_all, join_with_byte, Some, nat_le, decimal, flat_map, All, ℤ, pos, negsuc, option_map}
+use Rattle.text_scan.proofs.Common.{◌≡◌, ℕ, suc, ◌==◌, ◌+◌, ◌-◌, ◌%◌, ◌^◌, ◌<◌, ◌≤◌, true, false, not, List, [], ◌∷◌, ◌++◌, refl, ap, ◌∙◌, append_assoc, arith, lt-ltb, leb-true, and_parts, and_from, common_steps, list_all-append, list_all, Some, nat_le, decimal, flat_map, All, ℤ, pos, negsuc, option_map, map, each_some, Line, is_filled, cut, lines_from, is_digit, is_natural, value_of, natural_of, signed_of, fits_i64, number_below, number_of, integer_of, ends_word, begins_word, from_first, is_line_feed, words_here, behind}
 use Rattle.std.proofs.lemmas.Fmt.{decimal_by_steps}
 use Rattle.std.proofs.lemmas.List.{append-nil}
 use Rattle.std.proofs.lemmas.List.Elements.{All-head, All-tail, All-cons, All-nil}
 use Rattle.std.specs.Fmt.{signed_decimal}
-use Rattle.std.specs.Prelude.{fold, map}
-use Rattle.text_scan.specs.Lines.{Line, is_filled, cut, lines_from}
-use Rattle.text_scan.specs.Numbers.{is_digit, is_natural, value_of, natural_of, signed_of, fits_i64, number_below, number_of, integer_of}
-use Rattle.text_scan.specs.Each.{each_some}
+use Rattle.std.specs.Prelude.{fold}
 use Rattle.text_scan.specs.Plain.{line_of}
-use Rattle.text_scan.specs.Unread.{is_line_feed, words_here, behind}
-use Rattle.text_scan.specs.Steps.{ends_word, begins_word, from_first}
 use Rattle.text_scan.proofs.ListLemmas.{all_weaker, before_first-append, before_first-yes, from_first-append, from_first-yes}
 use Rattle.text_scan.proofs.PlaceLemmas.{words_here-word, words_here-blank, words_here-line_feed, behind-line_feed, behind-other, lines_from_here}
 
@@ -51,9 +46,7 @@ line-one word rest = append_assoc word (10 ∷ []) rest
 
 line-more : (word next : List ℕ) (words : List (List ℕ)) (rest : List ℕ)
     → line_of (word ∷ next ∷ words) ++ rest ≡ word ++ 32 ∷ (line_of (next ∷ words) ++ rest)
-line-more word next words rest =
-    ap (λ t. t ++ rest) (append_assoc word (32 ∷ join_with_byte 32 (next ∷ words)) (10 ∷ []))
-    ∙ append_assoc word (32 ∷ (join_with_byte 32 (next ∷ words) ++ 10 ∷ [])) rest
+line-more word next words rest = grind (arith, common_steps)
 
 -- its words are read
 pub words_here-line : (word : List ℕ) (words : List (List ℕ)) (rest : List ℕ) → All IsWritable (word ∷ words)
@@ -108,8 +101,7 @@ pub record IsDecimal (n : ℕ) (digits : List ℕ) : Type 0 where
   pub value : value_of digits ≡ n
 
 is_digit-below : (n : ℕ) → n < 10 → is_digit (48 + n) ≡ true
-is_digit-below n less = and_from (nat_le 48 (48 + n)) (nat_le (48 + n) 57) (le-leb 48 (48 + n) (omega arith))
-    (le-leb (48 + n) 57 (omega arith))
+is_digit-below n less = grind (arith, and_from)
 
 fold-push : (f : ℕ → ℕ → ℕ) (a : ℕ) (xs : List ℕ) (x : ℕ) → fold f a (xs ++ x ∷ []) ≡ f (fold f a xs) x
 fold-push f a [] x = refl
@@ -126,8 +118,7 @@ decimal_is = decimal_by_steps IsDecimal
     (λ n ds many so_far. record {
       filled = is_filled-push ds (48 + n % 10);
       all = list_all-append is_digit ds ((48 + n % 10) ∷ []) ∙ rw (so_far.all, is_digit-below (n % 10) (omega arith)) refl;
-      value = fold-push (λ value digit. value * 10 + (digit - 48)) 0 ds (48 + n % 10)
-          ∙ ap (λ v. v * 10 + (48 + n % 10 - 48)) so_far.value ∙ omega arith;
+      value = grind (arith, fold-push);
     })
 
 pub digits_inside : (ds : List ℕ) → list_all is_digit ds ≡ true → list_all (λ byte. not (ends_word byte)) ds ≡ true
@@ -145,10 +136,7 @@ decimal-writable n fits = let d = decimal_is n fits in record { filled = d.fille
 -- a number that was written is read
 natural-read : (n : ℕ) → n < 2 ^ 64 → natural_of (decimal n) ≡ Some n
 unfolding is_natural
-natural-read n fits =
-    let d = decimal_is n fits in
-    let natural : is_natural (decimal n) ≡ true = and_from (is_filled (decimal n)) (list_all is_digit (decimal n)) d.filled d.all in
-    rw (natural, d.value) refl
+natural-read n fits = grind (arith, decimal_is, and_from)
 
 pub number_below-decimal : (bound n : ℕ) → n < bound → n < 2 ^ 64 → number_below bound (decimal n) ≡ Some n
 number_below-decimal bound n less fits = rw (natural-read n fits, lt-ltb n bound less) refl
@@ -204,10 +192,5 @@ no_minus (byte ∷ word) filled digits =
     no byte digit = grind (arith, digit)
 
 pub integer-read : (z : ℤ) → fits_i64 z ≡ true → integer_of (signed_decimal z) ≡ Some z
-integer-read (pos n) fits =
-    let few : n < 2 ^ 64 = grind (arith, fits) in
-    let d = decimal_is n few in
-    rw (no_minus (decimal n) d.filled d.all, natural-read n few, fits) refl
-integer-read (negsuc n) fits =
-    let few : suc n < 2 ^ 64 = grind (arith, fits) in
-    rw (natural-read (suc n) few, fits) refl
+integer-read (pos n) fits = grind (arith, decimal_is, no_minus, natural-read)
+integer-read (negsuc n) fits = grind (arith, natural-read)

@@ -1,4 +1,4 @@
-use Rattle.file_pieces.proofs.Common.{◌+◌, ℕ, List, refl, ◌∙◌, sym, words_here}
+use Rattle.file_pieces.proofs.Common.{arith, ◌+◌, ℕ, List, refl, ◌∙◌, sym, words_here}
 use Rattle.file_pieces.proofs.FileLineLemmas.{line_found, line_blank, finds, ends_blank}
 use Rattle.file_pieces.proofs.file_lines.end_line.Goals as goal
 
@@ -12,9 +12,4 @@ returns-then-has_words-clause-line c = λ first all left on.
     refl) on
 
 pub returns-clause-line : goal.returns-clause-line
-returns-clause-line c = λ first all left on.
-    let number : ℕ = c.args.number.now in
-    let short : List (List ℕ) = words_here c.finish.new.self.done in
-    ends_blank first all c.args.line.now c.clear.new.self number (number + 1) short left (λ bytes rest stands alone.
-    line_blank number (number + 1) bytes rest short short alone (c.finish.ensures.words bytes stands) (sym c.has_words.ensures
-    ∙ c.if-has_words.false) refl) c.clear.ensures on
+returns-clause-line c = grind (arith, ends_blank, line_blank)

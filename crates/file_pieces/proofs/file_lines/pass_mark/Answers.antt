@@ -1,7 +1,4 @@
-use Rattle.file_pieces.proofs.Common.{◌≡◌, ℕ, List, Bool, Option, true, false, Some, [], ◌∷◌, drop, ap, ◌∙◌, subst, sym, arith, rules, Files, file_of, unmarked}
-use Rattle.file_pieces.specs.Reading.{Reads, left_of}
-use Rattle.file_pieces.specs.ShortLines.{Stands}
-use Rattle.file_pieces.specs.FileLines.{IsOn, Passes}
+use Rattle.file_pieces.proofs.Common.{IsOn, Passes, Reads, left_of, Stands, ◌≡◌, ℕ, List, Bool, true, false, Some, [], ◌∷◌, arith, rules, file_of, unmarked}
 use Rattle.file_pieces.proofs.ReadingLemmas.{told}
 use Rattle.file_pieces.proofs.FileLineLemmas.{passes_told, put_told, no_mark_first, no_mark_second, no_mark_third, mark_passed}
 use Rattle.file_pieces.proofs.file_lines.pass_mark.Goals as goal
@@ -11,31 +8,19 @@ use Rattle.file_pieces.proofs.file_lines.pass_mark.Goals.{After-pass_byte-2, Aft
 first_left : (g : _) (c : In_ok-pass_byte g) (passed : Bool) → c.in_ok-pass_byte.field-0 ≡ passed → (f : List ℕ)
     → file_of (g.S.Shelf.held c.args.shelf.now) c.args.name.now ≡ Some f → Reads c.args.pieces.now f
     → Reads c.pass_byte.new.pieces f × Passes passed 239 f (left_of c.pass_byte.new.pieces f)
-first_left g c passed so f is reads =
-    let whole : f ≡ left_of c.args.pieces.now f = sym (ap (λ p. drop p f) c.requires.place) in
-    let left : Reads c.pass_byte.new.pieces f × Passes passed 239 (left_of c.args.pieces.now f) (left_of c.pass_byte.new.pieces f) =
-    passes_told (file_of (g.S.Shelf.held c.args.shelf.now) c.args.name.now) c.args.pieces.now c.pass_byte.new.pieces passed
-    c.in_ok-pass_byte.field-0 239 f is so c.in_ok-pass_byte.ensures.reads c.in_ok-pass_byte.ensures.passed reads in
-    (left.0, subst (λ t. Passes passed 239 t (left_of c.pass_byte.new.pieces f)) (sym whole) left.1)
+first_left g c passed so f is reads = grind (arith, left_of, passes_told)
 
 -- and of the second
 second_left : (g : _) (c : In_ok-pass_byte-2 g) (passed : Bool) → c.in_ok-pass_byte-2.field-0 ≡ passed → (f : List ℕ)
     → file_of (g.S.Shelf.held c.args.shelf.now) c.args.name.now ≡ Some f → Reads c.pass_byte.new.pieces f
     → Reads c.pass_byte-2.new.pieces f × Passes passed 187 (left_of c.pass_byte.new.pieces f) (left_of c.pass_byte-2.new.pieces f)
-second_left g c passed so f is reads =
-    let there = ap (λ (h : Option Files). file_of h c.args.name.now) c.pass_byte.ensures.only_reads.same_files ∙ is in
-    passes_told (file_of (g.S.Shelf.held c.pass_byte.new.shelf) c.args.name.now) c.pass_byte.new.pieces c.pass_byte-2.new.pieces passed
-    c.in_ok-pass_byte-2.field-0 187 f there so c.in_ok-pass_byte-2.ensures.reads c.in_ok-pass_byte-2.ensures.passed reads
+second_left g c passed so f is reads = grind (arith, passes_told)
 
 -- and of the third
 third_left : (g : _) (c : In_ok-pass_byte-3 g) (passed : Bool) → c.in_ok-pass_byte-3.field-0 ≡ passed → (f : List ℕ)
     → file_of (g.S.Shelf.held c.args.shelf.now) c.args.name.now ≡ Some f → Reads c.pass_byte-2.new.pieces f
     → Reads c.pass_byte-3.new.pieces f × Passes passed 191 (left_of c.pass_byte-2.new.pieces f) (left_of c.pass_byte-3.new.pieces f)
-third_left g c passed so f is reads =
-    let there = ap (λ (h : Option Files). file_of h c.args.name.now) (c.pass_byte-2.ensures.only_reads.same_files
-    ∙ c.pass_byte.ensures.only_reads.same_files) ∙ is in
-    passes_told (file_of (g.S.Shelf.held c.pass_byte-2.new.shelf) c.args.name.now) c.pass_byte-2.new.pieces c.pass_byte-3.new.pieces passed
-    c.in_ok-pass_byte-3.field-0 191 f there so c.in_ok-pass_byte-3.ensures.reads c.in_ok-pass_byte-3.ensures.passed reads
+third_left g c passed so f is reads = grind (arith, passes_told)
 
 pub returns-then-not-branch-clause-line : goal.returns-then-not-branch-clause-line
 returns-then-not-branch-clause-line g c =

@@ -1,6 +1,4 @@
-use Rattle.file_pieces.proofs.Common.{◌≡◌, ◌+◌, ℕ, List, Option, Some, IfSome, ap, ◌∙◌, subst, arith, Files, file_of, words_here}
-use Rattle.file_pieces.specs.Reading.{Reads, left_of}
-use Rattle.file_pieces.specs.FileLines.{IsOn, ReadsLine, StandsBehind, IsNumbered, TakesPlace}
+use Rattle.file_pieces.proofs.Common.{IsOn, ReadsLine, StandsBehind, IsNumbered, Reads, left_of, ◌≡◌, ℕ, List, Option, Some, IfSome, ap, ◌∙◌, subst, arith, Files, file_of, words_here}
 use Rattle.file_pieces.specs.declared.file_lines.Taken.TheVariants.{Open, Found, End}
 use Rattle.file_pieces.proofs.ReadingLemmas.{told, at_told, filled_kept}
 use Rattle.file_pieces.proofs.FileLineLemmas.{reads_on, takes_on}
@@ -25,12 +23,7 @@ loop-found-preserved g c =
           subst (λ t. IsNumbered t c.take_byte.new.number c.take_byte.new.line.begun c.take_byte.new.pieces.place) c.in-Open.is
           c.in_ok-take_byte.ensures.numbered;
       later = omega (arith, c.loop-found.invariant.later, c.take_byte.ensures.later);
-      lazy = λ within.
-          let more : c.take_byte.new.pieces.place ≡ c.loop-found.pieces.place + 1 =
-          subst (λ t. TakesPlace t c.loop-found.pieces c.take_byte.new.pieces) c.in-Open.is c.in_ok-take_byte.ensures.place in
-          let so_far = c.loop-found.invariant.lazy (omega (arith, within, more)) in
-          let step = c.in_ok-take_byte.ensures.lazy (filled_kept c.loop-found.pieces (omega (arith, within, more, so_far.1))) in
-          (step.0 ∙ so_far.0, step.1 ∙ so_far.1);
+      lazy = λ within. grind (arith, filled_kept);
       limit = c.take_byte.ensures.limit ∙ c.loop-found.invariant.limit;
       held = c.take_byte.ensures.only_reads.same_files ∙ c.loop-found.invariant.held;
       faults = omega (arith, c.loop-found.invariant.faults, c.take_byte.ensures.only_reads.never_falls);

@@ -1,6 +1,4 @@
-use Rattle.file_pieces.proofs.Common.{◌≡◌, ℕ, List, ◌+◌, ◌-◌, ◌≤◌, IfSome, if◌then◌else◌, file_of}
-use Rattle.file_pieces.specs.Reading.{Reads, left_of, read_so_far}
-use Rattle.file_pieces.specs.FileLines.{IsOn}
+use Rattle.file_pieces.proofs.Common.{IsOn, Reads, left_of, read_so_far, ◌≡◌, ℕ, List, ◌+◌, ◌-◌, ◌≤◌, IfSome, if◌then◌else◌, file_of}
 use Rattle.file_pieces.proofs.file_lines.read_line.Given as goal
 
 -- the lines so far are blank, and the present one is put together

@@ -1,4 +1,4 @@
-use Rattle.file_pieces.proofs.Common.{◌≡◌, ◌&&◌, ℕ, List, false, [], ◌∷◌, ◌++◌, length, sym, ap, ◌∙◌, arith, and_parts, bytes_eq, is_digit}
+use Rattle.file_pieces.proofs.Common.{◌≡◌, ℕ, List, [], ◌∷◌, ◌++◌, length, sym, ap, ◌∙◌, arith, and_parts, common_steps, bytes_eq, is_digit}
 use Rattle.file_pieces.proofs.ShortLemmas.{zero_replaced, byte_put, byte_left_out}
 use Rattle.file_pieces.proofs.short_line.push_byte.Goals as goal
 
@@ -11,12 +11,7 @@ returns-then-is_zero_before c =
     (c.push.ensures.items ∙ ap (λ (t : List ℕ). t ++ c.args.byte ∷ []) c.clear.ensures) c.requires.goes_on
 
 pub returns-then-len-lt-MOST_BYTES : goal.returns-then-len-lt-MOST_BYTES
-returns-then-len-lt-MOST_BYTES c =
-    let no_zero : (is_digit c.args.byte && bytes_eq c.args.word.now.items (48 ∷ [])) ≡ false =
-    ap (λ (t : List ℕ). is_digit c.args.byte && bytes_eq t (48 ∷ [])) (sym c.as_slice.ensures.value) ∙ sym c.is_zero_before.ensures
-    ∙ c.if-is_zero_before.false in
-    byte_put c.args.word.now.items c.push-then-len-lt-MOST_BYTES.new.self.items c.args.byte c.requires.lean c.requires.inside
-    c.requires.goes_on no_zero (omega (arith, c.if-len-lt-MOST_BYTES.true)) c.push-then-len-lt-MOST_BYTES.ensures.items
+returns-then-len-lt-MOST_BYTES c = grind (arith, common_steps, byte_put)
 
 pub returns-else-len-lt-MOST_BYTES : goal.returns-else-len-lt-MOST_BYTES
 returns-else-len-lt-MOST_BYTES c =

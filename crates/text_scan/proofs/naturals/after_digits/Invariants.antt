@@ -1,5 +1,4 @@
-use Rattle.text_scan.proofs.Common.{length}
-use Rattle.text_scan.specs.Steps.{IsPastDigits}
+use Rattle.text_scan.proofs.Common.{length, IsPastDigits}
 use Rattle.text_scan.proofs.naturals.after_digits.Given as goal
 
 abbrev pub invariant-loop-rest : goal.invariant-loop-rest

@@ -1,5 +1,4 @@
-use Rattle.text_scan.proofs.Common.{ap, ◌∙◌}
-use Rattle.text_scan.specs.Numbers.{is_unsigned_text, is_number_text}
+use Rattle.text_scan.proofs.Common.{ap, ◌∙◌, is_unsigned_text, is_number_text}
 use Rattle.text_scan.proofs.naturals.is_number_text.Goals as goal
 
 pub returns : goal.returns

@@ -1,5 +1,4 @@
-use Rattle.text_scan.proofs.Common.{◌≡◌, take}
-use Rattle.text_scan.specs.Numbers.{value_of}
+use Rattle.text_scan.proofs.Common.{◌≡◌, take, value_of}
 use Rattle.text_scan.proofs.naturals.value_of.Given as goal
 
 abbrev pub invariant-loop-digit : goal.invariant-loop-digit

@@ -1,5 +1,4 @@
-use Rattle.text_scan.proofs.Common.{length}
-use Rattle.text_scan.specs.Steps.{IsPast}
+use Rattle.text_scan.proofs.Common.{length, IsPast}
 use Rattle.text_scan.proofs.steps.after_blanks.Given as goal
 
 abbrev pub invariant-loop-rest : goal.invariant-loop-rest

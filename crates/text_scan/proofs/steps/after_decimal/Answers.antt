@@ -9,11 +9,7 @@ returns-in-46 c =
     c.after_digits.ensures.digits
 
 pub returns-in_default : goal.returns-in_default
-returns-in_default c =
-    λ first. whole_digits c.args.bytes.now c.after_digits-behind.result.now first c.after_digits-behind.ensures.digits
-    c.after_digits-behind.ensures.stop
+returns-in_default c = grind (arith, whole_digits)
 
 pub returns-in_default-2 : goal.returns-in_default-2
-returns-in_default-2 c =
-    λ first. whole_digits c.args.bytes.now c.after_digits-behind.result.now first c.after_digits-behind.ensures.digits
-    c.after_digits-behind.ensures.stop
+returns-in_default-2 c = grind (arith, whole_digits)

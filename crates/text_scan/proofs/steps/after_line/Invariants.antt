@@ -1,5 +1,4 @@
-use Rattle.text_scan.proofs.Common.{◌≡◌, ◌≤◌, length}
-use Rattle.text_scan.specs.Unread.{behind}
+use Rattle.text_scan.proofs.Common.{◌≡◌, ◌≤◌, length, behind}
 use Rattle.text_scan.proofs.steps.after_line.Given as goal
 
 abbrev pub invariant-loop-rest : goal.invariant-loop-rest

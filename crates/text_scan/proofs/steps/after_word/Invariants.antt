@@ -1,5 +1,4 @@
-use Rattle.text_scan.proofs.Common.{◌≡◌, length}
-use Rattle.text_scan.specs.Steps.{ends_word, from_first}
+use Rattle.text_scan.proofs.Common.{◌≡◌, length, ends_word, from_first}
 use Rattle.text_scan.proofs.steps.after_word.Given as goal
 
 abbrev pub invariant-loop-rest : goal.invariant-loop-rest

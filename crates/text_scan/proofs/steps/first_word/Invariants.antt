@@ -1,5 +1,4 @@
-use Rattle.text_scan.proofs.Common.{◌≡◌, ◌+◌, ◌≤◌, length}
-use Rattle.text_scan.specs.Lines.{lines_from}
+use Rattle.text_scan.proofs.Common.{◌≡◌, ◌+◌, ◌≤◌, length, lines_from}
 use Rattle.text_scan.proofs.steps.first_word.Given as goal
 
 abbrev pub invariant-loop-rest : goal.invariant-loop-rest

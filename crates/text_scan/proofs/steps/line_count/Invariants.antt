@@ -1,5 +1,4 @@
-use Rattle.text_scan.proofs.Common.{◌≡◌, ◌≤◌, ◌+◌, length}
-use Rattle.text_scan.specs.Lines.{cut}
+use Rattle.text_scan.proofs.Common.{◌≡◌, ◌≤◌, ◌+◌, length, cut}
 use Rattle.text_scan.proofs.steps.line_count.Given as goal
 
 abbrev pub invariant-loop-rest : goal.invariant-loop-rest

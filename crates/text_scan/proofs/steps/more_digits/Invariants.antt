@@ -1,5 +1,4 @@
-use Rattle.text_scan.proofs.Common.{ℕ, List, length}
-use Rattle.text_scan.specs.Steps.{ArePastDigits}
+use Rattle.text_scan.proofs.Common.{ℕ, List, length, ArePastDigits}
 use Rattle.text_scan.proofs.steps.more_digits.Given as goal
 
 abbrev pub invariant-loop-rest : goal.invariant-loop-rest

@@ -1,5 +1,4 @@
-use Rattle.file_pieces.proofs.Common.{◌≡◌, ◌+◌, drop, ap, ◌∙◌}
-use Rattle.file_pieces.specs.FileLines.{LinesReading}
+use Rattle.file_pieces.proofs.Common.{LinesReading, arith, ◌≡◌, ◌+◌, drop, ap}
 use Rattle.file_pieces.proofs.KeptLines.{pass_line-reads, passes_line}
 use Rattle.file_pieces.proofs.file_lines.FileLines.pass_line.Goals as goal
 use Rattle.file_pieces.proofs.file_lines.FileLines.pass_line.Goals.{After-pass}
@@ -8,17 +7,10 @@ passed : (c : After-pass) → c.pass.new.self ≡ record c.args.self.now.reading
   place = c.args.self.now.reading.place + (c.args.len + 1);
   kept = drop (c.args.len + 1) c.args.self.now.reading.kept;
 }
-passed c =
-    c.pass.ensures.kept
-    ∙ ap (λ (r : LinesReading). record r.reading {
-      place = r.reading.place + (c.args.len + 1);
-      kept = drop (c.args.len + 1) r.reading.kept;
-    }) c.self.view_is
+passed c = grind arith
 
 pub returns-clause-reads : goal.returns-clause-reads
-returns-clause-reads c = λ file reads.
-    pass_line-reads c.args.self.now.reading c.pass.new.self file c.args.len (passed (goal.at.returns-clause-reads c).After-pass)
-    c.requires.kept reads
+returns-clause-reads c = grind (arith, pass_line-reads, passed)
 
 pub returns-clause-line : goal.returns-clause-line
 returns-clause-line c = λ file reads.

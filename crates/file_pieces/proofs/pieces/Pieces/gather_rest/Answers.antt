@@ -1,5 +1,4 @@
-use Rattle.file_pieces.proofs.Common.{◌≡◌, ℕ, List, Option, ◌++◌, ◌+◌, length, false, IfSome, ap, subst, ◌∙◌, arith, rules, length-append, Files, file_of}
-use Rattle.file_pieces.specs.Reading.{Reading, Reads, left_of}
+use Rattle.file_pieces.proofs.Common.{Reading, Reads, left_of, ◌≡◌, ℕ, List, Option, ◌++◌, ◌+◌, length, false, IfSome, ap, subst, ◌∙◌, arith, rules, length-append, Files, file_of}
 use Rattle.file_pieces.proofs.ReadingLemmas.{told, at_told, pass_kept-reads, gathered}
 use Rattle.file_pieces.proofs.pieces.Pieces.gather_rest.Goals as goal
 

@@ -1,5 +1,4 @@
-use Rattle.file_pieces.proofs.Common.{◌≡◌, ◌+◌, ◌-◌, ◌≤◌, ◌++◌, length, IfSome, if◌then◌else◌, file_of}
-use Rattle.file_pieces.specs.Reading.{Reads, left_of, read_so_far}
+use Rattle.file_pieces.proofs.Common.{Reads, left_of, read_so_far, ◌≡◌, ◌+◌, ◌-◌, ◌≤◌, ◌++◌, length, IfSome, if◌then◌else◌, file_of}
 use Rattle.file_pieces.proofs.pieces.Pieces.gather_rest.Given as goal
 
 -- the file is read on, and what was read is gathered

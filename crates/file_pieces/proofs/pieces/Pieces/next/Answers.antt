@@ -1,5 +1,4 @@
-use Rattle.file_pieces.proofs.Common.{ℕ, List, length, inl, inr, ap, arith, file_of}
-use Rattle.file_pieces.specs.Reading.{Reads}
+use Rattle.file_pieces.proofs.Common.{Reads, ℕ, List, length, inl, inr, ap, arith, file_of}
 use Rattle.file_pieces.proofs.ReadingLemmas.{Taken, told, at_told, next_byte}
 use Rattle.file_pieces.proofs.pieces.Pieces.next.Goals as goal
 

@@ -1,5 +1,4 @@
-use Rattle.file_pieces.proofs.Common.{◌≡◌, ℕ, ◌+◌, ◌-◌, ◌≤◌, length, take, drop, sym, subst}
-use Rattle.file_pieces.specs.Reading.{Reading}
+use Rattle.file_pieces.proofs.Common.{Reading, ◌≡◌, ℕ, ◌+◌, ◌-◌, ◌≤◌, length, take, drop, sym, subst}
 use Rattle.file_pieces.proofs.KeptLines.{pass_some}
 use Rattle.file_pieces.proofs.pieces.Pieces.pass.Goals as goal
 

@@ -1,5 +1,4 @@
-use Rattle.file_pieces.proofs.Common.{◌≡◌, ◌+◌, ◌-◌, ◌≤◌, IfSome, if◌then◌else◌, file_of}
-use Rattle.file_pieces.specs.Reading.{Reads, read_so_far}
+use Rattle.file_pieces.proofs.Common.{Reads, read_so_far, ◌≡◌, ◌+◌, ◌-◌, ◌≤◌, IfSome, if◌then◌else◌, file_of}
 use Rattle.file_pieces.proofs.pieces.Pieces.pass_rest.Given as goal
 
 -- the file is read on

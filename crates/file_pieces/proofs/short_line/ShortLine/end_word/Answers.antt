@@ -1,25 +1,13 @@
-use Rattle.file_pieces.proofs.Common.{◌≡◌, ◌+◌, ℕ, List, true, [], ◌∷◌, ◌++◌, length, eqb, refl, ap, ◌∙◌, subst, sym, eqb-true, is_filled}
-use Rattle.file_pieces.specs.ShortLines.{ShortText, HasEnded}
+use Rattle.file_pieces.proofs.Common.{ShortText, HasEnded, arith, ◌≡◌, ◌+◌, true, [], ◌∷◌, ◌++◌, eqb, refl, ap, ◌∙◌, subst, sym, common_steps, is_filled}
 use Rattle.file_pieces.proofs.ShortLemmas.{has_ended, none_ended, short_ended, filled_word}
 use Rattle.file_pieces.proofs.short_line.ShortLine.end_word.Goals as goal
 
 pub returns-then-is_empty-clause-ended : goal.returns-then-is_empty-clause-ended
-returns-then-is_empty-clause-ended c =
-    let now : ShortText = record {
-      done = c.self.inside.done.items;
-      word = c.self.inside.word.items;
-      closed = c.self.inside.closed;
-      begun = c.self.inside.begun;
-    } in
-    subst (λ (l : ShortText). HasEnded l.done l.word l) c.self.view_is
-    (none_ended now c.self.inside.words c.self.invariant (ap (λ (l : ShortText). l.closed) c.self.view_is ∙ c.requires)
-    (eqb-true (length c.self.inside.word.items) 0 (sym c.is_empty.ensures ∙ c.if-is_empty.true)))
+returns-then-is_empty-clause-ended c = grind (arith, common_steps, none_ended)
 
 -- the text behind the word that has ended
 text : (c : goal.After-self-2-1) → c.push.new.self.items ≡ (c.self.inside.done.items ++ c.self.inside.word.items) ++ 32 ∷ []
-text c =
-    c.push.ensures.items
-    ∙ ap (λ (t : List ℕ). t ++ 32 ∷ []) (c.put.ensures ∙ ap (λ (t : List ℕ). c.self.inside.done.items ++ t) c.as_slice.ensures.value)
+text c = grind arith
 
 some_begun : (c : goal.After-self-2-1) → is_filled c.self.inside.word.items ≡ true
 some_begun c = filled_word c.self.inside.word.items (sym c.is_empty.ensures ∙ c.if-is_empty.false)

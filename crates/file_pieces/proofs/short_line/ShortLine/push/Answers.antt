@@ -1,5 +1,4 @@
-use Rattle.file_pieces.proofs.Common.{true, [], ◌∷◌, ◌++◌, ap, ◌∙◌, subst, sym}
-use Rattle.file_pieces.specs.ShortLines.{ShortText, Stands}
+use Rattle.file_pieces.proofs.Common.{ShortText, Stands, true, [], ◌∷◌, ◌++◌, ap, ◌∙◌, subst, sym}
 use Rattle.file_pieces.proofs.ShortLemmas.{stands_blank, stands_hash, stands_word}
 use Rattle.file_pieces.proofs.short_line.ShortLine.push.Goals as goal
 

@@ -1,3 +1,4 @@
+use Rattle.text_scan.proofs.Common.{arith}
 use Rattle.text_scan.proofs.ViewLemmas.{few_left, few_here}
 use Rattle.text_scan.proofs.cursor.Cursor.natural.Goals as goal
 
@@ -7,7 +8,4 @@ returns-in_err-value-clause-few c =
     c.self.invariant.1
 
 pub returns-clause-few : goal.returns-clause-few
-returns-clause-few c =
-    few_left c.self.inside.line c.self.inside.rest.now c.after_blanks.result.now c.in_ok-value.rest.now c.self.invariant.0
-    c.self.invariant.1 c.after_blanks.ensures.place
-    c.in_ok-value.ensures.place
+returns-clause-few c = grind (arith, few_left)

@@ -1,5 +1,4 @@
-use Rattle.text_scan.proofs.Common.{ap, ◌+◌, length}
-use Rattle.text_scan.specs.Lines.{cut}
+use Rattle.text_scan.proofs.Common.{ap, ◌+◌, length, cut}
 use Rattle.text_scan.proofs.ViewLemmas.{starts}
 use Rattle.text_scan.proofs.cursor.Cursor.new.Goals as goal
 

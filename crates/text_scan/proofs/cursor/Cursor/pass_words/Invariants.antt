@@ -1,5 +1,4 @@
-use Rattle.text_scan.proofs.Common.{◌≡◌, length}
-use Rattle.text_scan.specs.Unread.{are_words, words_here}
+use Rattle.text_scan.proofs.Common.{◌≡◌, length, are_words, words_here}
 use Rattle.text_scan.proofs.cursor.Cursor.pass_words.Given as goal
 
 -- the words so far are the same
