@@ -1,6 +1,5 @@
 -- The faces of a cover, each over one of the mesh, and its edges.
-use Rattle.double_covers.proofs.Common.{HasSideBetween, side_between, ◌≡◌, inl, inr, ℕ, ◌+◌, ◌-◌, ◌<◌, Bool, true, false, not, List, [], length, map, get_or, refl, ap, sym, ◌∙◌, subst, arith, length-append, cases_lt, length-map, get_or-map, get_or_append_left, get_or-append_right, if◌then◌else◌, edge_swap, step_edge, step_within, tail_of, head_of, FaceList, face_at, next_corner, is_edge}
-use Rattle.double_covers.specs.Covers.{sheet_behind, over, lifted, AreTurns, cover_of}
+use Rattle.double_covers.proofs.Common.{HasSideBetween, side_between, sheet_behind, over, lifted, AreTurns, cover_of, ◌≡◌, inl, inr, ℕ, ◌+◌, ◌-◌, ◌<◌, Bool, true, false, not, List, [], length, map, get_or, refl, ap, sym, ◌∙◌, subst, arith, cases_lt, common_steps, length-map, get_or-map, get_or-append_right, if◌then◌else◌, edge_swap, step_edge, step_within, tail_of, head_of, FaceList, face_at, next_corner, is_edge}
 use Rattle.double_covers.proofs.Sheets.{sheet_at, sheets_apart, back, step, entry, length-lifted}
 
 -- the number of the face over face f that begins on a sheet
@@ -12,13 +11,7 @@ module _ (mesh : FaceList) (turns : ℕ → ℕ → Bool) where
   size upper = length-map mesh.faces (lifted turns mesh.count upper)
 
   pub all_faces : length (cover_of mesh turns).faces ≡ length mesh.faces + length mesh.faces
-  all_faces =
-      omega (
-        arith,
-        size false,
-        size true,
-        length-append (map (lifted turns mesh.count false) mesh.faces) (map (lifted turns mesh.count true) mesh.faces),
-      )
+  all_faces = grind (arith, common_steps, lifted)
 
   pub over_below : (upper : Bool) (f : ℕ) → f < length mesh.faces
       → face_over (length mesh.faces) upper f < length (cover_of mesh turns).faces
@@ -27,10 +20,7 @@ module _ (mesh : FaceList) (turns : ℕ → ℕ → Bool) where
 
   pub over_is : (upper : Bool) (f : ℕ) → f < length mesh.faces
       → face_at (cover_of mesh turns) (face_over (length mesh.faces) upper f) ≡ lifted turns mesh.count upper (face_at mesh f)
-  over_is false f l =
-      get_or_append_left (map (lifted turns mesh.count false) mesh.faces) (map (lifted turns mesh.count true) mesh.faces) [] f
-      (omega (arith, l, size false))
-      ∙ get_or-map (lifted turns mesh.count false) mesh.faces f [] [] l
+  over_is false f l = grind (arith, common_steps, lifted)
   over_is true f l =
       let n : ℕ = length mesh.faces in
       let less : n + f - n ≡ f = omega arith in

@@ -1,8 +1,7 @@
 -- Walks of the mesh are lifted to walks of the cover, and moves to moves.
-use Rattle.double_covers.proofs.Common.{used_corner, ◌≡◌, ◌≢◌, ℕ, ◌+◌, ◌-◌, ◌<◌, ◌≤◌, Bool, true, false, not, List, [], ◌∷◌, ◌++◌, length, get_or, refl, ap, sym, ◌∙◌, subst, arith, append_assoc, get_or_default, ◌↔◌, Some, first_answer, stays_walk, step_within, by_replacing, corner_after, meet, FaceList, IsFace, IsFaceList, face_at, corners_from, next_corner, is_edge, is_used, apply, apply_all, Homotopic, IsReplacement, Replaces, place_of, IsWalk, Move, Insert, Remove, Across, corners_beyond, end_from, end_beyond, run, walked, beyond}
+use Rattle.double_covers.proofs.Common.{used_corner, sheet_behind, over, lifted_behind, lifted, AreTurns, cover_of, under, ◌≡◌, ◌≢◌, ℕ, ◌+◌, ◌-◌, ◌<◌, ◌≤◌, Bool, true, false, not, List, [], ◌∷◌, ◌++◌, length, get_or, refl, ap, sym, ◌∙◌, subst, arith, append_assoc, get_or_default, ◌↔◌, Some, first_answer, stays_walk, step_within, by_replacing, corner_after, meet, FaceList, IsFace, IsFaceList, face_at, corners_from, next_corner, is_edge, is_used, apply, apply_all, Homotopic, IsReplacement, Replaces, place_of, IsWalk, Move, Insert, Remove, Across, corners_beyond, end_from, end_beyond, run, walked, beyond}
 use Rattle.surf_model.proofs.WayBackLemmas.{at_first}
 use Rattle.surf_model.proofs.EdgeLemmas as edges
-use Rattle.double_covers.specs.Covers.{sheet_behind, over, lifted_behind, lifted, AreTurns, cover_of, under}
 use Rattle.double_covers.proofs.Sheets.{sheet_at, back, next_sheet, entry, length-lifted, way_lifted, way_ends}
 use Rattle.double_covers.proofs.CoverFaces.{face_over, over_below, over_is, IsOver, each_over, begins_on, edge_lifted}
 use Rattle.double_covers.proofs.LiftedWalks.{front_lifted, rest_lifted, under_over, walk_under}
@@ -68,9 +67,7 @@ module _ (mesh : FaceList) (turns : ℕ → ℕ → Bool) (are : AreTurns mesh t
       subst (λ (r : List ℕ). is_used (cover_of mesh turns) (get_or r t 0) ≡ true) is
       (edges.corner_used (cover_of mesh turns) (face_over (length mesh.faces) b.0 f) t (over_below mesh turns b.0 f found.1.side.face)
       (subst (λ (r : List ℕ). t < length r) (sym is) (omega (arith, within, long)))) in
-      let same : get_or (lifted turns mesh.count b.0 (face_at mesh f)) t 0 ≡ over mesh.count upper v =
-      entry turns mesh.count b.0 (face_at mesh f) t within ∙ ap (λ (s : Bool). over mesh.count s (get_or (face_at mesh f) t 0)) b.1
-      ∙ ap (over mesh.count upper) found.1.vertex in
+      let same : get_or (lifted turns mesh.count b.0 (face_at mesh f)) t 0 ≡ over mesh.count upper v = grind (arith, entry, over) in
       subst (λ (a : ℕ). is_used (cover_of mesh turns) a ≡ true) same there
 
   pub walk_lifted : (upper : Bool) (walk : List ℕ) → IsWalk mesh walk → IsWalk (cover_of mesh turns) (lifted turns mesh.count upper walk)
@@ -270,9 +267,7 @@ module _ (mesh : FaceList) (turns : ℕ → ℕ → Bool) (are : AreTurns mesh t
   -- a list of moves of the mesh is lifted
   pub moves_lifted : (upper : Bool) (moves : List Move) (walk next : List ℕ) → 0 < length walk → apply_all mesh walk moves ≡ Some next
       → Homotopic (cover_of mesh turns) (lifted turns mesh.count upper walk) (lifted turns mesh.count upper next)
-  moves_lifted upper [] walk next start e =
-      let same : walk ≡ next = cc in
-      ([], ap (λ (l : List ℕ). Some (lifted turns mesh.count upper l)) same)
+  moves_lifted upper [] walk next start e = grind (arith, lifted)
   moves_lifted upper (move ∷ moves) walk next start e =
       let told = first_answer (λ x. apply_all mesh x moves) (apply mesh walk move) next e in
       let one = one_lifted upper walk told.0 move start told.1 in

@@ -1,6 +1,5 @@
 -- The lift of a walk that is put together of parts, and of walks of the mesh.
-use Rattle.double_covers.proofs.Common.{◌≡◌, ℕ, suc, ◌<◌, Bool, true, false, List, [], ◌∷◌, ◌++◌, map, get_or, refl, ap, ◌∙◌, arith, nat_tests, All, used_below, FaceList, IsFaceList, IsWalk, end_from, run, walked}
-use Rattle.double_covers.specs.Covers.{sheet_behind, over, lifted_behind, lifted, under}
+use Rattle.double_covers.proofs.Common.{sheet_behind, over, lifted_behind, lifted, under, ◌≡◌, ℕ, suc, ◌<◌, Bool, true, false, List, [], ◌∷◌, ◌++◌, map, get_or, refl, ap, ◌∙◌, arith, nat_tests, All, used_below, FaceList, IsFaceList, IsWalk, end_from, run, walked}
 
 module _ (turns : ℕ → ℕ → Bool) (count : ℕ) where
   behind_front : (upper : Bool) (u : ℕ) (before : List ℕ) (v : ℕ) (rest : List ℕ)

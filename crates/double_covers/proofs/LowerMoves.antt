@@ -1,6 +1,5 @@
 -- Moves of a cover lie over moves of the mesh, which lead from walk to walk below.
-use Rattle.double_covers.proofs.Common.{HasSideBetween, side_between, ◌≡◌, inl, inr, ℕ, zero, suc, ◌-◌, ◌<◌, Bool, true, false, not, List, [], ◌∷◌, ◌++◌, length, map, get_or, refl, ap, sym, ◌∙◌, subst, arith, nat_tests, length-map, get_or-map, map-append, Some, first_answer, stays_walk, edge_swap, step_edge, step_within, by_replacing, tail_of, head_of, FaceList, IsFaceList, face_at, corners_from, next_corner, is_edge, apply, apply_all, IsReplacement, Replaces, place_of, Move, Insert, Remove, Across}
-use Rattle.double_covers.specs.Covers.{lifted, cover_of, under}
+use Rattle.double_covers.proofs.Common.{HasSideBetween, side_between, lifted, cover_of, under, ◌≡◌, inl, inr, ℕ, zero, suc, ◌-◌, ◌<◌, Bool, true, false, not, List, [], ◌∷◌, ◌++◌, length, map, get_or, refl, ap, sym, ◌∙◌, subst, arith, nat_tests, common_steps, length-map, get_or-map, Some, first_answer, stays_walk, edge_swap, step_edge, step_within, by_replacing, tail_of, head_of, FaceList, IsFaceList, face_at, corners_from, next_corner, is_edge, apply, apply_all, IsReplacement, Replaces, place_of, Move, Insert, Remove, Across}
 use Rattle.double_covers.proofs.Sheets.{length-lifted}
 use Rattle.double_covers.proofs.CoverFaces.{face_over, IsOver, each_over, over_is}
 use Rattle.double_covers.proofs.LiftedWalks.{all_below, under_lifted}
@@ -116,9 +115,7 @@ module _ (mesh : FaceList) (turns : ℕ → ℕ → Bool) (valid : IsFaceList me
   parts_under : (before part after : List ℕ)
       → map (under mesh.count) (before ++ part ++ after)
       ≡ map (under mesh.count) before ++ map (under mesh.count) part ++ map (under mesh.count) after
-  parts_under before part after =
-      map-append (under mesh.count) (before ++ part) after
-      ∙ ap (λ (l : List ℕ). l ++ map (under mesh.count) after) (map-append (under mesh.count) before part)
+  parts_under before part after = grind (arith, common_steps, under)
 
   move_under : (walk next : List ℕ) (move : Move) → 0 < length walk → apply (cover_of mesh turns) walk move ≡ Some next
       → apply mesh (map (under mesh.count) walk) (lower_move mesh.count (length mesh.faces) move) ≡ Some (map (under mesh.count) next)
@@ -141,9 +138,7 @@ module _ (mesh : FaceList) (turns : ℕ → ℕ → Bool) (valid : IsFaceList me
   pub moves_under : (moves : List Move) (walk next : List ℕ) → 0 < length walk → apply_all (cover_of mesh turns) walk moves ≡ Some next
       → apply_all mesh (map (under mesh.count) walk) (map (lower_move mesh.count (length mesh.faces)) moves)
       ≡ Some (map (under mesh.count) next)
-  moves_under [] walk next start e =
-      let same : walk ≡ next = cc in
-      ap (λ (l : List ℕ). Some (map (under mesh.count) l)) same
+  moves_under [] walk next start e = grind (arith, under)
   moves_under (move ∷ moves) walk next start e =
       let told = first_answer (λ x. apply_all (cover_of mesh turns) x moves) (apply (cover_of mesh turns) walk move) next e in
       let one = move_under walk told.0 move start told.1 in

@@ -1,10 +1,9 @@
 -- The corners at a vertex are not twisted where no edge has three sides. A corner with a bit has one at most that is ahead of it, across
 -- the side that the bit does not name, and is ahead of one at most; and turned round, what is ahead is behind. So no way ahead leads from
 -- it to itself turned round.
-use Rattle.double_covers.proofs.Common.{partners_swap, ◌≡◌, ◌≢◌, ◌⊎◌, inl, inr, ℕ, zero, suc, ◌<◌, ◌≤◌, Bool, true, false, not, List, [], ◌∷◌, length, refl, ap, sym, ◌∙◌, subst, arith, not-not, eq-eqb, ne_eqb, if◌then◌else◌, ◌==◌, IsTrue, ends_differ, IsSide, side_after, tail_of, head_of, FaceList, IsFaceList, face_at, next_corner, is_edge, ArePartners, IsPath, sides_between, Side, next_back}
+use Rattle.double_covers.proofs.Common.{partners_swap, Claim, IsClaimStep, IsTwisted, ◌≡◌, ◌≢◌, ◌⊎◌, inl, inr, ℕ, zero, suc, Bool, true, false, not, List, [], ◌∷◌, refl, ap, sym, ◌∙◌, subst, arith, not-not, eq-eqb, ne_eqb, if◌then◌else◌, ◌==◌, ends_differ, IsSide, side_after, tail_of, head_of, FaceList, IsFaceList, ArePartners, IsPath, Side, next_back}
 use Rattle.connectivity.specs.Joined.{NoEdgeHasThreeSides}
 use Rattle.orientation.proofs.Partners.{one_partner}
-use Rattle.double_covers.specs.WaysRound.{Claim, IsClaimStep, IsTwisted}
 
 -- ---- what is ahead of what
 
@@ -94,9 +93,7 @@ same_not : (a b : Bool) → not a ≡ not b → a ≡ b
 same_not a b e = sym (not-not a) ∙ ap not e ∙ not-not b
 
 both : (x y : Claim) → x.corner ≡ y.corner → x.against ≡ y.against → x ≡ y
-both x y p q =
-    ap (λ (s : Side). let claim : Claim = record { corner = s; against = x.against } in claim) p
-    ∙ ap (λ (b : Bool). let claim : Claim = record { corner = y.corner; against = b } in claim) q
+both x y p q = grind arith
 
 module _ (mesh : FaceList) (valid : IsFaceList mesh) (few : NoEdgeHasThreeSides mesh) where
   door_vertex : (v : ℕ) (corner : Side) (door : Bool) (side : Side) → IsDoor mesh v corner door side → tail_of mesh corner ≡ v
@@ -104,19 +101,7 @@ module _ (mesh : FaceList) (valid : IsFaceList mesh) (few : NoEdgeHasThreeSides 
   door_vertex v corner false side d = ap (tail_of mesh) d.1 ∙ d.0
 
   after_once : (side other : Side) → IsSide mesh side → IsSide mesh other → side_after mesh side ≡ side_after mesh other → side ≡ other
-  after_once side other one two e =
-      let f : ℕ = side.face.0 in
-      let g : ℕ = other.face.0 in
-      let faces : f ≡ g = ap (λ (s : Side). s.face.0) e in
-      let m : ℕ = length (face_at mesh f) in
-      let size : length (face_at mesh g) ≡ m = ap (λ (k : ℕ). length (face_at mesh k)) (sym faces) in
-      let nexts : next_corner true m side.at ≡ next_corner true m other.at =
-      ap (λ (s : Side). s.at) e ∙ ap (λ (n : ℕ). next_corner true n other.at) size in
-      let there : other.at < m = omega (arith, two.place, size) in
-      let places : side.at ≡ other.at =
-      sym (next_back true m side.at one.place) ∙ ap (next_corner false m) nexts ∙ next_back true m other.at there in
-      ap (λ (k : ℕ). let s : Side = record { face = record { 0 = k }; at = side.at } in s) faces
-      ∙ ap (λ (k : ℕ). let s : Side = record { face = record { 0 = g }; at = k } in s) places
+  after_once side other one two e = grind (arith, next_back)
 
   -- a bit names one side at a corner, and a side is named by one bit at one corner
   side_once : (v w : ℕ) (corner : Side) (door : Bool) (side other : Side) → IsSide mesh side → IsSide mesh other
@@ -141,9 +126,7 @@ module _ (mesh : FaceList) (valid : IsFaceList mesh) (few : NoEdgeHasThreeSides 
       side_once p.vertex q.vertex x.corner (not x.against) p.side q.side p.partners.first q.partners.first p.from q.from in
       let vertices : p.vertex ≡ q.vertex =
       sym (door_vertex p.vertex x.corner (not x.against) p.side p.from) ∙ door_vertex q.vertex x.corner (not x.against) q.side q.from in
-      let partners : p.partner ≡ q.partner =
-      one_partner mesh q.side q.partner p.partner (λ u v is. few u v) q.partners
-      (subst (λ (s : Side). ArePartners mesh s p.partner) sides p.partners) in
+      let partners : p.partner ≡ q.partner = grind (arith, one_partner) in
       let into : IsDoor mesh p.vertex z.corner z.against p.partner =
       subst (λ (s : Side). IsDoor mesh p.vertex z.corner z.against s) (sym partners)
       (subst (λ (v : ℕ). IsDoor mesh v z.corner z.against q.partner) (sym vertices) q.to) in
@@ -156,9 +139,7 @@ module _ (mesh : FaceList) (valid : IsFaceList mesh) (few : NoEdgeHasThreeSides 
       side_once p.vertex q.vertex z.corner z.against p.partner q.partner p.partners.second q.partners.second p.to q.to in
       let vertices : p.vertex ≡ q.vertex =
       sym (door_vertex p.vertex z.corner z.against p.partner p.to) ∙ door_vertex q.vertex z.corner z.against q.partner q.to in
-      let sides : p.side ≡ q.side =
-      one_partner mesh q.partner q.side p.side (λ u v is. few u v) (partners_swap mesh q.side q.partner q.partners)
-      (subst (λ (s : Side). ArePartners mesh s p.side) partners (partners_swap mesh p.side p.partner p.partners)) in
+      let sides : p.side ≡ q.side = grind (arith, one_partner, partners_swap) in
       let out : IsDoor mesh p.vertex y.corner (not y.against) p.side =
       subst (λ (s : Side). IsDoor mesh p.vertex y.corner (not y.against) s) (sym sides)
       (subst (λ (v : ℕ). IsDoor mesh v y.corner (not y.against) q.side) (sym vertices) q.from) in
@@ -169,14 +150,7 @@ module _ (mesh : FaceList) (valid : IsFaceList mesh) (few : NoEdgeHasThreeSides 
   directed = record {
     one_ahead = one_next;
     one_behind = one_before;
-    swapped = λ x y p. record {
-      vertex = p.vertex;
-      side = p.partner;
-      partner = p.side;
-      partners = partners_swap mesh p.side p.partner p.partners;
-      from = subst (λ (b : Bool). IsDoor mesh p.vertex y.corner b p.partner) (sym (not-not y.against)) p.to;
-      to = p.from;
-    };
+    swapped = λ x y p. grind (arith, partners_swap);
     other = λ x e. not_itself x.against (ap (λ (y : Claim). y.against) e);
     not_next = λ x p.
         p.partners.different
@@ -249,11 +223,7 @@ module _ (mesh : FaceList) (valid : IsFaceList mesh) (few : NoEdgeHasThreeSides 
               by_doors s.vertex s.side s.partner here there false true s.partners a b
               (s.carries ∙ ap (λ (x : Bool). if x then not here.against else here.against) test))
           | inr b ↦
-              (let tails : tail_of mesh s.side ≡ tail_of mesh s.partner =
-              elim s.partners.one_edge [
-                | inl e ↦ e.0
-                | inr e ↦ absurd (ends_differ mesh s.side valid s.partners.first (e.0 ∙ b.0 ∙ sym a.0))
-              ] in
+              (let tails : tail_of mesh s.side ≡ tail_of mesh s.partner = grind (arith, ends_differ) in
               let test : (tail_of mesh s.side == tail_of mesh s.partner) ≡ true =
               eq-eqb (tail_of mesh s.side) (tail_of mesh s.partner) tails in
               by_doors s.vertex s.side s.partner here there false false s.partners a b

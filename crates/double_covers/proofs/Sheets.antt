@@ -1,7 +1,6 @@
 -- On which sheet a lift is: behind a dart and home again, at each entry, and at each corner of a face.
-use Rattle.double_covers.proofs.Common.{◌≡◌, inl, inr, ℕ, zero, suc, ◌+◌, ◌<◌, Bool, true, false, not, List, [], ◌∷◌, ◌++◌, length, get_or, refl, ap, sym, ◌∙◌, subst, arith, cases_lt, nat_tests, if◌then◌else◌, step_within, corner_after, next_corner, corners_from, corners_beyond, next_forth, run, walked, beyond}
+use Rattle.double_covers.proofs.Common.{sheet_behind, over, lifted_behind, lifted, ◌≡◌, inl, inr, ℕ, zero, suc, ◌+◌, ◌<◌, Bool, true, false, not, List, [], ◌∷◌, ◌++◌, length, get_or, refl, ap, sym, ◌∙◌, subst, arith, cases_lt, nat_tests, if◌then◌else◌, step_within, corner_after, next_corner, corners_from, corners_beyond, next_forth, run, walked, beyond}
 use Rattle.std.specs.Prelude.{take}
-use Rattle.double_covers.specs.Covers.{sheet_behind, over, lifted_behind, lifted}
 
 twice : (turn upper : Bool) → (if turn then not (if turn then not upper else upper) else (if turn then not upper else upper)) ≡ upper
 twice true true = refl

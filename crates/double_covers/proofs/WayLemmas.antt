@@ -1,10 +1,8 @@
 -- Edges along which ways round the vertices do not agree lead home round each face, and their cover is listed coherently once its faces are
 -- turned that go against the way at one of their corners.
-use Rattle.double_covers.proofs.Common.{◌≡◌, ◌≢◌, inl, inr, ℕ, zero, suc, ◌+◌, ◌-◌, ◌<◌, Bool, true, false, not, List, [], ◌∷◌, ◌++◌, length, map, get_or, take, refl, ap, sym, ◌∙◌, arith, length-append, not-not, eq-eqb, ne_eqb, nat_tests, get_or_append_left, get_or-append_right, if◌then◌else◌, ◌==◌, ends_differ, step_within, IsSide, side_after, tail_of, head_of, FaceList, IsFaceList, face_at, next_corner, ArePartners, IsOrientable, RunOppositely, is_flipped, Side, walked}
+use Rattle.double_covers.proofs.Common.{sheet_behind, over, lifted, AreTurns, cover_of, AreWaysRound, AreTurnsOf, ◌≡◌, ◌≢◌, inl, inr, ℕ, zero, suc, ◌+◌, ◌-◌, ◌<◌, Bool, true, false, not, List, [], ◌∷◌, ◌++◌, length, map, get_or, take, refl, ap, sym, ◌∙◌, arith, length-append, not-not, eq-eqb, ne_eqb, nat_tests, get_or_append_left, get_or-append_right, if◌then◌else◌, ◌==◌, ends_differ, step_within, IsSide, side_after, tail_of, head_of, FaceList, IsFaceList, face_at, next_corner, ArePartners, IsOrientable, RunOppositely, is_flipped, Side, walked}
 use Rattle.std.proofs.lemmas.List.FromFn.{length-map-range_with_len, get_or-map-range_with_len}
 use Rattle.std.specs.List.{range_with_len}
-use Rattle.double_covers.specs.Covers.{sheet_behind, over, lifted, AreTurns, cover_of}
-use Rattle.double_covers.specs.WaysRound.{AreWaysRound, AreTurnsOf}
 use Rattle.double_covers.proofs.Sheets.{sheet_at, next_sheet, home_sheet, entry, length-lifted}
 use Rattle.double_covers.proofs.CoverFaces.{face_over, over_is, IsOver, each_over, all_faces}
 
@@ -212,9 +210,7 @@ module _ (mesh : FaceList) (against : Side → Bool) (turns : ℕ → ℕ → Bo
   tail_below side h = (valid.faces side.face.0 [] h.face).in_range side.at 0 h.place
 
   head_below : (side : Side) → IsSide mesh side → head_of mesh side < mesh.count
-  head_below side h =
-      (valid.faces side.face.0 [] h.face).in_range (next_corner true (length (face_at mesh side.face.0)) side.at) 0
-      (step_within true (length (face_at mesh side.face.0)) side.at h.place)
+  head_below side h = grind (arith, step_within)
 
   -- the sides below two sides of one edge are two
   below_apart : (side other : Side) (s t : Bool) (one : SideOver side s) (two : SideOver other t) → side ≢ other → s ≡ t → one.low ≢ two.low

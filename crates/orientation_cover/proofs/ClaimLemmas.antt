@@ -1,7 +1,6 @@
 -- Claims at the corners of two sides of one edge, and their classes as these are joined.
-use Rattle.orientation_cover.proofs.Common.{number_below, number_once, corner_in_mesh, partners_swap, each_across, length-joined_at, joined_at_ends, joined_at_keeps, joins_only-joined_at, joined_at, KeepsJoined, SameOver, apart_over, over, ◌≡◌, inl, inr, ℕ, ◌+◌, ◌<◌, Bool, true, false, not, List, length, get_or, refl, ap, sym, ◌∙◌, arith, eq-eqb, ne_eqb, cases_eq, ◌==◌, if◌then◌else◌, IsSide, side_number, side_after, tail_of, head_of, FaceList, IsFaceList, total_sides, ArePartners, IsCornerOfSide, Side}
+use Rattle.orientation_cover.proofs.Common.{number_below, number_once, corner_in_mesh, partners_swap, each_across, length-joined_at, joined_at_ends, joined_at_keeps, joins_only-joined_at, joined_at, KeepsJoined, apart_over, over, Claim, IsClaim, claim_number, carried, IsClaimStep, JoinsOnlyByClaimSteps, with_corners, AreMadeJoined, ◌≡◌, inl, inr, ℕ, ◌+◌, ◌<◌, Bool, true, false, not, List, length, get_or, refl, ap, sym, ◌∙◌, arith, ◌==◌, if◌then◌else◌, IsSide, side_number, side_after, tail_of, head_of, FaceList, IsFaceList, total_sides, ArePartners, IsCornerOfSide, Side}
 use Rattle.connectivity.specs.Links.{AreCornersAcross}
-use Rattle.orientation_cover.specs.Claims.{Claim, IsClaim, claim_number, carried, IsClaimStep, JoinsOnlyByClaimSteps, with_corners, AreMadeJoined}
 
 -- ---- claims and their numbers
 
@@ -10,26 +9,15 @@ over_below count true n l = omega (arith, l)
 over_below count false n l = omega (arith, l)
 
 pub claim_below : (mesh : FaceList) (claim : Claim) → IsClaim mesh claim → claim_number mesh claim < total_sides mesh + total_sides mesh
-claim_below mesh claim is =
-    over_below (total_sides mesh) claim.against (side_number mesh claim.corner) (number_below mesh claim.corner is)
+claim_below mesh claim is = grind (arith, over_below, number_below)
 
 pub claim_once : (mesh : FaceList) (x y : Claim) → IsClaim mesh x → IsClaim mesh y → claim_number mesh x ≡ claim_number mesh y → x ≡ y
-claim_once mesh x y is_x is_y same =
-    let found : SameOver x.against y.against (side_number mesh x.corner) (side_number mesh y.corner) =
-    apart_over (total_sides mesh) x.against y.against (side_number mesh x.corner) (side_number mesh y.corner)
-    (number_below mesh x.corner is_x) (number_below mesh y.corner is_y) same in
-    let corner : x.corner ≡ y.corner = number_once mesh x.corner y.corner is_x is_y found.below in
-    ap (λ (c : Side). record { corner = c; against = x.against }) corner
-    ∙ ap (λ (b : Bool). record { corner = y.corner; against = b }) found.sheets
+claim_once mesh x y is_x is_y same = grind (arith, apart_over, number_below, number_once)
 
 -- ---- steps lead back
 
 test_swap : (a b : ℕ) → (a == b) ≡ (b == a)
-test_swap a b =
-    elim (cases_eq a b) [
-      | inl same ↦ eq-eqb a b same ∙ sym (eq-eqb b a (sym same))
-      | inr other ↦ ne_eqb a b other ∙ sym (ne_eqb b a (λ e. other (sym e)))
-    ]
+test_swap a b = grind arith
 
 twice : (alike b : Bool) → (if alike then not (if alike then not b else b) else (if alike then not b else b)) ≡ b
 twice true true = refl
@@ -37,10 +25,7 @@ twice true false = refl
 twice false b = refl
 
 pub carried_back : (mesh : FaceList) (side partner : Side) (b : Bool) → carried mesh partner side (carried mesh side partner b) ≡ b
-carried_back mesh side partner b =
-    ap (λ (t : Bool). if t then not (carried mesh side partner b) else carried mesh side partner b)
-    (test_swap (tail_of mesh partner) (tail_of mesh side))
-    ∙ twice (tail_of mesh side == tail_of mesh partner) b
+carried_back mesh side partner b = grind (arith, carried, test_swap, twice)
 
 step_back : (mesh : FaceList) (x y : Claim) → IsClaimStep mesh x y → IsClaimStep mesh y x
 step_back mesh x y h =
@@ -51,8 +36,7 @@ step_back mesh x y h =
       partners = partners_swap mesh h.side h.partner h.partners;
       from = h.to;
       to = h.from;
-      carries =
-          sym (carried_back mesh h.side h.partner x.against) ∙ ap (carried mesh h.partner h.side) (sym h.carries);
+      carries = grind (arith, carried_back, carried);
     }
 
 -- ---- two corners are joined
@@ -164,10 +148,7 @@ made_joined mesh least side partner first last valid count partners h =
     (within first (carried mesh side partner b) is_first) (start.same b) in
     record {
       count = end.count ∙ start.count;
-      carried = λ v corner other b from to.
-          each_across mesh side partner first last valid partners h
-          (λ s t. (b : Bool) → get_or twice (number s b) 0 ≡ get_or twice (number t (carried mesh side partner b)) 0) stays end.same v
-          corner other from to b;
+      carried = λ v corner other b from to. grind (arith, each_across, twice, carried);
       kept = λ x y l k same. end.kept x y (omega (arith, start.count, l)) (omega (arith, start.count, k)) (start.kept x y l k same);
       steps = λ only. end.steps (start.steps only);
     }

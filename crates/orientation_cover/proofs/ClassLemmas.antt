@@ -1,11 +1,9 @@
 -- Claims in classes, as the edges of the table are gone through; and ways round the vertices by the classes.
-use Rattle.orientation_cover.proofs.Common.{number_below, number_once, corner_in_mesh, partners_swap, step_across, joins_only-alone, joined_keep, joined_refl, joined_step, joined_sym, joined_trans, KeepsJoined, AreLeastMembers, NoEdgeHasThreeSides, either, over, AreWaysRound, ◌≡◌, ◌≢◌, ◌⊎◌, inl, inr, ℕ, zero, suc, ◌+◌, ◌-◌, ◌<◌, ◌≤◌, Bool, true, false, not, ltb, List, [], ◌∷◌, length, min, get_or, refl, ap, sym, ◌∙◌, subst, arith, cases_eq, cases_lt, nat_tests, ext_get_or, get_or_default, length-range_with_len, range_with_len, ◌==◌, if◌then◌else◌, Contains, IsEdgeOfSide, edge_of_side, edge_has_side, ends_agree, table_edge, partners_of_edge, IsSide, side_number, tail_of, Edge, IsTableOf, edge_in, FaceList, IsFaceList, total_sides, ArePartners, IsPath, AreJoined, IsCornerOfSide, Side}
+use Rattle.orientation_cover.proofs.Common.{number_below, number_once, corner_in_mesh, partners_swap, step_across, joins_only-alone, joined_keep, joined_refl, joined_step, joined_sym, joined_trans, KeepsJoined, AreLeastMembers, NoEdgeHasThreeSides, either, over, AreWaysRound, Claim, IsClaim, claim_number, carried, IsClaimStep, JoinsOnlyByClaimSteps, AreClaimClasses, AreMadeJoined, IsCarriedAcross, told_by, IsLedToLeast, AreWays, ◌≡◌, ◌≢◌, ◌⊎◌, inl, inr, ℕ, zero, suc, ◌+◌, ◌-◌, ◌<◌, ◌≤◌, Bool, true, false, not, ltb, List, [], ◌∷◌, length, min, get_or, refl, ap, sym, ◌∙◌, subst, arith, cases_eq, cases_lt, nat_tests, common_steps, ext_get_or, length-range_with_len, range_with_len, ◌==◌, if◌then◌else◌, Contains, IsEdgeOfSide, edge_of_side, edge_has_side, ends_agree, table_edge, partners_of_edge, IsSide, side_number, tail_of, Edge, IsTableOf, edge_in, FaceList, IsFaceList, total_sides, ArePartners, IsPath, AreJoined, IsCornerOfSide, Side}
 use Rattle.connectivity.proofs.EdgeLemmas.{few_in_table}
 use Rattle.connectivity.specs.Partitions.{IsCornerStep}
 use Rattle.double_covers.proofs.RingLemmas.{not_twisted}
 use Rattle.surf_model.proofs.SideNumberLemmas.{IsNumbered, numbered}
-use Rattle.orientation_cover.specs.Ways.{told_by, IsLedToLeast, AreWays}
-use Rattle.orientation_cover.specs.Claims.{Claim, IsClaim, claim_number, carried, IsClaimStep, JoinsOnlyByClaimSteps, AreClaimClasses, AreMadeJoined, IsCarriedAcross}
 use Rattle.orientation_cover.proofs.ClaimLemmas.{over_below, claim_below, claim_once, carried_back}
 
 abbrev pub no_side : Side
@@ -97,9 +95,7 @@ both_places sides side partner (suc zero) (suc (suc j)) few apart l k p q = absu
 
 of_two : (sides : List Side) (side partner : Side) → length sides ≤ 2 → side ≢ partner → Contains sides side → Contains sides partner
     → AreBoth sides side partner
-of_two sides side partner few apart has other =
-    both_places sides side partner has.0 other.0 few apart has.1 other.1
-    (get_or_default sides has.0 no_side side has.1 ∙ has.2) (get_or_default sides other.0 no_side partner other.1 ∙ other.2)
+of_two sides side partner few apart has other = grind (arith, common_steps, both_places, no_side)
 
 carried_swap : (mesh : FaceList) (least : List ℕ) (side partner : Side) → IsCarriedAcross mesh least partner side
     → IsCarriedAcross mesh least side partner

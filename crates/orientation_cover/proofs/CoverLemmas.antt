@@ -1,11 +1,7 @@
 -- The cover as it is built, and lifts as they grow.
-use Rattle.orientation_cover.proofs.Common.{cover_valid, sheet_at, next_sheet, entry, length-lifted, either, corner_of, sheet_told, over, lifted, more_room, with_face, HasNoRoom, ◌≡◌, ℕ, ◌+◌, ◌<◌, ◌≤◌, Bool, true, false, List, [], ◌∷◌, ◌++◌, length, get_or, take, drop, refl, ap, sym, ◌∙◌, subst, arith, take_more, take_all, take-append-drop, sum_by, FaceList, PendingFace, IsFace, IsFaceList, face_at, total_sides, Side}
+use Rattle.orientation_cover.proofs.Common.{cover_valid, sheet_at, next_sheet, entry, length-lifted, either, corner_of, sheet_told, over, lifted, more_room, with_face, HasNoRoom, first_faces, turns_by, cover_by, lift_by, told_by, AreWays, ◌≡◌, ℕ, ◌+◌, ◌<◌, ◌≤◌, Bool, true, false, List, [], ◌∷◌, ◌++◌, length, get_or, take, refl, ap, sym, ◌∙◌, subst, arith, common_steps, take_more, take_all, FaceList, PendingFace, IsFace, IsFaceList, face_at, total_sides, Side}
 use Rattle.double_covers.proofs.CoverFaces.{face_over, over_below, over_is}
 use Rattle.doubling.specs.declared.fault.DoubleFault.{DoubleFault}
-use Rattle.std.proofs.lemmas.List.Sums.{sum_by-append, sum_by_push}
-use Rattle.orientation_cover.specs.Building.{first_faces}
-use Rattle.orientation_cover.specs.Turns.{turns_by, cover_by, lift_by}
-use Rattle.orientation_cover.specs.Ways.{told_by, AreWays}
 use Rattle.orientation_cover.proofs.TurnLemmas.{ways_turn}
 
 -- the edges that turn by bits
@@ -28,14 +24,11 @@ over_next n false f = refl
 
 pub in_cover : (mesh : FaceList) (bits : List Bool) (upper : Bool) (f : ℕ) → f < length mesh.faces
     → over (length mesh.faces) upper f < length (cover_by mesh bits).faces
-in_cover mesh bits upper f l =
-    subst (λ (k : ℕ). k < length (cover_by mesh bits).faces) (sym (over_is_face_over (length mesh.faces) upper f))
-    (over_below mesh (turning mesh bits) upper f l)
+in_cover mesh bits upper f l = grind (arith, common_steps, over_is_face_over, over_below, turning)
 
 pub face_in_cover : (mesh : FaceList) (bits : List Bool) (upper : Bool) (f : ℕ) → f < length mesh.faces
     → face_at (cover_by mesh bits) (over (length mesh.faces) upper f) ≡ lift_of_face mesh bits upper f
-face_in_cover mesh bits upper f l =
-    ap (face_at (cover_by mesh bits)) (over_is_face_over (length mesh.faces) upper f) ∙ over_is mesh (turning mesh bits) upper f l
+face_in_cover mesh bits upper f l = grind (arith, common_steps, over_is_face_over, turning)
 
 pub lift_is_face : (mesh : FaceList) (bits : List Bool) (upper : Bool) (f : ℕ) → IsFaceList mesh → f < length mesh.faces
     → IsFace (mesh.count + mesh.count) (lift_of_face mesh bits upper f)
@@ -79,26 +72,13 @@ lift_closes mesh bits upper f i old start valid l count from all =
 
 pub faces_more : (made : FaceList) (seen : PendingFace) (k : ℕ) (ring : List ℕ) → seen ≡ first_faces made k → k < length made.faces
     → face_at made k ≡ ring → with_face seen ring ≡ first_faces made (k + 1)
-faces_more made seen k ring from l is =
-    ap (λ (p : PendingFace). with_face p ring) from
-    ∙ ap (λ (fs : List (List ℕ)). record { mesh = record { count = made.count; faces = fs }; pending = [] })
-    (ap (λ (r : List ℕ). take k made.faces ++ r ∷ []) (sym is) ∙ sym (take_more made.faces k [] l))
+faces_more made seen k ring from l is = grind (arith, common_steps)
 
 -- where a face has no room, what is made has none
 pub no_room : (made : FaceList) (seen : PendingFace) (k size : ℕ) (fault : DoubleFault) → seen ≡ first_faces made k
     → k < length made.faces → size ≡ length (face_at made k) → HasNoRoom (total_sides seen.mesh + size) fault
     → HasNoRoom (total_sides made) fault
-no_room made seen k size fault from l is h =
-    more_room (total_sides seen.mesh + size) (total_sides made) fault
-    (omega (
-      arith,
-      is,
-      ap (λ (p : PendingFace). total_sides p.mesh) from,
-      sum_by_push {X = List ℕ} length (take k made.faces) (face_at made k),
-      ap (λ (fs : List (List ℕ)). sum_by length fs) (take_more made.faces k [] l),
-      sum_by-append {X = List ℕ} length (take (k + 1) made.faces) (drop (k + 1) made.faces),
-      ap (λ (fs : List (List ℕ)). sum_by length fs) (take-append-drop (k + 1) made.faces),
-    )) h
+no_room made seen k size fault from l is h = grind (arith, common_steps, more_room)
 
 -- ---- lifts
 

@@ -1,8 +1,6 @@
 -- Where no edge has three sides, there are ways round the vertices: the classes of claims are made edge by edge.
-use Rattle.orientation_cover.proofs.Common.{after_in_mesh, corner_in_mesh, number_below, corners_there, length-joined_at, least_range, least_joined_at, AreLeastMembers, joined_at, NoEdgeHasThreeSides, over, ◌≡◌, inl, inr, ℕ, zero, suc, ◌+◌, ◌<◌, ◌≤◌, Bool, true, false, not, ltb, List, length, get_or, map, refl, ◌∙◌, subst, arith, cases_eq, length-map-range_with_len, get_or-map-range_with_len, range_with_len, ◌==◌, partners_of_edge, IsSide, side_after, side_number, tail_of, head_of, Edge, IsTableOf, edge_in, FaceList, IsFaceList, total_sides, ArePartners, Side}
+use Rattle.orientation_cover.proofs.Common.{after_in_mesh, corner_in_mesh, number_below, corners_there, length-joined_at, least_range, least_joined_at, AreLeastMembers, NoEdgeHasThreeSides, over, AreMadeJoined, with_corners, AreWays, ◌≡◌, inl, inr, ℕ, zero, suc, ◌+◌, ◌<◌, ◌≤◌, Bool, false, ltb, List, length, get_or, map, refl, ◌∙◌, subst, arith, cases_eq, length-map-range_with_len, get_or-map-range_with_len, range_with_len, ◌==◌, partners_of_edge, IsSide, side_after, tail_of, head_of, Edge, IsTableOf, edge_in, FaceList, IsFaceList, total_sides, ArePartners, Side}
 use Rattle.surf_model.proofs.EdgeTables.{some_table}
-use Rattle.orientation_cover.specs.Claims.{AreMadeJoined, with_corners}
-use Rattle.orientation_cover.specs.Ways.{AreWays}
 use Rattle.orientation_cover.proofs.ClaimLemmas.{over_below, made_joined}
 use Rattle.orientation_cover.proofs.ClassLemmas.{no_side, side_in, CarriesUpTo, edges_none, edge_passed, edge_joined, edges_all, tells_all}
 
@@ -14,26 +12,11 @@ record HasClasses (mesh : FaceList) (table : List Edge) (k : ℕ) : Type 0 where
 
 module _ (mesh : FaceList) (valid : IsFaceList mesh) where
   same_length : (least : List ℕ) (corner other : Side) (alike : Bool) → length (with_corners mesh least corner other alike) ≡ length least
-  same_length least corner other alike =
-      let n : ℕ = total_sides mesh in
-      let once : List ℕ = joined_at least (over n false (side_number mesh corner)) (over n alike (side_number mesh other)) in
-      length-joined_at once (over n true (side_number mesh corner)) (over n (not alike) (side_number mesh other))
-      ∙ length-joined_at least (over n false (side_number mesh corner)) (over n alike (side_number mesh other))
+  same_length least corner other alike = grind (arith, over, length-joined_at)
 
   stay_least : (least : List ℕ) (corner other : Side) (alike : Bool) → length least ≡ total_sides mesh + total_sides mesh
       → IsSide mesh corner → IsSide mesh other → AreLeastMembers least → AreLeastMembers (with_corners mesh least corner other alike)
-  stay_least least corner other alike size is that h =
-      let n : ℕ = total_sides mesh in
-      let p : ℕ = over n false (side_number mesh corner) in
-      let q : ℕ = over n alike (side_number mesh other) in
-      let once : List ℕ = joined_at least p q in
-      let first : (s : Side) (b : Bool) → IsSide mesh s → over n b (side_number mesh s) < length least =
-      λ s b is. omega (arith, size, over_below n b (side_number mesh s) (number_below mesh s is)) in
-      let later : (s : Side) (b : Bool) → IsSide mesh s → over n b (side_number mesh s) < length once =
-      λ s b is. omega (arith, length-joined_at least p q, first s b is) in
-      least_joined_at once (over n true (side_number mesh corner)) (over n (not alike) (side_number mesh other))
-      (least_joined_at least p q h (first corner false is) (first other alike that))
-      (later corner true is) (later other (not alike) that)
+  stay_least least corner other alike size is that h = grind (arith, over, over_below, number_below, length-joined_at, least_joined_at)
 
   -- both ends of the edge of two sides
   record HasBothJoined (least : List ℕ) (side partner : Side) : Type 0 where

@@ -1,9 +1,7 @@
 -- Lifts to the cover by ways round the vertices.
-use Rattle.orientation_cover.proofs.Common.{walk_lifted, homotopy_kept, lead_home, AreTurns, ℕ, Bool, false, List, ◌↔◌, FaceList, IsFaceList}
+use Rattle.orientation_cover.proofs.Common.{walk_lifted, homotopy_kept, lead_home, AreTurns, cover_by, lift_by, told_by, AreWays, ℕ, Bool, false, List, ◌↔◌, FaceList, IsFaceList}
 use Rattle.surf_model.specs.Moves.{Homotopic}
 use Rattle.surf_model.specs.Walks.{IsWalk}
-use Rattle.orientation_cover.specs.Turns.{cover_by, lift_by}
-use Rattle.orientation_cover.specs.Ways.{told_by, AreWays}
 use Rattle.orientation_cover.proofs.CoverLemmas.{turning}
 use Rattle.orientation_cover.proofs.TurnLemmas.{ways_turn}
 

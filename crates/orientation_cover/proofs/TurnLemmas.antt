@@ -1,18 +1,14 @@
 -- Edges turn by ways round the vertices as one of their sides tells, whichever it is.
-use Rattle.orientation_cover.proofs.Common.{number_once, AreWaysRound, AreTurnsOf, ◌≡◌, ◌≢◌, ◌⊎◌, inl, inr, ℕ, Bool, true, false, not, ◌&&◌, List, refl, ap, sym, ◌∙◌, subst, arith, cases_Bool, cases_eq, eq-eqb, ne_eqb, and_from, both_ways, nat_tests, get_or_from_slice_get, ◌==◌, if◌then◌else◌, Contains, Some, slice_get, ends_differ, IsWholeSide, whole_side, IsSideOfEdge, side_of_edge, table_edge, IsSide, side_number, side_after, tail_of, head_of, Edge, IsEdgeOf, IsTableOf, HasEnds, edge_in, side_name, FaceList, FaceSide, IsFaceList, face_at, all_sides, joins, ArePartners, IsCornerOfSide, Side}
+use Rattle.orientation_cover.proofs.Common.{number_once, AreWaysRound, AreTurnsOf, turns_along, turns_by, IsSideBetween, ◌≡◌, ◌≢◌, ◌⊎◌, inl, inr, ℕ, Bool, true, false, not, ◌&&◌, List, refl, ap, sym, ◌∙◌, subst, arith, cases_Bool, cases_eq, eq-eqb, ne_eqb, and_from, both_ways, nat_tests, get_or_from_slice_get, ◌==◌, if◌then◌else◌, Contains, Some, slice_get, ends_differ, IsWholeSide, whole_side, IsSideOfEdge, side_of_edge, table_edge, IsSide, side_number, side_after, tail_of, head_of, Edge, IsEdgeOf, IsTableOf, HasEnds, edge_in, side_name, FaceList, FaceSide, IsFaceList, face_at, all_sides, joins, ArePartners, IsCornerOfSide, Side}
 use Rattle.std.proofs.lemmas.List.Folds.{Any-from_list_any, list_any-from_Any}
 use Rattle.std.specs.Prelude.{length, ◌<◌}
 use Rattle.surf_model.proofs.NumberLemmas.{face_side}
 use Rattle.surf_model.proofs.TableLemmas.{face_side_in, joins_swap, list_any_agree}
-use Rattle.orientation_cover.specs.Turns.{turns_along, turns_by, IsSideBetween}
 
 module _ (mesh : FaceList) (against : Side → Bool) where
   turns_swap : (u v : ℕ) → turns_by mesh against u v ≡ turns_by mesh against v u
   unfolding turns_by
-  turns_swap u v =
-      list_any_agree (λ (s : FaceSide). joins u v s && turns_along mesh against (side_name s))
-      (λ (s : FaceSide). joins v u s && turns_along mesh against (side_name s))
-      (λ s. ap (λ (b : Bool). b && turns_along mesh against (side_name s)) (joins_swap u v s)) (all_sides mesh)
+  turns_swap u v = grind (arith, list_any_agree, joins_swap)
 
   -- some side that joins the two tells that they turn
   record TellsTurn (u v : ℕ) : Type 0 where
@@ -42,10 +38,7 @@ module _ (mesh : FaceList) (against : Side → Bool) where
       record {
         side = side_name any.1;
         in_mesh = whole.side_of;
-        ends = elim told.0 [
-          | inl e ↦ inl (sym whole.tail ∙ e.0, sym whole.head ∙ e.1)
-          | inr e ↦ inr (sym whole.tail ∙ e.0, sym whole.head ∙ e.1)
-        ];
+        ends = grind arith;
         turns = told.1;
       }
 

@@ -1,11 +1,10 @@
-use Rattle.orientation_cover.proofs.Common.{length-lifted, over, corner_more, with_face, HasNoRoom, ◌+◌, ℕ, [], length, sym, ap, ◌∙◌, subst, arith, PendingFace, face_at, total_sides}
-use Rattle.std.proofs.lemmas.Result.{on_ok_weaker, IfErr-weaker}
+use Rattle.orientation_cover.proofs.Common.{length-lifted, over, corner_more, with_face, ℕ, sym, ap, ◌∙◌, arith, common_steps, PendingFace, face_at}
+use Rattle.std.proofs.lemmas.Result.{on_ok_weaker}
 use Rattle.orientation_cover.proofs.CoverLemmas.{turning, lift_of_face, corner_is, lift_closes}
 use Rattle.orientation_cover.proofs.building.put_lift.Goals as goal
 
 pub against-first-requires-clause-corner : goal.against-first-requires-clause-corner
-against-first-requires-clause-corner c =
-    record { face = c.requires.face; place = omega (arith, (c.len.ensures.valid.faces c.args.face.0 [] c.requires.face).polygon) }
+against-first-requires-clause-corner c = grind arith
 
 pub loop-at-preserved : goal.loop-at-preserved
 loop-at-preserved c =
@@ -36,16 +35,4 @@ returns-clause-put c =
     c.close_face.ensures.put
 
 pub returns-clause-fault : goal.returns-clause-fault
-returns-clause-fault c =
-    let mesh = c.args.faces.now in
-    let bits = c.args.ways.now in
-    let whole = (lift_closes mesh bits c.args.upper c.args.face.0 c.loop-at.at c.loop-at.cover c.args.cover.now
-    c.len.ensures.valid c.requires.face c.requires.count c.loop-at.invariant (omega (arith, c.sides-at-end.ensures))).0 in
-    IfErr-weaker c.close_face.result (HasNoRoom (total_sides c.loop-at.cover.mesh + length c.loop-at.cover.pending))
-    (HasNoRoom (total_sides c.args.cover.now.mesh + length (face_at mesh c.args.face.0)))
-    (λ fault h.
-    subst (λ (n : ℕ). HasNoRoom n fault)
-    (ap (λ (p : PendingFace). total_sides p.mesh + length p.pending) whole
-    ∙ ap (λ (n : ℕ). total_sides c.args.cover.now.mesh + n)
-    (length-lifted (turning mesh bits) mesh.count c.args.upper (face_at mesh c.args.face.0))) h)
-    c.close_face.ensures.fault
+returns-clause-fault c = grind (arith, common_steps, lift_closes, turning)

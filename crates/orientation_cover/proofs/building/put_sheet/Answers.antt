@@ -1,7 +1,5 @@
-use Rattle.orientation_cover.proofs.Common.{length-lifted, over, HasNoRoom, ◌<◌, ℕ, length, ap, sym, ◌∙◌, arith, rules, face_at, total_sides}
-use Rattle.orientation_cover.specs.Building.{first_faces}
-use Rattle.orientation_cover.specs.Turns.{cover_by}
-use Rattle.orientation_cover.proofs.CoverLemmas.{turning, lift_of_face, over_next, in_cover, face_in_cover, faces_more, no_room}
+use Rattle.orientation_cover.proofs.Common.{length-lifted, over, HasNoRoom, cover_by, ◌<◌, ℕ, length, ap, sym, ◌∙◌, arith, rules, common_steps, face_at, total_sides}
+use Rattle.orientation_cover.proofs.CoverLemmas.{turning, over_next, in_cover, face_in_cover, faces_more, no_room}
 use Rattle.orientation_cover.proofs.building.put_sheet.Goals as goal
 
 pub returns-in_err-put_lift-clause-fault : goal.returns-in_err-put_lift-clause-fault
@@ -19,13 +17,4 @@ returns-in_err-put_lift-clause-fault c =
     search rules
 
 pub loop-face-preserved : goal.loop-face-preserved
-loop-face-preserved c =
-    let mesh = c.args.faces.now in
-    let bits = c.args.ways.now in
-    let upper = c.args.upper in
-    let f : ℕ = c.loop-face.face in
-    let within : f < length mesh.faces = omega (arith, c.len-face-end.ensures.count) in
-    c.in_ok-put_lift.ensures.put
-    ∙ faces_more (cover_by mesh bits) c.loop-face.cover (over (length mesh.faces) upper f) (lift_of_face mesh bits upper f)
-    c.loop-face.invariant (in_cover mesh bits upper f within) (face_in_cover mesh bits upper f within)
-    ∙ ap (first_faces (cover_by mesh bits)) (sym (over_next (length mesh.faces) upper f))
+loop-face-preserved c = grind (arith, common_steps, faces_more, over, in_cover, face_in_cover, over_next)

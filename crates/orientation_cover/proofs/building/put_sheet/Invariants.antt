@@ -1,6 +1,4 @@
-use Rattle.orientation_cover.proofs.Common.{over, ◌≡◌, length}
-use Rattle.orientation_cover.specs.Building.{first_faces}
-use Rattle.orientation_cover.specs.Turns.{cover_by}
+use Rattle.orientation_cover.proofs.Common.{over, first_faces, cover_by, ◌≡◌, length}
 use Rattle.orientation_cover.proofs.building.put_sheet.Given as goal
 
 abbrev pub invariant-loop-face : goal.invariant-loop-face

@@ -1,5 +1,4 @@
-use Rattle.orientation_cover.proofs.Common.{◌≡◌, ◌+◌, ℕ, List, ap, sym, ◌∙◌, subst, arith, get_or_from_slice_get, range_with_len, partners_of_edge, edge_in, ArePartners}
-use Rattle.orientation_cover.specs.Claims.{AreClaimClasses}
+use Rattle.orientation_cover.proofs.Common.{AreClaimClasses, ◌≡◌, ◌+◌, ℕ, List, ap, sym, ◌∙◌, subst, arith, get_or_from_slice_get, range_with_len, partners_of_edge, edge_in, ArePartners}
 use Rattle.orientation_cover.proofs.ClassLemmas.{no_side, side_in, CarriesUpTo, edges_none, edge_passed, edge_joined, edges_all}
 use Rattle.orientation_cover.proofs.claims.claim_classes.Goals as goal
 use Rattle.orientation_cover.proofs.claims.claim_classes.Goals.{then-sides_of-eq2, else-sides_of-eq2}

@@ -1,5 +1,4 @@
-use Rattle.orientation_cover.proofs.Common.{cover_valid, cover_orientable}
-use Rattle.orientation_cover.specs.Ways.{told_by}
+use Rattle.orientation_cover.proofs.Common.{cover_valid, cover_orientable, told_by}
 use Rattle.orientation_cover.proofs.CoverLemmas.{turning}
 use Rattle.orientation_cover.proofs.TurnLemmas.{ways_turn}
 use Rattle.orientation_cover.proofs.laws.cover_is_orientable.Goals as goal

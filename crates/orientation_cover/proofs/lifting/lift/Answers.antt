@@ -1,19 +1,9 @@
-use Rattle.orientation_cover.proofs.Common.{over, ◌≡◌, ◌+◌, ◌<◌, ℕ, length, get_or, subst, arith, used_below}
+use Rattle.orientation_cover.proofs.Common.{over, ◌≡◌, ℕ, subst, arith, used_below}
 use Rattle.orientation_cover.proofs.CoverLemmas.{lift_more, lift_done}
 use Rattle.orientation_cover.proofs.lifting.lift.Goals as goal
 
 pub over-requires : goal.over-requires
-over-requires c =
-    let walk = c.args.walk.now in
-    let next : ℕ = c.loop-place.place + 1 in
-    let within : next < length walk = omega (arith, c.darts-place-end.ensures.count) in
-    omega (
-      arith,
-      c.at-to.ensures,
-      c.count.ensures.count,
-      c.count.ensures.small.few_vertices,
-      used_below c.args.faces.now (get_or walk next 0) c.count.ensures.valid (c.requires.walk.used next 0 within),
-    )
+over-requires c = grind (arith, used_below)
 
 pub loop-place-preserved : goal.loop-place-preserved
 loop-place-preserved c =

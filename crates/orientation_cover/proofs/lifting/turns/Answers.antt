@@ -1,6 +1,4 @@
-use Rattle.orientation_cover.proofs.Common.{◌≡◌, ◌∙◌, rules}
-use Rattle.orientation_cover.specs.Ways.{told_by}
-use Rattle.orientation_cover.specs.Turns.{turns_along}
+use Rattle.orientation_cover.proofs.Common.{turns_along, told_by, ◌≡◌, ◌∙◌, rules}
 use Rattle.orientation_cover.proofs.TurnLemmas.{told_by_side}
 use Rattle.orientation_cover.proofs.lifting.turns.Goals as goal
 
