@@ -1,6 +1,7 @@
 -- What answers for a compact surface is a closed manifold.
-use Rattle.compact_surfaces.proofs.Common.{double_of, mirror_face, rim_quads, HasBoundary, ◌≡◌, ◌⊎◌, ◌↔◌, Bool, false, ℕ, ◌<◌, ◌≤◌, List, ◌++◌, length, map, take, append_assoc, ap, sym, ◌∙◌, subst, inl, inr, arith, both_ways, IsTrue, FaceList, HasFileSize, IsFaceList, IsOrientableSurface, IsClosedManifold}
+use Rattle.compact_surfaces.proofs.Common.{few_of_two, no_edge_no_side, double_of, mirror_face, rim_quads, HasBoundary, ◌≡◌, ◌⊎◌, ◌↔◌, Bool, false, ℕ, ◌<◌, ◌≤◌, List, ◌++◌, length, map, take, append_assoc, ap, sym, ◌∙◌, subst, inl, inr, arith, true, both_ways, cases_Bool, IsTrue, Option, MatchOption, Edge, IsTableOf, FaceList, HasFileSize, IsFaceList, is_edge, IsOrientableSurface, IsClosedManifold, IsOrientable, sides_between}
 use Rattle.closed_doubles.proofs.DoubleRings.{double_rings}
+use Rattle.closed_doubles.proofs.DoubleSigns.{double_orientable, orientable_there}
 use Rattle.closed_doubles.proofs.SidePlaces.{some_side}
 use Rattle.closed_doubles.proofs.TwoSides.{double_two_sides}
 use Rattle.closed_surfaces.specs.SignedSurfaces.{IsNoSurface, no_memory}
@@ -35,6 +36,25 @@ closed_manifold mesh is none = record {
   one_ring = is.one_ring;
 }
 
+-- and back
+pub compact_surface : (mesh : FaceList) → IsClosedManifold mesh → IsCompactSurface mesh
+compact_surface mesh is = record {
+  some_face = is.some_face;
+  few_sides = few_of_two mesh is.two_sides;
+  one_ring = is.one_ring;
+}
+
+-- a closed manifold answers for itself
+pub closed_answers : (mesh closed : FaceList) → IsClosedManifold mesh → closed ≡ mesh → IsClosedFor mesh closed
+closed_answers mesh closed is same = inr ((λ rim. one_side rim.0 rim.1 rim.2), same)
+  where
+    one_side : (u v : ℕ) → sides_between mesh u v ≡ 1 → ⊥
+    one_side u v one =
+        elim (cases_Bool (is_edge mesh u v)) [
+          | inl edge ↦ omega (arith, one, is.two_sides u v edge)
+          | inr none ↦ omega (arith, one, no_edge_no_side mesh u v none)
+        ]
+
 -- the cover of what answers for a surface is beyond a limit
 pub cover_fault : (mesh closed : FaceList) (fault : CompactFault) → IsCompactSurface mesh → IsClosedFor mesh closed → HasFileSize closed
     → IsFaultBehind (λ limit. Cover limit) (IsCoverBeyond closed) fault → (fault ≡ OutOfMemory) ⊎ IsFirstFault mesh fault
@@ -63,12 +83,33 @@ first_are mesh closed vertices faces answers v f =
     ap (λ n. first_faces n faces closed) v ∙ ap (λ n. first_faces mesh.count n closed) f
     ∙ ap (λ (fs : List (List ℕ)). record { count = mesh.count; faces = fs }) (first_ones mesh closed answers)
 
-pub kept : (mesh closed : FaceList) (vertices faces : ℕ) → IsFaceList mesh → IsClosedFor mesh closed → vertices ≡ mesh.count
-    → faces ≡ length mesh.faces → IsKept (first_faces vertices faces closed) closed
-kept mesh closed vertices faces valid answers v f =
-    subst (λ (m : FaceList). IsKept m closed) (sym (first_are mesh closed vertices faces answers v f)) (record {
+orientable_too : (mesh closed : FaceList) (signed : Bool) → IsFaceList mesh → IsCompactSurface mesh → IsClosedFor mesh closed
+    → (signed ≡ true) ↔ IsOrientable closed → (signed ≡ true) ↔ IsOrientable mesh
+orientable_too mesh closed signed valid is answers told =
+    elim answers [
+      | inl double ↦
+          let there : (signed ≡ true) ↔ IsOrientable (double_of mesh) =
+          subst (λ (m : FaceList). (signed ≡ true) ↔ IsOrientable m) double.1 told in (
+            (λ e. orientable_there mesh (there.0 e)),
+            (λ o. there.1 (double_orientable mesh valid is.few_sides is.one_ring o)),
+          )
+      | inr none ↦ subst (λ (m : FaceList). (signed ≡ true) ↔ IsOrientable m) none.1 told
+    ]
+
+own_answers : (mesh closed : FaceList) → IsClosedFor mesh closed → (closed ≡ mesh) ⊎ (closed ≡ double_of mesh)
+own_answers mesh closed answers = elim answers [ inl double ↦ inr double.1 | inr none ↦ inl none.1 ]
+
+pub kept : (mesh closed : FaceList) (own : Option (List Edge)) (signed : Bool) (vertices faces : ℕ) → IsFaceList mesh
+    → IsCompactSurface mesh → IsClosedFor mesh closed → MatchOption own (closed ≡ mesh) (IsTableOf mesh)
+    → (signed ≡ true) ↔ IsOrientable closed → vertices ≡ mesh.count → faces ≡ length mesh.faces
+    → IsKept (first_faces vertices faces closed) own closed signed
+kept mesh closed own signed vertices faces valid is answers table told v f =
+    subst (λ (m : FaceList). IsKept m own closed signed) (sym (first_are mesh closed vertices faces answers v f)) (record {
       valid = valid;
-      answers = elim answers [ inl double ↦ inr double.1 | inr none ↦ inl none.1 ];
+      compact = is;
+      answers = own_answers mesh closed answers;
+      table = table;
+      signs = orientable_too mesh closed signed valid is answers told;
     })
 
 -- ---- what the cover is refused for

@@ -1,23 +1,17 @@
 -- What is found on the double is found on the mesh, and what is found of lifts is found of the walks below.
-use Rattle.compact_surfaces.proofs.Common.{double_of, cover_by, lift_by, ◌≡◌, ◌↔◌, ℕ, ◌+◌, ◌<◌, Bool, true, List, get_or, sym, ◌∙◌, subst, inl, inr, arith, All, Option, Some, None, FaceList, IsFaceList, is_edge, is_used, AreWalkPair, IsWalk, Different, IsFoundOn}
+use Rattle.compact_surfaces.proofs.Common.{keeps_homotopy, kept_walk, double_of, lift_is_walk, lifts_homotopic, cover_by, lift_by, AreWays, ◌≡◌, ◌↔◌, ℕ, ◌+◌, ◌<◌, Bool, true, List, get_or, sym, ◌∙◌, subst, inl, inr, arith, All, Option, Some, None, list_keeps_ends, Edge, FaceList, IsFaceList, is_edge, is_used, Homotopic, AreWalkPair, IsWalk, Different, IsFoundOn}
 use Rattle.closed_doubles.proofs.JoinedDoubles.{fold_used}
 use Rattle.connectivity.proofs.EdgeLemmas.{edge_differs, used_below}
 use Rattle.doubling.proofs.FoldedSides.{edge_folds}
-use Rattle.doubling.proofs.KeptClasses.{keeps_homotopy}
-use Rattle.doubling.proofs.KeptMoves.{kept_walk}
 use Rattle.doubling.proofs.RepeatLemmas.{fold_kept}
 use Rattle.doubling.proofs.ValidDoubles.{double_valid}
 use Rattle.doubling.specs.Folds.{fold}
-use Rattle.orientation_cover.proofs.LiftLemmas.{lift_is_walk, lifts_homotopic}
-use Rattle.orientation_cover.specs.Ways.{AreWays}
-use Rattle.surf_model.proofs.WayBackLemmas.{list_keeps_ends}
-use Rattle.surf_model.specs.Moves.{Homotopic}
 use Rattle.surf_model.specs.declared.decisions.Answer.{Answer}
 use Rattle.compact_surfaces.specs.Kept.{IsKept}
 
 -- ---- the double
 
-abbrev LiesBelow : ℕ → List ℕ → Type 0
+abbrev pub LiesBelow : ℕ → List ℕ → Type 0
 LiesBelow count walk = All (λ (v : ℕ). v < count) walk
 
 pub walk_lies_below : (mesh : FaceList) (walk : List ℕ) → IsFaceList mesh → IsWalk mesh walk → LiesBelow mesh.count walk
@@ -34,7 +28,7 @@ edge_below mesh u v valid lu lv is =
     ]
 
 -- a walk of the double that lies in none of the mirrors is one of the mesh
-walk_below : (mesh : FaceList) (walk : List ℕ) → IsFaceList mesh → LiesBelow mesh.count walk → IsWalk (double_of mesh) walk
+pub walk_below : (mesh : FaceList) (walk : List ℕ) → IsFaceList mesh → LiesBelow mesh.count walk → IsWalk (double_of mesh) walk
     → IsWalk mesh walk
 walk_below mesh walk valid below w = record {
   starts = w.starts;
@@ -64,9 +58,10 @@ found_below mesh first second (Some answer) valid lf ls told =
       ((λ e. same.0 (told.1.0 e)), (λ leads. told.1.1 (same.1 leads))),
     )
 
-pub found_on_mesh : (mesh closed : FaceList) (first second : List ℕ) (found : Option Answer) → IsKept mesh closed
-    → LiesBelow mesh.count first → LiesBelow mesh.count second → IsFoundOn closed first second found → IsFoundOn mesh first second found
-found_on_mesh mesh closed first second found kept lf ls told =
+pub found_on_mesh : (mesh closed : FaceList) (own : Option (List Edge)) (signed : Bool) (first second : List ℕ) (found : Option Answer)
+    → IsKept mesh own closed signed → LiesBelow mesh.count first → LiesBelow mesh.count second → IsFoundOn closed first second found
+    → IsFoundOn mesh first second found
+found_on_mesh mesh closed own signed first second found kept lf ls told =
     elim kept.answers [
       | inl same ↦ subst (λ (m : FaceList). IsFoundOn m first second found) same told
       | inr double ↦

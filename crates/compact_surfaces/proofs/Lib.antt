@@ -2,3 +2,4 @@ pub mod Common
 pub mod ClosedLemmas
 pub mod FaultLemmas
 pub mod FoundLemmas
+pub mod ClassLemmas

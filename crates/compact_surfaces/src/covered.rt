@@ -1,5 +1,5 @@
 //! Closed manifolds without coherent signs, asked by way of their cover.
-ghost use Rattle.std.specs.Prelude.{◌≡◌, ◌⊎◌, IfOk, IfErr, OnOk};
+ghost use Rattle.std.specs.Prelude.{◌≡◌, ◌⊎◌, ◌<◌, ℕ, length, map, IfOk, IfErr, MatchOption, OnOk};
 ghost use Rattle.surf_model.specs.Edges.{IsTableOf};
 ghost use Rattle.surf_model.specs.Surfaces.{IsClosedManifold, IsOrientable};
 ghost use Rattle.closed_surfaces.specs.SignedSurfaces.{no_memory};
@@ -7,10 +7,13 @@ ghost use Rattle.walk_translate.specs.Found.{IsFoundOn};
 ghost use Rattle.component_deciding.specs.WordFinders.{mesh_of_finder};
 ghost use Rattle.doubling.specs.DoubleFaults.{IsTooLarge};
 ghost use Rattle.doubling.specs.declared.fault.DoubleFault.{DoubleFault};
-ghost use Rattle.orientation_cover.specs.Turns.{cover_by};
+ghost use Rattle.orientation_cover.specs.Turns.{cover_by, lift_by};
 ghost use Rattle.orientation_cover.specs.Ways.{AreWays};
 ghost use Rattle.surf_model.specs.FaceLists.{HasFileSize};
+ghost use Rattle.surf_model.specs.Walks.{IsWalk};
 ghost use Rattle.compact_surfaces.specs.Faults.{IsCoverBeyond};
+ghost use Rattle.walk_classes.specs.Faults.{IsClassFault, IsFirstNoWalk};
+ghost use Rattle.walk_classes.specs.WalkClasses.{AreClasses, walk_at};
 
 use closed_surfaces::{NoSurface, SignedMesh};
 use component_deciding::WordFinder;
@@ -19,7 +22,8 @@ use orientation_cover::{WaysRound, cover, lift, ways_round};
 use std::alloc::{AllocError, Global};
 use std::marker::Model;
 use surf_model::{Answer, Faces, Sides, Walk};
-use walk_translate::are_pair;
+use walk_classes::{ClassFault, classes_by};
+use walk_translate::{are_pair, is_walk};
 
 /// A closed manifold without coherent signs, and the words of its cover. Contracts see its mesh.
 #[derive(Drop)]
@@ -87,6 +91,67 @@ impl Covered {
             None => Ok(Some(Answer::Different)),
         }
     }
+
+    /// The numbers of the classes of walks, which are those of their lifts; or the first list that is no walk of the manifold.
+    pub(crate) fn classes(&mut self, walks: &[Walk]) -> Result<Vec<usize>, ClassFault>
+        ensures same { self.new ≡ self.old }
+        ensures classes { IfOk result (λ numbers. AreClasses self.old walks.now numbers.items) }
+        ensures fault { IfErr result (IsClassFault self.old walks.now) }
+    {
+        let alloc = self.alloc;
+        // The proof reads what holds of every face list.
+        let _ = self.faces.len();
+        if let Some(place) = first_no_walk(&self.faces, &self.sides, walks) {
+            return Err(ClassFault::NoWalk { place });
+        }
+        let lifts = lifts_of(alloc, &self.faces, &self.sides, &self.ways, walks)?;
+        let numbers = classes_by(alloc, &mut self.finder, &lifts);
+        // By a call, which is proved once, and not here again.
+        drop(lifts);
+        numbers
+    }
+
+    /// The edge table of the manifold.
+    pub(crate) fn sides(&self) -> &Sides
+        ensures { IsTableOf self.now result.now }
+    {
+        &self.sides
+    }
+}
+
+/// The first list that is no walk of the mesh, by its place.
+fn first_no_walk(faces: &Faces, sides: &Sides, walks: &[Walk]) -> Option<usize>
+    requires { IsTableOf faces.now sides.now }
+    ensures { MatchOption result ((i : ℕ) → i < length walks.now → IsWalk faces.now (walk_at walks.now i))
+        (IsFirstNoWalk faces.now walks.now) }
+{
+    for place in 0..walks.len() {
+        if !is_walk(faces, sides, &walks[place]) {
+            return Some(place);
+        }
+    }
+    None
+}
+
+/// The lifts of walks to the cover by ways round the vertices.
+fn lifts_of(
+    alloc: Global,
+    faces: &Faces,
+    sides: &Sides,
+    ways: &WaysRound,
+    walks: &[Walk],
+) -> Result<Vec<Walk>, AllocError>
+    requires table { IsTableOf faces.now sides.now }
+    requires ways { AreWays faces.now ways.now }
+    requires walks { (i : ℕ) → i < length walks.now → IsWalk faces.now (walk_at walks.now i) }
+    ensures { IfOk result (λ lifts. lifts.items ≡ map (lift_by faces.now ways.now) walks.now) }
+{
+    let mut lifts = Vec::with_capacity(alloc, walks.len())?;
+    for place in 0..walks.len() {
+        let above = lift(alloc, faces, sides, ways, &walks[place])?;
+        lifts.push(above)?;
+    }
+    Ok(lifts)
 }
 
 /// The words of the cover by ways round the vertices; or the limit that this is beyond.

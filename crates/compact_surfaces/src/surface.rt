@@ -1,29 +1,40 @@
 //! Compact surfaces, of which pairs of walks may be asked.
-ghost use Rattle.std.specs.Prelude.{◌≡◌, ◌⊎◌, ◌↔◌, ◌<◌, ℕ, All, IfErr, IfOk, IsTrue, OnOk};
+ghost use Rattle.std.specs.Prelude.{◌≡◌, ◌⊎◌, ◌↔◌, ◌<◌, ◌≤◌, ℕ, All, IfErr, IfOk, IsTrue, MatchOption, OnOk, length, true};
 ghost use Rattle.surf_model.specs.Edges.{IsTableOf};
-ghost use Rattle.surf_model.specs.Surfaces.{IsClosedManifold};
+ghost use Rattle.surf_model.specs.Surfaces.{IsClosedManifold, IsOrientable};
+ghost use Rattle.closed_surfaces.specs.SignedSurfaces.{IsSigned};
+ghost use Rattle.closed_walks.specs.FreeHomotopy.{FreelyHomotopic, IsClosedWalk};
+ghost use Rattle.walk_classes.specs.Faults.{IsClassFault};
+ghost use Rattle.walk_classes.specs.WalkClasses.{AreClasses, walk_at};
 ghost use Rattle.walk_translate.specs.Found.{IsFoundOn};
 ghost use Rattle.doubling.specs.DoubleFaults.{IsBeyond};
 ghost use Rattle.doubling.specs.Doubles.{double_of};
 ghost use Rattle.compact_surfaces.specs.CompactSurfaces.{IsClosedFor, IsCompactSurface};
 ghost use Rattle.doubling.specs.declared.fault.DoubleFault.{DoubleFault};
 ghost use Rattle.compact_surfaces.specs.Faults.{IsCoverBeyond, IsFirstFault, IsFaultBehind};
-ghost use Rattle.compact_surfaces.specs.Manifolds.{mesh_of_manifold};
+ghost use Rattle.compact_surfaces.specs.Manifolds.{has_signs, mesh_of_manifold};
 
 use crate::check::has_boundary;
 use crate::fault::CompactFault;
 use crate::manifold::ClosedManifold;
+use closed_surfaces::SignedMesh;
+use component_deciding::WordFinder;
 use doubling::{DoubleFault, double};
+use free_loops::FreeAnswer;
 use std::alloc::{AllocError, Global};
 use std::marker::Model;
 use surf_model::{Answer, Faces, Sides, Walk};
+use walk_classes::ClassFault;
 
 /// A compact surface with what questions about its walks need. Contracts see its mesh.
 #[derive(Drop)]
 pub struct CompactSurface {
+    alloc: Global,
     /// How many vertices and faces the mesh has. They are the first ones of the closed manifold.
     vertices: u32,
     faces: u32,
+    /// The edge table of the mesh, where the closed manifold is its double.
+    own: Option<Sides>,
     /// The mesh, or its double.
     closed: ClosedManifold,
 }
@@ -31,13 +42,14 @@ pub struct CompactSurface {
 impl Model for CompactSurface {
     ghost use Rattle.surf_model.specs.FaceLists.{FaceList};
     ghost use Rattle.compact_surfaces.specs.Kept.{IsKept, first_faces};
-    ghost use Rattle.compact_surfaces.specs.Manifolds.{mesh_of_manifold};
+    ghost use Rattle.compact_surfaces.specs.Manifolds.{has_signs, mesh_of_manifold};
 
     ghost Value = { FaceList };
 
     ghost view = { λ a. first_faces a.vertices a.faces (mesh_of_manifold a.closed) };
 
-    ghost invariant = { λ a. IsKept (first_faces a.vertices a.faces (mesh_of_manifold a.closed)) (mesh_of_manifold a.closed) };
+    ghost invariant = { λ a. IsKept (first_faces a.vertices a.faces (mesh_of_manifold a.closed)) a.own (mesh_of_manifold a.closed)
+        (has_signs a.closed) };
 }
 
 impl CompactSurface {
@@ -49,12 +61,53 @@ impl CompactSurface {
         ensures none { OnOk result ((fault : CompactFault) → IsFirstFault faces fault → ⊥) }
     {
         let (vertices, count) = (faces.count(), faces.len());
-        let closed = closed_for(alloc, faces)?;
+        let (own, closed) = closed_for(alloc, faces)?;
         Ok(CompactSurface {
+            alloc,
             vertices,
             faces: count,
+            own,
             closed,
         })
+    }
+
+    /// The orientable closed surface that a mesh is, of which walks of so many darts are to be asked.
+    pub fn of_signed(
+        alloc: Global,
+        mesh: SignedMesh,
+        darts: u64,
+    ) -> Result<CompactSurface, AllocError>
+        requires { IsSigned mesh }
+        ensures { IfOk result (λ surface. surface ≡ mesh.faces) }
+    {
+        let (vertices, faces) = (mesh.faces.count(), mesh.faces.len());
+        let finder = WordFinder::of(alloc, mesh, darts)?;
+        Ok(CompactSurface {
+            alloc,
+            vertices,
+            faces,
+            own: None,
+            closed: ClosedManifold::Orientable(finder),
+        })
+    }
+
+    /// The edge table of the mesh.
+    pub fn sides(&self) -> &Sides
+        ensures table { IsTableOf self.now result.now }
+        // What holds of every compact surface.
+        ensures compact { IsCompactSurface self.now }
+    {
+        match &self.own {
+            Some(sides) => sides,
+            None => self.closed.sides(),
+        }
+    }
+
+    /// Whether the faces have coherent signs.
+    pub fn is_orientable(&self) -> bool
+        ensures { IsTrue result ↔ IsOrientable self.now }
+    {
+        self.closed.has_signs()
     }
 
     /// Decides whether two walks are homotopic, or tells by `None` that they are no walks of the surface with common ends.
@@ -73,12 +126,44 @@ impl CompactSurface {
         let found = self.closed.answer_if_pair(first, second)?;
         Ok(found)
     }
+
+    /// For each walk the number of its class: the least place of a walk that has the same ends and is homotopic to it. Where a list is no
+    /// walk, the first such place is told.
+    pub fn classes(&mut self, walks: &[Walk]) -> Result<Vec<usize>, ClassFault>
+        ensures same { self.new ≡ self.old }
+        ensures classes { IfOk result (λ numbers. AreClasses self.old walks.now numbers.items) }
+        ensures fault { IfErr result (IsClassFault self.old walks.now) }
+    {
+        let alloc = self.alloc;
+        // What lies in the mirror is no walk of the mesh.
+        let below = count_below(walks, self.vertices);
+        let numbers = self.closed.classes(alloc, &walks[..below])?;
+        if below < walks.len() {
+            return Err(ClassFault::NoWalk { place: below });
+        }
+        Ok(numbers)
+    }
+
+    /// Whether two closed walks of an orientable surface are freely homotopic.
+    pub fn decide_free(&mut self, first: &Walk, second: &Walk) -> Result<FreeAnswer, AllocError>
+        requires orientable { IsOrientable self.old }
+        requires first { IsClosedWalk self.old first.now }
+        requires second { IsClosedWalk self.old second.now }
+        ensures same { self.new ≡ self.old }
+        ensures answer { IfOk result (λ answer. (answer ≡ FreeAnswer.Freely) ↔ FreelyHomotopic self.old first.now second.now) }
+    {
+        let answer = self.closed.decide_free(first, second)?;
+        Ok(answer)
+    }
 }
 
-/// The closed manifold that answers for a compact surface, or the first condition that fails.
-fn closed_for(alloc: Global, faces: Faces) -> Result<ClosedManifold, CompactFault>
+/// The closed manifold that answers for a compact surface, with the table of the surface where that is another one; or the first condition
+/// that fails.
+fn closed_for(alloc: Global, faces: Faces) -> Result<(Option<Sides>, ClosedManifold), CompactFault>
     ensures compact { OnOk result (IsCompactSurface faces) }
-    ensures closed { IfOk result (λ closed. IsClosedFor faces (mesh_of_manifold closed)) }
+    ensures closed { IfOk result (λ made. IsClosedFor faces (mesh_of_manifold made.1)) }
+    ensures own { IfOk result (λ made. MatchOption made.0 (mesh_of_manifold made.1 ≡ faces) (IsTableOf faces)) }
+    ensures signs { IfOk result (λ made. (has_signs made.1 ≡ true) ↔ IsOrientable (mesh_of_manifold made.1)) }
     ensures fault { IfErr result (λ fault. (fault ≡ CompactFault.OutOfMemory) ⊎ IsFirstFault faces fault) }
     ensures none { OnOk result ((fault : CompactFault) → IsFirstFault faces fault → ⊥) }
 {
@@ -87,16 +172,15 @@ fn closed_for(alloc: Global, faces: Faces) -> Result<ClosedManifold, CompactFaul
     let sides = Sides::build(alloc, &faces)?;
     if !has_boundary(alloc, &faces, &sides)? {
         let closed = manifold_for(alloc, faces, sides)?;
-        return Ok(closed);
+        return Ok((None, closed));
     }
     let double = double_for(alloc, &faces, &sides)?;
     // Their memory is for the double.
     drop(faces);
-    drop(sides);
     let _ = double.len();
-    let sides = Sides::build(alloc, &double)?;
-    let closed = manifold_for(alloc, double, sides)?;
-    Ok(closed)
+    let table = Sides::build(alloc, &double)?;
+    let closed = manifold_for(alloc, double, table)?;
+    Ok((Some(sides), closed))
 }
 
 /// The double of a mesh, or the limit that it is beyond.
@@ -117,6 +201,7 @@ fn manifold_for(alloc: Global, faces: Faces, sides: Sides) -> Result<ClosedManif
     requires table { IsTableOf faces sides }
     requires manifold { IsClosedManifold faces }
     ensures mesh { IfOk result (λ manifold. mesh_of_manifold manifold ≡ faces) }
+    ensures signs { IfOk result (λ manifold. (has_signs manifold ≡ true) ↔ IsOrientable (mesh_of_manifold manifold)) }
     ensures fault { IfErr result (IsFaultBehind (λ limit. CompactFault.Cover limit) (IsCoverBeyond faces)) }
     ensures fits { OnOk result ((fault : DoubleFault) → IsCoverBeyond faces fault → ⊥) }
 {
@@ -137,4 +222,18 @@ fn lies_below(walk: &Walk, count: u32) -> bool
         }
     }
     true
+}
+
+/// How many of the first walks there are before one of which some vertex is not below a number.
+fn count_below(walks: &[Walk], count: u32) -> usize
+    ensures within { result ≤ length walks.now }
+    ensures below { (k : ℕ) → k < result → All (λ (v : ℕ). v < count) (walk_at walks.now k) }
+    ensures not_next { result < length walks.now → All (λ (v : ℕ). v < count) (walk_at walks.now result) → ⊥ }
+{
+    for place in 0..walks.len() {
+        if !lies_below(&walks[place], count) {
+            return place;
+        }
+    }
+    walks.len()
 }

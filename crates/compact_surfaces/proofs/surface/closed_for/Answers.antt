@@ -1,8 +1,7 @@
 use Rattle.compact_surfaces.proofs.ClosedLemmas.{closed_manifold, cover_fault, double_manifold, none_told}
 use Rattle.compact_surfaces.proofs.FaultLemmas.{no_first}
 use Rattle.compact_surfaces.proofs.surface.closed_for.Goals as goal
-use Rattle.compact_surfaces.proofs.Common.{HasBoundary, inl, inr, refl, subst, sym, IsClosedManifold}
-use Rattle.std.proofs.lemmas.Result.{err_from_is_err_and}
+use Rattle.compact_surfaces.proofs.Common.{HasBoundary, inl, inr, refl, subst, sym, err_from_is_err_and, IsClosedManifold}
 
 pub manifold_for-requires-clause-manifold : goal.manifold_for-requires-clause-manifold
 manifold_for-requires-clause-manifold c =
@@ -29,6 +28,14 @@ pub manifold_for-requires-2-clause-manifold : goal.manifold_for-requires-2-claus
 manifold_for-requires-2-clause-manifold c =
     subst IsClosedManifold (sym c.in_ok-double.ensures.double)
     (double_manifold c.args.faces c.len.ensures.valid c.in_ok-has_boundary.ensures.compact)
+
+pub returns-in_err-closed-2-clause-fault : goal.returns-in_err-closed-2-clause-fault
+returns-in_err-closed-2-clause-fault c =
+    let p = err_from_is_err_and c.from_residual-in_err-closed-2.result c.from_residual-in_err-closed-2.ensures.1 in
+    rw (p.1, p.2)
+    (cover_fault c.args.faces c.in_ok-double.double c.in_err-closed-2.field-0.0 c.in_ok-has_boundary.ensures.compact
+    (inl (c.in_ok-has_boundary.ensures.boundary.0 c.if-not-branch.false, c.in_ok-double.ensures.double)) c.len-2.ensures.small
+    c.in_err-closed-2.ensures.fault)
 
 pub returns-clause-none : goal.returns-clause-none
 returns-clause-none c = λ fault.

@@ -1,8 +1,7 @@
 use Rattle.compact_surfaces.proofs.FoundLemmas.{IsLift, lifts_part, lifts_tell}
 use Rattle.compact_surfaces.proofs.covered.Covered.answer_if_pair.Goals as goal
 use Rattle.compact_surfaces.proofs.covered.Covered.answer_if_pair.Goals.{In_ok-other}
-use Rattle.compact_surfaces.proofs.Common.{subst, Some, FaceList, Different, IsFoundOn}
-use Rattle.component_deciding.specs.WordFinders.{mesh_of_finder}
+use Rattle.compact_surfaces.proofs.Common.{mesh_of_finder, subst, Some, FaceList, Different, IsFoundOn}
 
 lifted : (c : In_ok-other)
     → IsLift c.self.inside.faces (mesh_of_finder c.self.inside.finder) c.self.inside.ways c.args.first.now c.args.second.now

@@ -1,6 +1,5 @@
 use Rattle.compact_surfaces.proofs.covered.Covered.of.Goals as goal
-use Rattle.compact_surfaces.proofs.Common.{not_too_large, one_ways, cover_by, Bool, List, subst, HasFileSize}
-use Rattle.connectivity.proofs.EdgeCounts.{few_of_two}
+use Rattle.compact_surfaces.proofs.Common.{few_of_two, not_too_large, one_ways, cover_by, Bool, List, subst, HasFileSize}
 
 pub ways_round-requires-clause-few : goal.ways_round-requires-clause-few
 ways_round-requires-clause-few c = few_of_two c.args.faces c.requires.manifold.two_sides

@@ -2,7 +2,7 @@ use Rattle.compact_surfaces.proofs.FoundLemmas.{found_on_mesh, walk_lies_below}
 use Rattle.compact_surfaces.proofs.surface.CompactSurface.answer_if_pair.Goals as goal
 use Rattle.compact_surfaces.proofs.surface.CompactSurface.answer_if_pair.Goals.{then-not-lies_below-via-then-not-lies_below, then-not-lies_below-via-else-not-lies_below+then-not-lies_below-2}
 use Rattle.compact_surfaces.specs.Kept.{first_faces}
-use Rattle.compact_surfaces.specs.Manifolds.{mesh_of_manifold}
+use Rattle.compact_surfaces.specs.Manifolds.{has_signs, mesh_of_manifold}
 use Rattle.compact_surfaces.proofs.Common.{subst, both_ways, FaceList, AreWalkPair, IsFoundOn}
 
 pub returns-then-not-lies_below-clause-answer : goal.returns-then-not-lies_below-clause-answer
@@ -24,6 +24,7 @@ returns-clause-answer c =
     let closed : FaceList = mesh_of_manifold c.self.inside.closed in
     let mesh : FaceList = first_faces c.self.inside.vertices c.self.inside.faces closed in
     subst (λ (m : FaceList). IsFoundOn m c.args.first.now c.args.second.now c.in_ok-found.found) c.self.view_is
-    (found_on_mesh mesh closed c.args.first.now c.args.second.now c.in_ok-found.found c.self.invariant
+    (found_on_mesh mesh closed c.self.inside.own (has_signs c.self.inside.closed) c.args.first.now c.args.second.now
+    c.in_ok-found.found c.self.invariant
     (c.lies_below.ensures.0 c.if-not-lies_below.false)
     (c.lies_below-else-not-lies_below.ensures.0 c.if-not-lies_below-2.false) c.in_ok-found.ensures.answer)
