@@ -6,8 +6,8 @@
  *
  * A SURFACE is a mesh that is a surface, in one piece or in several: no edge is in more than two sides of faces, and the corners at each
  * vertex make one ring, or one fan where the vertex is on the boundary. `homotopy_decide_any` takes any surface, closed or with boundary,
- * orientable or not. The other questions take orientable closed ones: each edge is in two sides, and the faces can be turned so that each
- * edge is run both ways. `homotopy_verify` takes any mesh.
+ * orientable or not, and `homotopy_mesh_new_any` keeps one. The other questions take orientable closed ones: each edge is in two sides, and
+ * the faces can be turned so that each edge is run both ways. `homotopy_verify` takes any mesh.
  *
  * A WALK is an array of the numbers of the vertices that it passes, one after another joined by edges. A walk of one vertex stays there.
  * Two walks with the same first and the same last vertex are homotopic where one can be moved over the surface to the other. A closed walk
@@ -178,16 +178,25 @@ void homotopy_mesh_new(
     uint32_t vertices, const uint32_t *sizes, size_t face_count, const uint32_t *corners, size_t corner_count,
     homotopy_mesh *mesh, homotopy_outcome *outcome);
 
-/* What `homotopy_decide` tells of the mesh that the handle holds. The code is NO_MESH where it holds none, with nothing else looked at. The
- * mesh is not read again, and where it is in one piece the time is that of the walks. Where it is in several, each piece is made a surface
- * of its own when a walk first lies in it, and stays one. (What is said of time is not proved.) */
+/* Keeps a surface of any kind, in one piece or in several, closed or with boundary, orientable or not, with its double or its cover where
+ * it needs one. All else is as in `homotopy_mesh_new`; what is first wrong with the mesh, or too large, is told as `homotopy_decide_any`
+ * tells it. */
+void homotopy_mesh_new_any(
+    uint32_t vertices, const uint32_t *sizes, size_t face_count, const uint32_t *corners, size_t corner_count,
+    homotopy_mesh *mesh, homotopy_outcome *outcome);
+
+/* What `homotopy_decide_any` tells of the mesh that the handle holds, which is what `homotopy_decide` tells of an orientable closed one. The
+ * code is NO_MESH where it holds none, with nothing else looked at. The mesh is not read again, and where it is in one piece the time is
+ * that of the walks. Where it is in several, each piece is made a surface of its own when a walk first lies in it, and stays one. (What is
+ * said of time is not proved.) */
 void homotopy_mesh_decide(
     homotopy_mesh *mesh,
     const uint32_t *walk_sizes, size_t walk_count, const uint32_t *walk_vertices, size_t walk_vertex_count,
     uint8_t *answers, size_t answer_room, homotopy_outcome *outcome);
 
-/* Whether the closed walks of each pair are freely homotopic on the mesh that the handle holds, which may be in several pieces: walks of two
- * pieces are not. What is handed over and what comes back is as in `homotopy_mesh_decide`. The byte of a pair is FREELY_HOMOTOPIC,
+/* Whether the closed walks of each pair are freely homotopic on the mesh that the handle holds, which may be in several pieces, walks of two
+ * of which are not, and have boundary. Where it is not orientable the code is NOT_ORIENTABLE, told behind SHORT_ROOM and before WALK_COUNT.
+ * What is handed over and what comes back is else as in `homotopy_mesh_decide`. The byte of a pair is FREELY_HOMOTOPIC,
  * NOT_FREELY_HOMOTOPIC, or the code of what is first wrong with its walks, which need have no vertex in common: EMPTY_WALK, LONG_WALK,
  * NO_VERTEX, NO_EDGE or OPEN_WALK; all entries are looked at before any edge, and all edges before any end. */
 void homotopy_mesh_loops(

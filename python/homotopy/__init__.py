@@ -254,14 +254,15 @@ def decide_any(vertices, faces, pairs):
 class Mesh:
     """An orientable closed surface that is kept, so that walks can be asked about as they come. Refused where the mesh is none.
 
-    It is given back by `close`, at the end of a `with`, or when nothing names it any more. Threads that ask it wait for one another.
+    With `any_kind` it is a surface of any kind, closed or with boundary, orientable or not. It is given back by `close`, at the end of a
+    `with`, or when nothing names it any more. Threads that ask it wait for one another.
     """
 
-    def __init__(self, vertices, faces):
+    def __init__(self, vertices, faces, *, any_kind=False):
         self._handle, self._asking = Handle(), threading.Lock()
         mesh, _kept = _mesh(vertices, faces)
         outcome = Outcome()
-        call("homotopy_mesh_new", *mesh, self._handle, outcome)
+        call("homotopy_mesh_new_any" if any_kind else "homotopy_mesh_new", *mesh, self._handle, outcome)
         _check(outcome)
 
     def decide(self, pairs):
@@ -270,7 +271,10 @@ class Mesh:
             return _decided(pairs, lambda *words: call("homotopy_mesh_decide", self._handle, *words))
 
     def loops(self, pairs):
-        """The `Answer` on each pair of closed walks, in order: whether one can be moved to the other with no vertex held fast."""
+        """The `Answer` on each pair of closed walks, in order: whether one can be moved to the other with no vertex held fast.
+
+        Refused where the surface is not orientable.
+        """
         with self._asking:
             return _decided(pairs, lambda *words: call("homotopy_mesh_loops", self._handle, *words))
 

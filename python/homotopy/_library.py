@@ -28,6 +28,7 @@ _ARGUMENTS = {
     "homotopy_decide": [ctypes.c_uint32] + 5 * _ARRAY + _ENDING,
     "homotopy_decide_any": [ctypes.c_uint32] + 5 * _ARRAY + _ENDING,
     "homotopy_mesh_new": [ctypes.c_uint32] + 2 * _ARRAY + [ctypes.POINTER(Handle)] + _ENDING,
+    "homotopy_mesh_new_any": [ctypes.c_uint32] + 2 * _ARRAY + [ctypes.POINTER(Handle)] + _ENDING,
     "homotopy_mesh_decide": [ctypes.POINTER(Handle)] + 3 * _ARRAY + _ENDING,
     "homotopy_mesh_loops": [ctypes.POINTER(Handle)] + 3 * _ARRAY + _ENDING,
     "homotopy_mesh_classes": [ctypes.POINTER(Handle)] + 3 * _ARRAY + _ENDING,

@@ -99,6 +99,12 @@ def keep():
     kept.close()
     refuse(homotopy.Refused, "the edge 1 2 should be in two sides of faces, and is in 1", Mesh, 4, TETRA[:3])
     refuse(TypeError, "face 0 is of the type int", Mesh, 4, [0, 1, 2])
+    band = [(0, 1, 2), (1, 2, 3), (2, 3, 4), (3, 4, 0), (4, 0, 1)]
+    with Mesh(5, band, any_kind=True) as kept:
+        walks = [[0, 1, 2, 3, 4, 0], [0, 2, 4, 1, 3, 0], [0, 1, 2, 3, 4, 0, 1, 2, 3, 4, 0]]
+        expect(kept.classes(walks), [0, 1, 1], "classes on a twisted band")
+        refuse(homotopy.Refused, "the mesh is not orientable", kept.loops, [([0], [0])])
+    refuse(homotopy.Refused, "the edge 0 2 should be in two sides of faces, and is in 1", Mesh, 5, band)
     several = [Mesh(4, TETRA) for _ in range(100)]
     expect([mesh.decide(pairs[:1]) for mesh in several], [[Answer.HOMOTOPIC]] * 100, "a hundred of them")
 

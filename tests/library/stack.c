@@ -65,6 +65,23 @@ static void *decide_any(void *unused) {
     return outcome.code == HOMOTOPY_DONE && answers[0] == HOMOTOPY_DIFFERENT && answers[1] == HOMOTOPY_DIFFERENT ? unused : NULL;
 }
 
+/* The same surface, kept. */
+static void *keep_any(void *unused) {
+    homotopy_mesh mesh = HOMOTOPY_EMPTY_MESH;
+    homotopy_outcome outcome;
+    uint8_t answers[2];
+    size_t classes[4];
+    fill_walks();
+    homotopy_mesh_new_any(ALL, sizes + 1, faces - 1, corners + 4, 4 * faces - 4, &mesh, &outcome);
+    homotopy_mesh_decide(&mesh, walk_sizes, 4, vertices, 5 * GRID + 4, answers, 2, &outcome);
+    if (outcome.code != HOMOTOPY_DONE || answers[0] != HOMOTOPY_DIFFERENT || answers[1] != HOMOTOPY_DIFFERENT) return NULL;
+    homotopy_mesh_loops(&mesh, walk_sizes, 4, vertices, 5 * GRID + 4, answers, 2, &outcome);
+    if (outcome.code != HOMOTOPY_DONE) return NULL;
+    homotopy_mesh_classes(&mesh, walk_sizes, 4, vertices, 5 * GRID + 4, classes, 4, &outcome);
+    homotopy_mesh_free(&mesh);
+    return outcome.code == HOMOTOPY_DONE && classes[0] != classes[1] && classes[2] != classes[3] ? unused : NULL;
+}
+
 static void *keep(void *unused) {
     homotopy_mesh mesh = HOMOTOPY_EMPTY_MESH;
     homotopy_outcome outcome;
@@ -116,14 +133,15 @@ static size_t depth_of(void *(*body)(void *)) {
 }
 
 int main(int argc, char **argv) {
-    static void *(*const bodies[])(void *) = {surface, decide, decide_any, keep, certify, deny};
-    static const char *const names[] = {"surface", "decide", "decide any", "keep and decide", "certify and verify", "deny and verify"};
+    static void *(*const bodies[])(void *) = {surface, decide, decide_any, keep_any, keep, certify, deny};
+    static const char *const names[] = {"surface", "decide", "decide any", "keep any", "keep and decide", "certify and verify",
+                                        "deny and verify"};
     const size_t empty = depth_of(nothing);
     int wrong = 0;
     (void)argv;
     make();
     for (int pieces = 1; pieces <= 2; pieces++, faces = ALL)
-        for (int k = 0; k < 6; k++) {
+        for (int k = 0; k < 7; k++) {
             const size_t depth = depth_of(bodies[k]);
             if (argc > 1) printf("%d pieces, %s: %zu bytes\n", pieces, names[k], depth - empty);
             if (depth == 0 || depth - empty > MOST) printf("stack.c: %s takes %zu bytes\n", names[k], depth - empty), wrong = 1;

@@ -1,5 +1,5 @@
 -- Walks that are cut from arrays, and their classes.
-use Rattle.homotopy_arrays.proofs.Common.{◌≡◌, ◌≢◌, ℕ, ◌+◌, ◌<◌, ◌≤◌, List, [], ◌∷◌, ◌++◌, length, get_or, refl, sym, ap, ap₂, subst, ◌∙◌, arith, Vec, MatchResult, None, Result, Ok, Err, FaceList, IsOrientableSurface, IsWalk, IsFirstNoWalk, AreClasses}
+use Rattle.homotopy_arrays.proofs.Common.{IsCompactSurface, ◌≡◌, ◌≢◌, ℕ, ◌+◌, ◌<◌, ◌≤◌, List, [], ◌∷◌, ◌++◌, length, get_or, refl, sym, ap, ap₂, subst, ◌∙◌, arith, Vec, MatchResult, None, Result, Ok, Err, FaceList, IsWalk, IsFirstNoWalk, AreClasses}
 use Rattle.std.proofs.lemmas.List.FromFn.{get_or-map-range_with_len, length-map-range_with_len, map-range_with_len_more}
 use Rattle.std.specs.Prelude.{sum}
 use Rattle.homotopy_arrays.specs.Classes.{AreClassed, AreClassesIn, AreCut, IsFirstNone, IsNoClassesIn, IsWalkIn, first_walks}
@@ -84,7 +84,7 @@ none_cut mesh sizes vertices walks place cut none =
 
 -- ---- on a mesh that is kept
 
-pub classed : (mesh : FaceList) (sizes vertices : List ℕ) (end : Result (Vec ℕ) NoClasses) → IsOrientableSurface mesh
+pub classed : (mesh : FaceList) (sizes vertices : List ℕ) (end : Result (Vec ℕ) NoClasses) → IsCompactSurface mesh
     → sum sizes ≡ length vertices
     → MatchResult end (λ given. AreClassesIn mesh sizes vertices given.items) (IsNoClassesIn mesh sizes vertices)
     → MatchResult end (λ given. AreClassed mesh sizes vertices given.items) (IsNoClassesIn mesh sizes vertices)

@@ -4,7 +4,7 @@ pub use Rattle.closed_surfaces.specs.SignedSurfaces.{IsNoSurface, IsSigned}
 pub use Rattle.closed_surfaces.specs.declared.signed_mesh.SignedMesh.{SignedMesh}
 pub use Rattle.closed_walks.specs.FreeHomotopy.{FreelyHomotopic, IsClosedWalk}
 pub use Rattle.commands.specs.HomologyCertificates.{Homologous, HomologyAnswer, ShowsHomology, answer_in}
-pub use Rattle.component_deciding.specs.WordFinders.{mesh_of_finder}
+pub use Rattle.compact_surfaces.specs.CompactSurfaces.{IsCompactSurface}
 pub use Rattle.homology.proofs.ChainVerdictLemmas.{boundary_agrees, number_at-zeros}
 pub use Rattle.homology.proofs.Common.{Contains, Edge, FaceSide, HasEnds, IsEdgeBetween, IsTableOf, Side, all_sides, edge_between, edge_in, face_at, get_or_default, get_or_from_slice_get, head_of, is_edge, length-replicate, length-set, of_z, pos, replicate, set, tail_of, take_all, to_z, unsigned_abs, w64, ℤ}
 pub use Rattle.homology.proofs.NumbersLemmas.{edge_written, edges_small, face_written}
@@ -29,7 +29,6 @@ pub use Rattle.std.specs.Prelude.{All, Err, IfOk, MatchOption, MatchResult, None
 pub use Rattle.surf_model.specs.FaceLists.{FaceList, IsFace, PendingFace, total_sides}
 pub use Rattle.surf_model.specs.OrientableSurfaces.{IsOrientableSurface}
 pub use Rattle.surf_model.specs.Walks.{HaveCommonEnds, IsWalk, darts}
-pub use Rattle.surf_model.specs.declared.decisions.Answer.TheVariants.{Different, Homotopic}
 pub use Rattle.surf_model.specs.declared.limits.TheConstants.{MOST_SIDES, MOST_VERTICES}
 pub use Rattle.surf_model.specs.declared.moves.Move.{Move}
 pub use Rattle.text_scan.specs.Lines.{Line, end_line, full_lines}
@@ -44,4 +43,3 @@ pub use Rattle.walk_files.specs.Pairs.{IsPair, pair_fault}
 pub use Rattle.walk_files.specs.Readers.{Certificate, after_answer, answer_first, count_in, denial_left, lines_to_come, moves_left, moves_to_come, next_answer, next_of, started, unless_refused}
 pub use Rattle.walk_files.specs.declared.certificate.CertHead.{CertHead}
 pub use Rattle.walk_files.specs.declared.fault.CertFault.{CertFault}
-pub use Rattle.walk_translate.specs.Found.{IsFoundOn}

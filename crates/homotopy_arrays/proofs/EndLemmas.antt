@@ -1,15 +1,17 @@
 -- How questions end.
-use Rattle.homotopy_arrays.proofs.Common.{signed_surface, IsNoSurface, SignedMesh, ◌≡◌, ◌⊎◌, sym, ap, subst, ◌∙◌, inl, inr, refl, Result, Ok, Err, FaceList, IsOrientableSurface}
+use Rattle.homotopy_arrays.proofs.Common.{signed_surface, IsNoSurface, SignedMesh, IsCompactSurface, ◌≡◌, ◌⊎◌, sym, ap, subst, ◌∙◌, inl, inr, refl, ℕ, List, false, Vec, Result, Ok, Err, FaceList, IsOrientableSurface}
 use Rattle.closed_surfaces.specs.declared.signed_mesh.NoSurface.{NoSurface}
 use Rattle.compact_surfaces.specs.Faults.{IsFirstFault}
 use Rattle.compact_surfaces.specs.declared.fault.CompactFault.{CompactFault}
+use Rattle.homotopy_arrays.specs.Pairs.{IsAnswer, are_pairs}
+use Rattle.homotopy_arrays.specs.declared.decide.PairAnswer.{PairAnswer}
 use Rattle.closed_surfaces.specs.declared.signed_mesh.NoSurface.TheVariants as nones
 use Rattle.compact_surfaces.specs.declared.fault.CompactFault.TheVariants as compact
-use Rattle.homotopy_arrays.specs.Compact.{IsCompactFault, IsCompactKept, of_compact_fault}
-use Rattle.homotopy_arrays.specs.Decisions.{IsKept}
+use Rattle.homotopy_arrays.specs.Compact.{AreDecidedOnAny, IsCompactFault, IsCompactKept, of_compact_fault}
+use Rattle.homotopy_arrays.specs.Decisions.{AreAnsweredOn, IsAskedFault, IsKept}
 use Rattle.homotopy_arrays.specs.Surfaces.{EndsOn, IsSurfaceFault, IsSurfaceOf, OfMesh, of_no_surface, of_surface_fault}
 use Rattle.homotopy_arrays.specs.declared.fault.Fault.{Fault}
-use Rattle.homotopy_arrays.specs.declared.fault.Fault.TheVariants.{OutOfMemory}
+use Rattle.homotopy_arrays.specs.declared.fault.Fault.TheVariants.{OutOfMemory, WalkCount}
 
 -- a fault, and what is said of it more weakly
 pub refused : (read : Result FaceList Fault) (P Q : FaceList → Fault → Type 0) (fault : Fault)
@@ -59,13 +61,44 @@ of_same read kept mesh Gives Refuses end is same ends =
 
 pub of_kept : {T : Type 0} (read : Result FaceList Fault) (kept : FaceList) (Gives : FaceList → T → Type 0)
     (Refuses : FaceList → Fault → Type 0) (end : Result T Fault) → OfMesh read (λ mesh. IsKept mesh kept)
-    → EndsOn (Ok kept) Gives Refuses end → EndsOn read Gives Refuses end
-of_kept read kept Gives Refuses end of ends = of_same read kept of.mesh Gives Refuses end of.is of.holds.same ends
+    → (IsOrientableSurface kept → EndsOn (Ok kept) Gives Refuses end) → EndsOn read Gives Refuses end
+of_kept read kept Gives Refuses end of ends =
+    of_same read kept of.mesh Gives Refuses end of.is of.holds.same
+    (ends (subst IsOrientableSurface (sym of.holds.same) of.holds.surface))
 
 pub of_compact : {T : Type 0} (read : Result FaceList Fault) (kept : FaceList) (Gives : FaceList → T → Type 0)
     (Refuses : FaceList → Fault → Type 0) (end : Result T Fault) → OfMesh read (λ mesh. IsCompactKept mesh kept)
-    → EndsOn (Ok kept) Gives Refuses end → EndsOn read Gives Refuses end
-of_compact read kept Gives Refuses end of ends = of_same read kept of.mesh Gives Refuses end of.is of.holds.same ends
+    → (IsCompactSurface kept → EndsOn (Ok kept) Gives Refuses end) → EndsOn read Gives Refuses end
+of_compact read kept Gives Refuses end of ends =
+    of_same read kept of.mesh Gives Refuses end of.is of.holds.same
+    (ends (subst IsCompactSurface (sym of.holds.same) of.holds.surface))
+
+-- the answers on a surface of a kind, of one that is kept
+pub on_kind : (IsSurface : FaceList → Type 0) (Refuses : FaceList → Fault → Type 0) (sizes vertices : List ℕ) (mesh : FaceList)
+    (end : Result (Vec PairAnswer) Fault) → IsSurface mesh → IsCompactSurface mesh
+    → ((m : FaceList) → IsSurface m → are_pairs sizes vertices ≡ false → Refuses m WalkCount)
+    → EndsOn (Ok mesh) (λ m given. AreDecidedOnAny sizes vertices m given.items) (IsAskedFault IsCompactSurface sizes vertices) end
+    → EndsOn (Ok mesh) (λ m given. AreAnsweredOn IsSurface IsAnswer sizes vertices m given.items) Refuses end
+on_kind IsSurface Refuses sizes vertices mesh (Ok given) is compact refuses of =
+    let same : mesh ≡ of.mesh = (let e = of.is in cc) in
+    record {
+      mesh = of.mesh;
+      is = of.is;
+      holds = record { surface = subst IsSurface same is; pairs = of.holds.pairs; answers = of.holds.answers };
+    }
+on_kind IsSurface Refuses sizes vertices mesh (Err fault) is compact refuses (inl memory) = inl memory
+on_kind IsSurface Refuses sizes vertices mesh (Err fault) is compact refuses (inr (inl bad)) = inr (inl bad)
+on_kind IsSurface Refuses sizes vertices mesh (Err fault) is compact refuses (inr (inr of)) =
+    let same : mesh ≡ of.mesh = (let e = of.is in cc) in
+    elim of.holds [
+      | inl other ↦ absurd (other.0 (subst IsCompactSurface same compact))
+      | inr none ↦
+          inr (inr (record {
+            mesh = of.mesh;
+            is = of.is;
+            holds = subst (Refuses of.mesh) (sym none.2) (refuses of.mesh (subst IsSurface same is) none.1);
+          }))
+    ]
 
 -- a surface that was read is kept
 pub kept_surface : (read : Result FaceList Fault) (surface : SignedMesh) (kept : FaceList)

@@ -2,7 +2,7 @@
 use Rattle.std.specs.Prelude.{◌≡◌, ◌≢◌, ℕ, ◌<◌, ◌≤◌, ⊤, List, length, map, sum, Some, None}
 use Rattle.std.specs.List.{range_with_len}
 use Rattle.surf_model.specs.FaceLists.{FaceList}
-use Rattle.surf_model.specs.OrientableSurfaces.{IsOrientableSurface}
+use Rattle.compact_surfaces.specs.CompactSurfaces.{IsCompactSurface}
 use Rattle.walk_classes.specs.WalkClasses.{AreClasses}
 use Rattle.homotopy_arrays.specs.Pairs.{AreWalks, length_fault, walk_at, walks_fault}
 use Rattle.homotopy_arrays.specs.declared.classes.NoClasses.{NoClasses}
@@ -40,9 +40,9 @@ IsNoClassesIn mesh sizes vertices (Walk place fault) =
     × (walks_fault mesh (walk_at sizes vertices place) (walk_at sizes vertices place) ≡ Some fault)
 IsNoClassesIn mesh sizes vertices OutOfMemory = ⊤
 
--- the mesh is a surface, and the walks are walks of it with their classes
+-- the mesh is a compact surface, and the walks are walks of it with their classes
 pub record AreClassed (mesh : FaceList) (walk_sizes walk_vertices given : List ℕ) : Type 0 where
-  pub surface : IsOrientableSurface mesh
+  pub surface : IsCompactSurface mesh
   pub sizes : sum walk_sizes ≡ length walk_vertices
   pub classes : AreClassesIn mesh walk_sizes walk_vertices given
 

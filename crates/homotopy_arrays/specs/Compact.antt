@@ -1,7 +1,6 @@
 -- How the question whether the walks of pairs are homotopic ends on compact surfaces, in any number of pieces, closed or with boundary,
 -- orientable or not.
 use Rattle.std.specs.Prelude.{◌≡◌, ◌⊎◌, ℕ, List, false}
-use Rattle.surf_model.specs.Edges.{Edge, IsTableOf}
 use Rattle.surf_model.specs.FaceLists.{FaceList}
 use Rattle.compact_surfaces.specs.CompactSurfaces.{IsCompactSurface}
 use Rattle.compact_surfaces.specs.Faults.{IsFirstFault}
@@ -30,11 +29,6 @@ of_compact_fault compact.OutOfMemory = OutOfMemory
 -- what is first wrong with a mesh that is no compact surface, or one whose double or cover would be too large
 abbrev pub IsCompactFault : FaceList → Fault → Type 0
 IsCompactFault mesh fault = (first : CompactFault) × IsFirstFault mesh first × (fault ≡ of_compact_fault first)
-
--- a compact surface with its table
-pub record IsTabled (mesh : FaceList) (table : List Edge) : Type 0 where
-  pub surface : IsCompactSurface mesh
-  pub is_table : IsTableOf mesh table
 
 -- the mesh is a compact surface, and is the one that is kept
 pub record IsCompactKept (mesh kept : FaceList) : Type 0 where

@@ -6,7 +6,7 @@ use Rattle.homotopy_arrays.specs.Pairs.{AreAnswers, IsAnswer, are_pairs}
 use Rattle.homotopy_arrays.specs.Surfaces.{IsSurfaceFault}
 use Rattle.homotopy_arrays.specs.declared.decide.PairAnswer.{PairAnswer}
 use Rattle.homotopy_arrays.specs.declared.fault.Fault.{Fault}
-use Rattle.homotopy_arrays.specs.declared.fault.Fault.TheVariants.{WalkCount}
+use Rattle.homotopy_arrays.specs.declared.fault.Fault.TheVariants.{NotOrientable, WalkCount}
 
 -- the mesh is a surface, and is the one that is kept
 pub record IsKept (mesh kept : FaceList) : Type 0 where
@@ -34,3 +34,10 @@ abbrev pub IsDecideFault : (walk_sizes walk_vertices : List ℕ) → FaceList �
 IsDecideFault walk_sizes walk_vertices mesh fault =
     IsSurfaceFault mesh fault
     ⊎ (IsOrientableSurface mesh × (are_pairs walk_sizes walk_vertices ≡ false) × (fault ≡ WalkCount))
+
+-- The surface is not of the kind on which the question is answered, which may be that it is not orientable; or it is, and the arrays of the
+-- walks are those of no pairs.
+abbrev pub IsAskedFault : (FaceList → Type 0) → (walk_sizes walk_vertices : List ℕ) → FaceList → Fault → Type 0
+IsAskedFault IsSurface walk_sizes walk_vertices mesh fault =
+    ((IsSurface mesh → ⊥) × (fault ≡ NotOrientable))
+    ⊎ (IsSurface mesh × (are_pairs walk_sizes walk_vertices ≡ false) × (fault ≡ WalkCount))

@@ -4,7 +4,8 @@ use Rattle.std.specs.Option.{option_or}
 use Rattle.surf_model.specs.FaceLists.{FaceList}
 use Rattle.closed_walks.specs.FreeHomotopy.{FreelyHomotopic, IsClosedWalk}
 use Rattle.walk_files.specs.ClosedPairs.{loops_fault}
-use Rattle.homotopy_arrays.specs.Decisions.{AreAnswered}
+use Rattle.compact_surfaces.specs.CompactSurfaces.{IsOrientableCompactSurface}
+use Rattle.homotopy_arrays.specs.Decisions.{AreAnsweredOn}
 use Rattle.homotopy_arrays.specs.Pairs.{length_fault}
 use Rattle.homotopy_arrays.specs.declared.loops.LoopAnswer.{LoopAnswer}
 use Rattle.homotopy_arrays.specs.declared.loops.LoopAnswer.TheVariants.{Freely, NotFreely, Faulty}
@@ -29,6 +30,7 @@ IsLoopAnswer mesh first second Freely = AreLoops mesh first second × FreelyHomo
 IsLoopAnswer mesh first second NotFreely = AreLoops mesh first second × (FreelyHomotopic mesh first second → ⊥)
 IsLoopAnswer mesh first second (Faulty fault) = (closed_fault mesh first second ≡ Some fault) × (AreLoops mesh first second → ⊥)
 
--- whether the closed walks of each pair are freely homotopic
+-- whether the closed walks of each pair are freely homotopic on an orientable compact surface
 abbrev pub AreLoopsDecided : (walk_sizes walk_vertices : List ℕ) → FaceList → List LoopAnswer → Type 0
-AreLoopsDecided walk_sizes walk_vertices mesh given = AreAnswered IsLoopAnswer walk_sizes walk_vertices mesh given
+AreLoopsDecided walk_sizes walk_vertices mesh given =
+    AreAnsweredOn IsOrientableCompactSurface IsLoopAnswer walk_sizes walk_vertices mesh given

@@ -1,14 +1,13 @@
 //! The classes of walks that lie in arrays.
 ghost use Rattle.std.specs.Prelude.{◌≡◌, length, sum, IfOk, MatchResult};
-ghost use Rattle.component_deciding.specs.WordFinders.{mesh_of_finder};
 ghost use Rattle.homotopy_arrays.specs.Classes.{AreClassesIn, AreCut, IsFirstNone, IsNoClassesIn};
 ghost use Rattle.homotopy_arrays.specs.declared.classes.NoClasses.TheVariants.{OutOfMemory};
 
 use crate::pair::{WalkFault, fault_of, length_fault, slice_at, walk_of};
-use component_deciding::WordFinder;
+use compact_surfaces::CompactSurface;
 use std::alloc::{AllocError, Global};
 use surf_model::Walk;
-use walk_classes::{ClassFault, classes_by};
+use walk_classes::ClassFault;
 
 /// Why walks that lie in arrays have no classes.
 #[derive(Clone, Copy, Debug, PartialEq, Eq)]
@@ -29,27 +28,27 @@ impl From<AllocError> for NoClasses {
     }
 }
 
-/// The number of the class of each walk, on the surface that a finder has; or the first list that is no walk.
+/// The number of the class of each walk, on a compact surface; or the first list that is no walk.
 pub(crate) fn classes_in(
     alloc: Global,
-    finder: &mut WordFinder,
+    surface: &mut CompactSurface,
     sizes: &[u32],
     vertices: &[u32],
 ) -> Result<Vec<usize>, NoClasses>
     requires { sum sizes.now ≡ length vertices.now }
-    ensures same { mesh_of_finder finder.new ≡ mesh_of_finder finder.old }
-    ensures ends { MatchResult result (λ given. AreClassesIn (mesh_of_finder finder.old) sizes.now vertices.now given.items)
-        (IsNoClassesIn (mesh_of_finder finder.old) sizes.now vertices.now) }
+    ensures same { surface.new ≡ surface.old }
+    ensures ends { MatchResult result (λ given. AreClassesIn surface.old sizes.now vertices.now given.items)
+        (IsNoClassesIn surface.old sizes.now vertices.now) }
 {
     let walks = cut(alloc, sizes, vertices)?;
-    match classes_by(alloc, finder, &walks) {
+    match surface.classes(&walks) {
         Ok(given) => {
             if walks.len() == sizes.len() {
                 return Ok(given);
             }
-            Err(told_at(alloc, finder, sizes, vertices, walks.len()))
+            Err(told_at(alloc, surface, sizes, vertices, walks.len()))
         }
-        Err(ClassFault::NoWalk { place }) => Err(told_at(alloc, finder, sizes, vertices, place)),
+        Err(ClassFault::NoWalk { place }) => Err(told_at(alloc, surface, sizes, vertices, place)),
         Err(ClassFault::OutOfMemory) => Err(NoClasses::OutOfMemory),
     }
 }
@@ -57,17 +56,17 @@ pub(crate) fn classes_in(
 /// The first list that is no walk, which is at this place, with what is first wrong with it.
 fn told_at(
     alloc: Global,
-    finder: &WordFinder,
+    surface: &CompactSurface,
     sizes: &[u32],
     vertices: &[u32],
     place: usize,
 ) -> NoClasses
     requires sizes { sum sizes.now ≡ length vertices.now }
-    requires none { IsFirstNone (mesh_of_finder finder.now) sizes.now vertices.now place }
-    ensures { IsNoClassesIn (mesh_of_finder finder.now) sizes.now vertices.now result }
+    requires none { IsFirstNone surface.now sizes.now vertices.now place }
+    ensures { IsNoClassesIn surface.now sizes.now vertices.now result }
 {
     let list = slice_at(sizes, vertices, place);
-    match fault_of(alloc, finder, list, list) {
+    match fault_of(alloc, surface, list, list) {
         Ok(fault) => NoClasses::Walk { place, fault },
         Err(_) => NoClasses::OutOfMemory,
     }

@@ -1,7 +1,9 @@
 //! Meshes that are kept, of which questions are asked as they come.
 ghost use Rattle.std.specs.Prelude.{◌≡◌, MatchResult, Ok};
+ghost use Rattle.compact_surfaces.specs.CompactSurfaces.{IsCompactSurface, IsOrientableCompactSurface};
 ghost use Rattle.homotopy_arrays.specs.Classes.{AreClassed, IsNoClassesIn};
-ghost use Rattle.homotopy_arrays.specs.Decisions.{AreAnswered, AreDecided, IsDecideFault, IsKept};
+ghost use Rattle.homotopy_arrays.specs.Compact.{AreDecidedOnAny, IsCompactFault, IsCompactKept};
+ghost use Rattle.homotopy_arrays.specs.Decisions.{AreAnsweredOn, IsAskedFault, IsKept};
 ghost use Rattle.homotopy_arrays.specs.Loops.{AreLoopsDecided};
 ghost use Rattle.homotopy_arrays.specs.MeshArrays.{mesh_in};
 ghost use Rattle.homotopy_arrays.specs.Surfaces.{EndsOn, IsSurfaceFault};
@@ -11,30 +13,26 @@ use crate::classes::{NoClasses, classes_in};
 use crate::decide::PairAnswer;
 use crate::fault::Fault;
 use crate::loops::LoopAnswer;
-use crate::mesh::{MeshArrays, add_up_to};
+use crate::mesh::{MeshArrays, add_up_to, mesh_of_arrays};
 use crate::pair::are_pairs;
 use crate::surface::surface_of_arrays;
-use component_deciding::WordFinder;
+use compact_surfaces::CompactSurface;
 use std::alloc::Global;
 use std::marker::Model;
 
-/// An orientable closed surface with what questions about its walks need. Contracts see its mesh.
+/// A compact surface with what questions about its walks need. Contracts see its mesh.
 #[derive(Drop)]
 pub struct KeptMesh {
     alloc: Global,
-    finder: WordFinder,
+    surface: CompactSurface,
 }
 
 impl Model for KeptMesh {
-    ghost use Rattle.component_deciding.specs.WordFinders.{mesh_of_finder};
     ghost use Rattle.surf_model.specs.FaceLists.{FaceList};
-    ghost use Rattle.surf_model.specs.OrientableSurfaces.{IsOrientableSurface};
 
     ghost Value = { FaceList };
 
-    ghost view = { λ a. mesh_of_finder a.finder };
-
-    ghost invariant = { λ a. IsOrientableSurface (mesh_of_finder a.finder) };
+    ghost view = { λ a. a.surface };
 }
 
 impl KeptMesh {
@@ -55,42 +53,59 @@ impl KeptMesh {
     ) -> Result<KeptMesh, Fault>
         ensures { EndsOn (mesh_in mesh.entry) IsKept IsSurfaceFault result }
     {
-        let surface = surface_of_arrays(alloc, mesh)?;
-        let finder = WordFinder::of(alloc, surface, darts)?;
-        Ok(KeptMesh { alloc, finder })
+        let signed = surface_of_arrays(alloc, mesh)?;
+        let surface = CompactSurface::of_signed(alloc, signed, darts)?;
+        Ok(KeptMesh { alloc, surface })
     }
 
-    /// The answers on pairs of walks: to the question to which these are answers.
+    /// The compact surface that the arrays are, in any number of pieces, closed or with boundary, orientable or not; or what is first
+    /// wrong.
+    ///
+    /// A surface with boundary is asked by way of its double, and one that is not orientable by way of its cover: each is made once, and
+    /// what is answered is told of the mesh that was given.
+    pub fn of_any(alloc: Global, mesh: MeshArrays<'_>) -> Result<KeptMesh, Fault>
+        ensures { EndsOn (mesh_in mesh.entry) IsCompactKept IsCompactFault result }
+    {
+        let faces = mesh_of_arrays(alloc, mesh)?;
+        let surface = CompactSurface::of(alloc, faces)?;
+        Ok(KeptMesh { alloc, surface })
+    }
+
+    /// The answers on pairs of walks: to the question to which these are answers. Where the surface is none on which they are told, that is
+    /// the fault.
     pub fn answers<A: WalkAnswer + Copy>(
         &mut self,
         walk_sizes: &[u32],
         walk_vertices: &[u32],
     ) -> Result<Vec<A>, Fault>
         ensures same { self.new ≡ self.old }
-        ensures ends { EndsOn (Ok self.old) (λ mesh given. AreAnswered A.Is walk_sizes.now walk_vertices.now mesh given.items)
-            (IsDecideFault walk_sizes.now walk_vertices.now) result }
+        ensures ends { EndsOn (Ok self.old) (λ mesh given. AreAnsweredOn A.On A.Is walk_sizes.now walk_vertices.now mesh given.items)
+            (IsAskedFault A.On walk_sizes.now walk_vertices.now) result }
     {
         let alloc = self.alloc;
+        if !A::is_told_on(&self.surface) {
+            return Err(Fault::NotOrientable);
+        }
         if !are_pairs(walk_sizes, walk_vertices) {
             return Err(Fault::WalkCount);
         }
-        Ok(answer_all(alloc, &mut self.finder, walk_sizes, walk_vertices)?)
+        Ok(answer_all(alloc, &mut self.surface, walk_sizes, walk_vertices)?)
     }
 
-    /// Whether the walks of each pair are homotopic, as `decide_arrays` tells of the arrays of this mesh.
+    /// Whether the walks of each pair are homotopic, as `decide_any_arrays` tells of the arrays of this mesh.
     pub fn decide(
         &mut self,
         walk_sizes: &[u32],
         walk_vertices: &[u32],
     ) -> Result<Vec<PairAnswer>, Fault>
         ensures same { self.new ≡ self.old }
-        ensures ends { EndsOn (Ok self.old) (λ mesh given. AreDecided walk_sizes.now walk_vertices.now mesh given.items)
-            (IsDecideFault walk_sizes.now walk_vertices.now) result }
+        ensures ends { EndsOn (Ok self.old) (λ mesh given. AreDecidedOnAny walk_sizes.now walk_vertices.now mesh given.items)
+            (IsAskedFault IsCompactSurface walk_sizes.now walk_vertices.now) result }
     {
         self.answers(walk_sizes, walk_vertices)
     }
 
-    /// Whether the closed walks of each pair are freely homotopic.
+    /// Whether the closed walks of each pair are freely homotopic, where the surface is orientable.
     pub fn loops(
         &mut self,
         walk_sizes: &[u32],
@@ -98,7 +113,7 @@ impl KeptMesh {
     ) -> Result<Vec<LoopAnswer>, Fault>
         ensures same { self.new ≡ self.old }
         ensures ends { EndsOn (Ok self.old) (λ mesh given. AreLoopsDecided walk_sizes.now walk_vertices.now mesh given.items)
-            (IsDecideFault walk_sizes.now walk_vertices.now) result }
+            (IsAskedFault IsOrientableCompactSurface walk_sizes.now walk_vertices.now) result }
     {
         self.answers(walk_sizes, walk_vertices)
     }
@@ -115,9 +130,11 @@ impl KeptMesh {
             (IsNoClassesIn self.old walk_sizes.now walk_vertices.now) }
     {
         let alloc = self.alloc;
+        // The proof reads what holds of every compact surface.
+        let _ = self.surface.sides();
         if !add_up_to(walk_sizes, walk_vertices.len()) {
             return Err(NoClasses::Count);
         }
-        classes_in(alloc, &mut self.finder, walk_sizes, walk_vertices)
+        classes_in(alloc, &mut self.surface, walk_sizes, walk_vertices)
     }
 }

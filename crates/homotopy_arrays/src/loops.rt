@@ -1,9 +1,10 @@
 //! Whether closed walks that lie in arrays are freely homotopic.
+ghost use Rattle.compact_surfaces.specs.CompactSurfaces.{IsOrientableCompactSurface};
 ghost use Rattle.homotopy_arrays.specs.Loops.{IsLoopAnswer};
 
 use crate::answering::WalkAnswer;
 use crate::pair::{Checked, WalkFault, check_closed};
-use component_deciding::WordFinder;
+use compact_surfaces::CompactSurface;
 use free_loops::FreeAnswer;
 use std::alloc::{AllocError, Global};
 
@@ -19,19 +20,27 @@ pub enum LoopAnswer {
 }
 
 impl WalkAnswer for LoopAnswer {
+    ghost On = { IsOrientableCompactSurface };
+
     ghost Is = { IsLoopAnswer };
+
+    fn is_told_on(surface: &CompactSurface) -> bool {
+        // The proof reads what holds of every compact surface.
+        let _ = surface.sides();
+        surface.is_orientable()
+    }
 
     fn answer_walks(
         alloc: Global,
-        finder: &mut WordFinder,
+        surface: &mut CompactSurface,
         first: &[u32],
         second: &[u32],
     ) -> Result<LoopAnswer, AllocError> {
-        let pair = match check_closed(alloc, finder.sides(), first, second)? {
+        let pair = match check_closed(alloc, surface.sides(), first, second)? {
             Checked::Pair(pair) => pair,
             Checked::Faulty(fault) => return Ok(LoopAnswer::Faulty(fault)),
         };
-        match finder.decide_free(pair.at(0), pair.at(1))? {
+        match surface.decide_free(pair.at(0), pair.at(1))? {
             FreeAnswer::Freely => Ok(LoopAnswer::Freely),
             FreeAnswer::NotFreely => Ok(LoopAnswer::NotFreely),
         }

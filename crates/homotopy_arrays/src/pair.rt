@@ -1,13 +1,12 @@
 //! Two walks that lie in arrays.
 ghost use Rattle.std.specs.Prelude.{◌≡◌, ◌≤◌, ◌<◌, length, sum, IfOk, Some};
-ghost use Rattle.component_deciding.specs.WordFinders.{mesh_of_finder};
 ghost use Rattle.surf_model.specs.FaceLists.{FaceList};
 ghost use Rattle.surf_model.specs.Edges.{IsTableOf};
 ghost use Rattle.homotopy_arrays.specs.CheckedPairs.{AreCheckedLoops, AreListed, IsChecked};
 ghost use Rattle.homotopy_arrays.specs.Pairs.{AreWalks, are_pairs, length_fault, walk_at, walks_fault};
 
 use crate::mesh::add_up_to;
-use component_deciding::WordFinder;
+use compact_surfaces::CompactSurface;
 use std::alloc::{AllocError, Global};
 use surf_model::{Sides, VertexName, Walk};
 use walk_files::{LoopFault, PairFault, WalkList, check_loops, check_pair};
@@ -90,17 +89,17 @@ fn lists_of(alloc: Global, first: &[u32], second: &[u32]) -> Result<Checked, All
     Ok(Checked::Pair(WalkList::pair(alloc, one, other)?))
 }
 
-/// What is first wrong with two lists that are no two walks of a finder's surface with common ends.
+/// What is first wrong with two lists that are no two walks of a surface with common ends.
 pub(crate) fn fault_of(
     alloc: Global,
-    finder: &WordFinder,
+    surface: &CompactSurface,
     first: &[u32],
     second: &[u32],
 ) -> Result<WalkFault, AllocError>
-    requires { AreWalks (mesh_of_finder finder.now) first.now second.now → ⊥ }
-    ensures { IfOk result (λ fault. walks_fault (mesh_of_finder finder.now) first.now second.now ≡ Some fault) }
+    requires { AreWalks surface.now first.now second.now → ⊥ }
+    ensures { IfOk result (λ fault. walks_fault surface.now first.now second.now ≡ Some fault) }
 {
-    match check_walks(alloc, finder.sides(), first, second)? {
+    match check_walks(alloc, surface.sides(), first, second)? {
         Checked::Faulty(fault) => Ok(fault),
         Checked::Pair(_) => unreachable!(),
     }

@@ -1,5 +1,5 @@
 -- What is told of the classes of walks, and what it means.
-use Rattle.homotopy_c.proofs.Common.{walk_at, ◌≡◌, ◌≢◌, ◌↔◌, inl, inr, ℕ, ◌<◌, ◌≤◌, List, [], ◌++◌, length, get_or, take, sym, ap, ◌∙◌, subst, arith, cases_lt, get_or_append_left, take_at, Vec, MatchResult, Option, Some, None, Result, Ok, Err, FaceList, IsOrientableSurface}
+use Rattle.homotopy_c.proofs.Common.{IsCompactSurface, walk_at, ◌≡◌, ◌≢◌, ◌↔◌, inl, inr, ℕ, ◌<◌, ◌≤◌, List, [], ◌++◌, length, get_or, take, sym, ap, ◌∙◌, subst, arith, cases_lt, get_or_append_left, take_at, Vec, MatchResult, Option, Some, None, Result, Ok, Err, FaceList}
 use Rattle.homotopy_arrays.specs.Classes.{AreClassed, IsNoClassesIn, walks_in}
 use Rattle.homotopy_arrays.specs.declared.classes.NoClasses.{NoClasses}
 use Rattle.std.proofs.Common.{drop}
@@ -57,7 +57,7 @@ stand mesh sizes vertices old classes outcome h =
 
 pub classes_mean : (mesh : FaceList) (sizes vertices old classes : List ℕ) (outcome : Outcome)
     → IsMeshClassesCall (Some mesh) sizes vertices old classes outcome → outcome.code ≡ codes.DONE
-    → IsOrientableSurface mesh × AreClasses mesh (walks_in sizes vertices) (take (length sizes) classes)
+    → IsCompactSurface mesh × AreClasses mesh (walks_in sizes vertices) (take (length sizes) classes)
 classes_mean mesh sizes vertices old classes outcome h e =
     let stands = (stand mesh sizes vertices old classes outcome h).0 e in
     let front : take (length sizes) classes ≡ stands.given =

@@ -1,10 +1,14 @@
 -- What proofs of this crate cite of others, passed on from one place (by tools/imports). Declares nothing.
+pub use Rattle.compact_surfaces.specs.CompactSurfaces.{IsCompactSurface, IsOrientableCompactSurface}
 pub use Rattle.core.proofs.alloc.Calls.{Al, Goes-blank, handle_tells}
 pub use Rattle.core.proofs.atomic.Steps.{fm}
 pub use Rattle.core.proofs.cell.Inside.{Good, one}
-pub use Rattle.homotopy_arrays.specs.Decisions.{AreAnsweredOn, IsDecideFault, IsKept}
+pub use Rattle.homotopy_arrays.specs.Compact.{IsCompactFault, IsCompactKept, IsDecideAnyFault}
+pub use Rattle.homotopy_arrays.specs.Decisions.{AreAnsweredOn, IsAskedFault, IsDecideFault, IsKept}
 pub use Rattle.homotopy_arrays.specs.Loops.{IsLoopAnswer}
-pub use Rattle.homotopy_arrays.specs.Pairs.{AreWalks, IsAnswer, walk_at}
+pub use Rattle.homotopy_arrays.specs.MeshArrays.{mesh_of}
+pub use Rattle.homotopy_arrays.specs.Pairs.{AreWalks, IsAnswer, are_pairs, walk_at}
+pub use Rattle.homotopy_arrays.specs.Surfaces.{EndsOn, IsMeasured, IsSurfaceFault, OfMesh}
 pub use Rattle.homotopy_arrays.specs.contracts.kept.KeptMesh.{the_row}
 pub use Rattle.homotopy_arrays.specs.declared.certify.CertifyFault.{CertifyFault}
 pub use Rattle.homotopy_arrays.specs.declared.decide.PairAnswer.TheVariants.{Different, Faulty, Homotopic}
@@ -16,7 +20,7 @@ pub use Rattle.std.proofs.Common.{List, ap, append_assoc, arith, false, get_or, 
 pub use Rattle.std.proofs.lemmas.Bool.{cases_lt}
 pub use Rattle.std.proofs.lemmas.List.{drop_more, get_or-map, get_or_append_left, length-map, map-append, set_at, take_at, take_more}
 pub use Rattle.std.proofs.raw_atomic.Walks.{leaves, proved_at}
-pub use Rattle.std.specs.Global.{Vec}
+pub use Rattle.std.specs.Global.{Box, Vec}
 pub use Rattle.std.specs.Prelude.{Bool, Err, MatchResult, None, Ok, Option, Result, Some, map, ℤ, ◌==◌, ◌||◌}
 pub use Rattle.std.specs.contracts.impls.GlobalAllocator.TheImpl.{ghosts}
 pub use Rattle.std.specs.declared.alloc.Global.{Global}

@@ -1,15 +1,17 @@
 -- What is told of surfaces and of pairs, and what it means.
-use Rattle.homotopy_c.proofs.Common.{AreAnsweredOn, IsKept, IsLoopAnswer, IsAnswer, walk_at, Homotopic, Different, Faulty, Fault, ◌≡◌, ◌≢◌, inl, inr, ℕ, ◌+◌, ◌*◌, ◌/◌, ◌<◌, List, length, get_or, refl, sym, ap, ◌∙◌, subst, arith, cases_lt, get_or_append_left, get_or-map, length-map, Vec, Option, Some, None, Result, Ok, Err, FaceList}
-use Rattle.homotopy_arrays.specs.Surfaces.{EndsOn, IsMeasured, IsSurfaceFault, OfMesh}
+use Rattle.homotopy_c.proofs.Common.{IsCompactSurface, IsCompactFault, IsCompactKept, IsDecideAnyFault, AreAnsweredOn, IsKept, IsAskedFault, IsDecideFault, IsLoopAnswer, IsAnswer, walk_at, are_pairs, EndsOn, IsMeasured, IsSurfaceFault, OfMesh, Homotopic, Different, Faulty, Fault, ◌≡◌, ◌≢◌, inl, inr, ℕ, ◌+◌, ◌*◌, ◌/◌, ◌<◌, List, length, get_or, refl, sym, ap, ◌∙◌, subst, arith, false, cases_lt, get_or_append_left, get_or-map, length-map, Vec, Box, Option, Some, None, Result, Ok, Err, FaceList, IsOrientableSurface}
+use Rattle.compact_surfaces.proofs.ClosedLemmas.{compact_surface}
+use Rattle.homotopy_arrays.proofs.EndLemmas.{on_kind}
 use Rattle.homotopy_arrays.specs.declared.decide.PairAnswer.{PairAnswer}
+use Rattle.homotopy_arrays.specs.declared.fault.Fault.TheVariants.{OutOfMemory, WalkCount}
 use Rattle.homotopy_arrays.specs.declared.loops.LoopAnswer.{LoopAnswer}
 use Rattle.homotopy_arrays.specs.declared.surface.Measured.{Measured}
 use Rattle.std.proofs.Common.{drop, map}
 use Rattle.homotopy_arrays.specs.declared.loops.LoopAnswer.TheVariants as free
-use Rattle.homotopy_c.specs.Kept.{IsMeshAnswersCall, IsMeshDecideCall, IsMeshNewCall, TellsKept}
+use Rattle.homotopy_c.specs.Kept.{IsMeshAnswersCall, IsMeshDecideCall, IsMeshNewAnyCall, IsMeshNewCall, TellsHeld, TellsKept}
 use Rattle.homotopy_c.specs.Meanings.{DoesAnswer, DoesAnswerLoops, DoesMeasure}
 use Rattle.homotopy_c.specs.Outcomes.{byte_of, done, loop_byte, told}
-use Rattle.homotopy_c.specs.Told.{IsBytesCall, IsDecideCall, IsSurfaceTold, TellsBytes, TellsSurface}
+use Rattle.homotopy_c.specs.Told.{IsBytesCall, IsDecideAnyCall, IsDecideCall, IsSurfaceTold, TellsBytes, TellsSurface}
 use Rattle.homotopy_c.specs.declared.codes.TheConstants as codes
 use Rattle.homotopy_c.specs.declared.outcome.Outcome.{Outcome}
 use Rattle.homotopy_c.specs.declared.surface.SurfaceNumbers.{SurfaceNumbers}
@@ -113,34 +115,126 @@ else_same {A} byte IsRight sizes old answers outcome h differs =
     by_end (Ok given) tells = absurd (differs (code_is outcome done tells.1))
     by_end (Err fault) tells = tells.0
 
-pub held_else_same : {A : Type 0} (Is : FaceList → (first second : List ℕ) → A → Type 0) (byte : A → ℕ) (held : Option FaceList)
-    (sizes vertices old answers : List ℕ) (outcome : Outcome)
-    → IsMeshAnswersCall Is byte held sizes vertices old answers outcome → outcome.code ≢ codes.DONE → answers ≡ old
-held_else_same Is byte (Some mesh) sizes vertices old answers outcome h differs = else_same byte _ sizes old answers outcome h differs
-held_else_same Is byte None sizes vertices old answers outcome h differs = h.0
+pub held_else_same : {A : Type 0} (IsSurface : FaceList → Type 0) (Is : FaceList → (first second : List ℕ) → A → Type 0) (byte : A → ℕ)
+    (held : Option FaceList) (sizes vertices old answers : List ℕ) (outcome : Outcome)
+    → IsMeshAnswersCall IsSurface Is byte held sizes vertices old answers outcome → outcome.code ≢ codes.DONE → answers ≡ old
+held_else_same IsSurface Is byte (Some mesh) sizes vertices old answers outcome h differs =
+    else_same byte _ sizes old answers outcome h differs
+held_else_same IsSurface Is byte None sizes vertices old answers outcome h differs = h.0
+
+-- the code of what is not orientable is told of nothing else
+pub told_not_orientable : {A : Type 0} (IsSurface : FaceList → Type 0) (Is : FaceList → (first second : List ℕ) → A → Type 0)
+    (byte : A → ℕ) (mesh : FaceList) (sizes vertices old answers : List ℕ) (outcome : Outcome)
+    → IsMeshAnswersCall IsSurface Is byte (Some mesh) sizes vertices old answers outcome → outcome.code ≡ codes.NOT_ORIENTABLE
+    → IsSurface mesh → ⊥
+told_not_orientable {A} IsSurface Is byte mesh sizes vertices old answers outcome h e is =
+    elim (cases_lt (length old) (length sizes / 2)) [
+      | inl less ↦ omega (arith, e, code_is outcome _ (h.short less).1)
+      | inr room ↦ (let told_so = h.room room in by_end told_so.end told_so.right told_so.tells)
+    ]
+  where
+    by_end : (end : Result (Vec A) Fault)
+        → EndsOn (Ok mesh) (λ m given. AreAnsweredOn IsSurface Is sizes vertices m given.items) (IsAskedFault IsSurface sizes vertices) end
+        → TellsBytes byte end old answers outcome → ⊥
+    by_end (Ok given) right tells = omega (arith, e, code_is outcome done tells.1)
+    by_end (Err fault) (inl memory) tells = omega (arith, e, code_is outcome (told OutOfMemory) (tells.1 ∙ ap told memory))
+    by_end (Err fault) (inr (inl bad)) tells = absurd cc
+    by_end (Err fault) (inr (inr of)) tells =
+        elim (of_one mesh (λ m. IsAskedFault IsSurface sizes vertices m fault) of) [
+          | inl other ↦ other.0 is
+          | inr count ↦ omega (arith, e, code_is outcome (told WalkCount) (tells.1 ∙ ap told count.2))
+        ]
 
 -- ---- meshes that are kept
+
+-- how a mesh was made on the heap, as how one is
+pub held_told : (read : Result FaceList Fault) (Keeps : FaceList → FaceList → Type 0) (Refuses : FaceList → Fault → Type 0)
+    (made : Result (Box FaceList) Fault) (old new : Option FaceList) (outcome : Outcome)
+    → EndsOn read (λ mesh kept. Keeps mesh kept.value) Refuses made → TellsHeld made old new outcome
+    → (end : Result FaceList Fault) × EndsOn read Keeps Refuses end × TellsKept end old new outcome
+held_told read Keeps Refuses (Ok kept) old new outcome right tells = (Ok kept.value, right, tells)
+held_told read Keeps Refuses (Err fault) old new outcome right tells = (Err fault, right, tells)
+
+-- where a call ends with `DONE`, the handle holds the mesh
+held_now : (read : Result FaceList Fault) (Keeps : FaceList → FaceList → Type 0) (Refuses : FaceList → Fault → Type 0)
+    (end : Result FaceList Fault) (old held : Option FaceList) (made : Outcome) → EndsOn read Keeps Refuses end
+    → TellsKept end old held made → made.code ≡ codes.DONE
+    → (kept : FaceList) × (held ≡ Some kept) × OfMesh read (λ mesh. Keeps mesh kept)
+held_now read Keeps Refuses (Ok kept) old held made of tells e = (kept, tells.0, of)
+held_now read Keeps Refuses (Err fault) old held made right tells e =
+    absurd (omega (arith, e, code_is made (told fault) tells.1, fault_code fault))
+
+-- and else what it held
+held_before : (end : Result FaceList Fault) (old held : Option FaceList) (made : Outcome) → TellsKept end old held made
+    → made.code ≢ codes.DONE → held ≡ old
+held_before (Ok kept) old held made tells differs = absurd (differs (code_is made done tells.1))
+held_before (Err fault) old held made tells differs = tells.0
+
+-- answers on a surface of a kind, where all of that kind are compact
+of_kind : (IsSurface : FaceList → Type 0) (Refuses : FaceList → Fault → Type 0) (sizes vertices before answers : List ℕ) (mesh : FaceList)
+    (outcome : Outcome) → IsSurface mesh → IsCompactSurface mesh
+    → ((m : FaceList) → IsSurface m → are_pairs sizes vertices ≡ false → Refuses m WalkCount)
+    → IsMeshDecideCall (Some mesh) sizes vertices before answers outcome
+    → IsBytesCall byte_of (EndsOn (Ok mesh) (λ m given. AreAnsweredOn IsSurface IsAnswer sizes vertices m given.items) Refuses) sizes before
+    answers outcome
+of_kind IsSurface Refuses sizes vertices before answers mesh outcome is compact refuses h = record {
+  room = λ room.
+      (let told_so = h.room room in
+      record {
+        end = told_so.end;
+        right = on_kind IsSurface Refuses sizes vertices mesh told_so.end is compact refuses told_so.right;
+        tells = told_so.tells;
+      });
+  short = h.short;
+}
 
 pub kept_told : (read : Result FaceList Fault) (old held : Option FaceList) (made : Outcome) → IsMeshNewCall read old held made
     → made.code ≡ codes.DONE → (sizes vertices before answers : List ℕ) (outcome : Outcome)
     → IsMeshDecideCall held sizes vertices before answers outcome → IsDecideCall read sizes vertices before answers outcome
-kept_told read old held made h e sizes vertices before answers outcome asked = by_end h.end h.right h.tells
-  where
-    by_end : (end : Result FaceList Fault) → EndsOn read IsKept IsSurfaceFault end → TellsKept end old held made
-        → IsDecideCall read sizes vertices before answers outcome
-    by_end (Ok kept) of tells =
-        let same : read ≡ Ok kept = of.is ∙ ap (λ (m : FaceList). Ok m) (sym of.holds.same) in
-        subst (λ (r : Result FaceList Fault). IsDecideCall r sizes vertices before answers outcome) (sym same)
-        (subst (λ (o : Option FaceList). IsMeshDecideCall o sizes vertices before answers outcome) tells.0 asked)
-    by_end (Err fault) right tells = absurd (omega (arith, e, code_is made (told fault) tells.1, fault_code fault))
+kept_told read old held made h e sizes vertices before answers outcome asked =
+    let now = held_now read IsKept IsSurfaceFault h.end old held made h.right h.tells e in
+    let kept : FaceList = now.0 in
+    let same : read ≡ Ok kept = now.2.is ∙ ap (λ (m : FaceList). Ok m) (sym now.2.holds.same) in
+    let surface : IsOrientableSurface kept = subst IsOrientableSurface (sym now.2.holds.same) now.2.holds.surface in
+    subst (λ (r : Result FaceList Fault). IsDecideCall r sizes vertices before answers outcome) (sym same)
+    (of_kind IsOrientableSurface (IsDecideFault sizes vertices) sizes vertices before answers kept outcome surface
+    (compact_surface kept surface.manifold) (λ m on none. inr (on, none, refl))
+    (subst (λ (o : Option FaceList). IsMeshDecideCall o sizes vertices before answers outcome) now.1 asked))
+
+pub any_kept_told : (read : Result FaceList Fault) (old held : Option FaceList) (made : Outcome) → IsMeshNewAnyCall read old held made
+    → made.code ≡ codes.DONE → (sizes vertices before answers : List ℕ) (outcome : Outcome)
+    → IsMeshDecideCall held sizes vertices before answers outcome → IsDecideAnyCall read sizes vertices before answers outcome
+any_kept_told read old held made h e sizes vertices before answers outcome asked =
+    let now = held_now read IsCompactKept IsCompactFault h.end old held made h.right h.tells e in
+    let kept : FaceList = now.0 in
+    let same : read ≡ Ok kept = now.2.is ∙ ap (λ (m : FaceList). Ok m) (sym now.2.holds.same) in
+    let surface : IsCompactSurface kept = subst IsCompactSurface (sym now.2.holds.same) now.2.holds.surface in
+    subst (λ (r : Result FaceList Fault). IsDecideAnyCall r sizes vertices before answers outcome) (sym same)
+    (of_kind IsCompactSurface (IsDecideAnyFault sizes vertices) sizes vertices before answers kept outcome surface surface
+    (λ m on none. inr (on, none, refl))
+    (subst (λ (o : Option FaceList). IsMeshDecideCall o sizes vertices before answers outcome) now.1 asked))
+
+pub kept_surface : (mesh : FaceList) (old held : Option FaceList) (made : Outcome) → IsMeshNewCall (Ok mesh) old held made
+    → made.code ≡ codes.DONE → (held ≡ Some mesh) × IsOrientableSurface mesh
+kept_surface mesh old held made h e =
+    let now = held_now (Ok mesh) IsKept IsSurfaceFault h.end old held made h.right h.tells e in
+    let is : IsKept mesh now.0 = of_one mesh (λ m. IsKept m now.0) now.2 in
+    (now.1 ∙ ap (λ (m : FaceList). Some m) is.same, is.surface)
+
+pub any_kept_surface : (mesh : FaceList) (old held : Option FaceList) (made : Outcome) → IsMeshNewAnyCall (Ok mesh) old held made
+    → made.code ≡ codes.DONE → (held ≡ Some mesh) × IsCompactSurface mesh
+any_kept_surface mesh old held made h e =
+    let now = held_now (Ok mesh) IsCompactKept IsCompactFault h.end old held made h.right h.tells e in
+    let is : IsCompactKept mesh now.0 = of_one mesh (λ m. IsCompactKept m now.0) now.2 in
+    (now.1 ∙ ap (λ (m : FaceList). Some m) is.same, is.surface)
 
 pub kept_else_same : (read : Result FaceList Fault) (old held : Option FaceList) (made : Outcome) → IsMeshNewCall read old held made
     → made.code ≢ codes.DONE → held ≡ old
-kept_else_same read old held made h differs = by_end h.end h.tells
-  where
-    by_end : (end : Result FaceList Fault) → TellsKept end old held made → held ≡ old
-    by_end (Ok kept) tells = absurd (differs (code_is made done tells.1))
-    by_end (Err fault) tells = tells.0
+kept_else_same read old held made h differs = held_before h.end old held made h.tells differs
+
+pub any_kept_else_same : (read : Result FaceList Fault) (old held : Option FaceList) (made : Outcome)
+    → IsMeshNewAnyCall read old held made → made.code ≢ codes.DONE → held ≡ old
+any_kept_else_same read old held made h differs = held_before h.end old held made h.tells differs
 
 -- ---- surfaces
 

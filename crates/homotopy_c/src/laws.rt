@@ -1,14 +1,15 @@
 //! What the calls tell, said of their definitions. A call of one of these functions does nothing; its contract is the law. Each of
-//! `homotopy_surface`, `homotopy_decide`, `homotopy_decide_any`, `homotopy_mesh_new`, `homotopy_mesh_decide`, `homotopy_mesh_loops`,
-//! `homotopy_mesh_classes`, `homotopy_certify`, `homotopy_verify` and `homotopy_homology` ensures the record that its law takes as a
-//! premise; `Ok mesh` there says that the arrays are a mesh, and `Some mesh` that the handle holds it.
+//! `homotopy_surface`, `homotopy_decide`, `homotopy_decide_any`, `homotopy_mesh_new`, `homotopy_mesh_new_any`, `homotopy_mesh_decide`,
+//! `homotopy_mesh_loops`, `homotopy_mesh_classes`, `homotopy_certify`, `homotopy_verify` and `homotopy_homology` ensures the record that
+//! its law takes as a premise; `Ok mesh` there says that the arrays are a mesh, and `Some mesh` that the handle holds it.
 ghost use Rattle.std.specs.Prelude.{◌≡◌, ◌≢◌, ◌⊎◌, ◌↔◌, ◌*◌, ◌+◌, ◌/◌, ◌<◌, ◌≤◌, ℕ, ℤ, List, length, take, slice_index, IsTrue, Option, Some, Result, Ok};
 ghost use Rattle.surf_model.specs.FaceLists.{FaceList, IsFaceList, HasFileSize};
 ghost use Rattle.surf_model.specs.OrientableSurfaces.{IsOrientableSurface};
+ghost use Rattle.surf_model.specs.Surfaces.{IsOrientable};
 ghost use Rattle.commands.specs.Inputs.{SpellsCertificate};
 ghost use Rattle.commands.specs.declared.certificate.Certificate.{Certificate};
 ghost use Rattle.commands.specs.declared.inputs.TheConstants.{MOST_BYTES};
-ghost use Rattle.compact_surfaces.specs.CompactSurfaces.{IsCompactSurface};
+ghost use Rattle.compact_surfaces.specs.CompactSurfaces.{IsCompactSurface, IsOrientableCompactSurface};
 ghost use Rattle.walk_classes.specs.WalkClasses.{AreClasses, AreInOneClass};
 ghost use Rattle.homotopy_arrays.specs.Classes.{walks_in};
 ghost use Rattle.homotopy_arrays.specs.Pairs.{AreWalks, walk_at};
@@ -16,7 +17,7 @@ ghost use Rattle.homotopy_arrays.specs.declared.fault.Fault.{Fault};
 ghost use Rattle.homotopy_c.specs.Certified.{IsCertifyCall};
 ghost use Rattle.homotopy_c.specs.Homologous.{IsHomologyCall};
 ghost use Rattle.homotopy_c.specs.Judged.{IsVerifyCall};
-ghost use Rattle.homotopy_c.specs.Kept.{IsMeshClassesCall, IsMeshDecideCall, IsMeshLoopsCall, IsMeshNewCall};
+ghost use Rattle.homotopy_c.specs.Kept.{IsMeshClassesCall, IsMeshDecideCall, IsMeshLoopsCall, IsMeshNewAnyCall, IsMeshNewCall};
 ghost use Rattle.homotopy_c.specs.Meanings.{DoesAnswer, DoesAnswerLoops, DoesMeasure, IsAccepted, ShowsDifferent, ShowsHomologous, ShowsHomotopic, ShowsNotHomologous, are_distinct, all_codes};
 ghost use Rattle.homotopy_c.specs.Told.{IsDecideAnyCall, IsDecideCall, IsSurfaceTold};
 ghost use Rattle.homotopy_c.specs.declared.codes.TheConstants as codes;
@@ -62,34 +63,53 @@ pub fn decide_any_tells_what_is_homotopic()
 {}
 
 /// Of the mesh that a handle holds `homotopy_mesh_decide` tells what `homotopy_decide` tells of the arrays that `homotopy_mesh_new` was
-/// handed; where that call does not answer, the handle holds what it held.
+/// handed, which keeps orientable closed surfaces alone; where that call does not answer, the handle holds what it held.
 pub fn a_mesh_is_told_as_its_arrays()
     ensures answers { (read : Result FaceList Fault) (old held : Option FaceList) (made : Outcome) → IsMeshNewCall read old held made
         → made.code ≡ codes.DONE → (sizes vertices before answers : List ℕ) (outcome : Outcome)
         → IsMeshDecideCall held sizes vertices before answers outcome → IsDecideCall read sizes vertices before answers outcome }
+    ensures surface { (mesh : FaceList) (old held : Option FaceList) (made : Outcome) → IsMeshNewCall (Ok mesh) old held made
+        → made.code ≡ codes.DONE → (held ≡ Some mesh) × IsOrientableSurface mesh }
     ensures else_same { (read : Result FaceList Fault) (old held : Option FaceList) (made : Outcome) → IsMeshNewCall read old held made
         → made.code ≢ codes.DONE → held ≡ old }
 {}
 
-/// Of the mesh that a handle holds `homotopy_mesh_loops` writes a byte for each pair, which is `FREELY_HOMOTOPIC` exactly where it is two
-/// closed walks of the surface and moves and changes of the starting vertex lead from the first to the second, and `NOT_FREELY_HOMOTOPIC`
-/// exactly where it is such walks and none lead. Where it does not answer, nothing is written.
+/// Of the mesh that a handle holds `homotopy_mesh_decide` tells what `homotopy_decide_any` tells of the arrays that `homotopy_mesh_new_any`
+/// was handed, which keeps compact surfaces; where that call does not answer, the handle holds what it held.
+pub fn any_mesh_is_told_as_its_arrays()
+    ensures answers { (read : Result FaceList Fault) (old held : Option FaceList) (made : Outcome) → IsMeshNewAnyCall read old held made
+        → made.code ≡ codes.DONE → (sizes vertices before answers : List ℕ) (outcome : Outcome)
+        → IsMeshDecideCall held sizes vertices before answers outcome → IsDecideAnyCall read sizes vertices before answers outcome }
+    ensures surface { (mesh : FaceList) (old held : Option FaceList) (made : Outcome) → IsMeshNewAnyCall (Ok mesh) old held made
+        → made.code ≡ codes.DONE → (held ≡ Some mesh) × IsCompactSurface mesh }
+    ensures else_same { (read : Result FaceList Fault) (old held : Option FaceList) (made : Outcome) → IsMeshNewAnyCall read old held made
+        → made.code ≢ codes.DONE → held ≡ old }
+{}
+
+/// Of the mesh that a handle holds `homotopy_mesh_loops` writes a byte for each pair, where the mesh is orientable. The byte is
+/// `FREELY_HOMOTOPIC` exactly where the pair is two closed walks of the surface and moves and changes of the starting vertex lead from the
+/// first to the second, and `NOT_FREELY_HOMOTOPIC` exactly where it is such walks and none lead. Where it does not answer, nothing is
+/// written; of a compact surface it tells `NOT_ORIENTABLE` only where that is not orientable. The surface is closed where
+/// `homotopy_mesh_new` made the handle, by the clause `surface` of `a_mesh_is_told_as_its_arrays`.
 pub fn loops_tell_what_is_freely_homotopic()
     ensures answers { (mesh : FaceList) (sizes vertices old answers : List ℕ) (outcome : Outcome)
         → IsMeshLoopsCall (Some mesh) sizes vertices old answers outcome → outcome.code ≡ codes.DONE
-        → IsOrientableSurface mesh × ((k : ℕ) → k < length sizes / 2
+        → IsOrientableCompactSurface mesh × ((k : ℕ) → k < length sizes / 2
         → DoesAnswerLoops mesh (walk_at sizes vertices (2 * k)) (walk_at sizes vertices (2 * k + 1)) (slice_index answers k)) }
+    ensures refused { (mesh : FaceList) (sizes vertices old answers : List ℕ) (outcome : Outcome) → IsCompactSurface mesh
+        → IsMeshLoopsCall (Some mesh) sizes vertices old answers outcome → outcome.code ≡ codes.NOT_ORIENTABLE → IsOrientable mesh → ⊥ }
     ensures else_nothing { (held : Option FaceList) (sizes vertices old answers : List ℕ) (outcome : Outcome)
         → IsMeshLoopsCall held sizes vertices old answers outcome → outcome.code ≢ codes.DONE → answers ≡ old }
 {}
 
 /// Of the mesh that a handle holds `homotopy_mesh_classes` writes a number for each walk, which are those of their classes: two are equal
 /// exactly where the walks have common ends and some list of moves leads from the one to the other. Where it does not answer, nothing is
-/// written.
+/// written. The surface is closed and orientable where `homotopy_mesh_new` made the handle, by the clause `surface` of
+/// `a_mesh_is_told_as_its_arrays`.
 pub fn classes_tell_what_is_homotopic()
     ensures answers { (mesh : FaceList) (sizes vertices old classes : List ℕ) (outcome : Outcome)
         → IsMeshClassesCall (Some mesh) sizes vertices old classes outcome → outcome.code ≡ codes.DONE
-        → IsOrientableSurface mesh × AreClasses mesh (walks_in sizes vertices) (take (length sizes) classes) }
+        → IsCompactSurface mesh × AreClasses mesh (walks_in sizes vertices) (take (length sizes) classes) }
     ensures alike { (mesh : FaceList) (sizes vertices old classes : List ℕ) (outcome : Outcome)
         → IsMeshClassesCall (Some mesh) sizes vertices old classes outcome → outcome.code ≡ codes.DONE
         → (i j : ℕ) → i < length sizes → j < length sizes → (slice_index classes i ≡ slice_index classes j)

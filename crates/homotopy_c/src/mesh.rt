@@ -1,10 +1,10 @@
 //! A mesh that is kept from call to call.
-ghost use Rattle.std.specs.Prelude.{◌≡◌, None, Ok, IfOk};
+ghost use Rattle.std.specs.Prelude.{◌≡◌, None, IfOk};
+ghost use Rattle.homotopy_arrays.specs.Compact.{IsCompactFault, IsCompactKept};
 ghost use Rattle.homotopy_arrays.specs.Decisions.{IsKept};
 ghost use Rattle.homotopy_arrays.specs.MeshArrays.{mesh_in, mesh_of};
 ghost use Rattle.homotopy_arrays.specs.Surfaces.{EndsOn, IsSurfaceFault};
-ghost use Rattle.homotopy_c.specs.Kept.{IsMeshAnswersCall, IsMeshDecideCall, IsMeshNewCall};
-ghost use Rattle.homotopy_c.specs.Told.{IsAnswersCall};
+ghost use Rattle.homotopy_c.specs.Kept.{IsAskedCall, IsMeshAnswersCall, IsMeshDecideCall, IsMeshNewAnyCall, IsMeshNewCall, TellsHeld};
 
 use crate::codes;
 use crate::decide::put_bytes;
@@ -33,16 +33,31 @@ pub extern "C" fn homotopy_mesh_new(
         sizes,
         corners,
     };
-    match keep(alloc, arrays) {
-        Ok(kept) => {
-            drop(replace(mesh, MeshHandle::of(kept)).into_kept(alloc));
-            *outcome = coded(codes::DONE, 0, 0, 0);
-        }
-        Err(fault) => *outcome = told(fault),
-    }
+    *outcome = hold(alloc, keep(alloc, arrays), mesh);
 }
 
-/// Whether the two walks of each pair are homotopic on the mesh that the handle holds, as `homotopy_decide` tells of its arrays.
+/// Keeps the compact surface that the arrays are, in any number of pieces, closed or with boundary, orientable or not. All else is as in
+/// `homotopy_mesh_new`; the codes for what is no such surface, or one too large, are those of `homotopy_decide_any`.
+#[unsafe(no_mangle)]
+pub extern "C" fn homotopy_mesh_new_any(
+    alloc: Global,
+    vertices: u32,
+    sizes: &[u32],
+    corners: &[u32],
+    mesh: &mut MeshHandle,
+    outcome: &mut Outcome,
+)
+    ensures { IsMeshNewAnyCall (mesh_of vertices sizes.now corners.now) mesh.old.kept mesh.new.kept outcome.new }
+{
+    let arrays = MeshArrays {
+        vertices,
+        sizes,
+        corners,
+    };
+    *outcome = hold(alloc, keep_any(alloc, arrays), mesh);
+}
+
+/// Whether the two walks of each pair are homotopic on the mesh that the handle holds, as `homotopy_decide_any` tells of its arrays.
 #[unsafe(no_mangle)]
 pub extern "C" fn homotopy_mesh_decide(
     alloc: Global,
@@ -74,6 +89,27 @@ fn keep(alloc: Global, arrays: MeshArrays<'_>) -> Result<Box<KeptMesh>, Fault>
     Ok(on_heap(alloc, kept)?)
 }
 
+/// The compact surface that the arrays are, on the heap; or what is first wrong.
+fn keep_any(alloc: Global, arrays: MeshArrays<'_>) -> Result<Box<KeptMesh>, Fault>
+    ensures { EndsOn (mesh_in arrays.entry) (λ mesh kept. IsCompactKept mesh kept.value) IsCompactFault result }
+{
+    let kept = KeptMesh::of_any(alloc, arrays)?;
+    Ok(on_heap(alloc, kept)?)
+}
+
+/// Has the handle hold a mesh that was made, and gives back what it held before; or tells what is wrong.
+fn hold(alloc: Global, made: Result<Box<KeptMesh>, Fault>, mesh: &mut MeshHandle) -> Outcome
+    ensures { TellsHeld made mesh.old.kept mesh.new.kept result }
+{
+    match made {
+        Ok(kept) => {
+            drop(replace(mesh, MeshHandle::of(kept)).into_kept(alloc));
+            coded(codes::DONE, 0, 0, 0)
+        }
+        Err(fault) => told(fault),
+    }
+}
+
 /// A mesh on the heap.
 fn on_heap(alloc: Global, kept: KeptMesh) -> Result<Box<KeptMesh>, AllocError>
     ensures { IfOk result (λ there. there.value ≡ kept) }
@@ -90,7 +126,7 @@ pub(crate) fn answer_held<A: HasByte + WalkAnswer + Copy>(
     answers: &mut [u8],
 ) -> Outcome
     ensures same { mesh.new.kept ≡ mesh.old.kept }
-    ensures told { IsMeshAnswersCall A.Is A.code mesh.old.kept walk_sizes.now walk_vertices.now answers.old answers.new result }
+    ensures told { IsMeshAnswersCall A.On A.Is A.code mesh.old.kept walk_sizes.now walk_vertices.now answers.old answers.new result }
 {
     match replace(mesh, MeshHandle::none()).into_kept(alloc) {
         None => coded(codes::NO_MESH, 0, 0, 0),
@@ -110,7 +146,7 @@ fn answer_kept<A: HasByte + WalkAnswer + Copy>(
     answers: &mut [u8],
 ) -> Outcome
     ensures same { kept.new ≡ kept.old }
-    ensures told { IsAnswersCall A.Is A.code (Ok kept.old) walk_sizes.now walk_vertices.now answers.old answers.new result }
+    ensures told { IsAskedCall A.On A.Is A.code kept.old walk_sizes.now walk_vertices.now answers.old answers.new result }
 {
     let wanted = walk_sizes.len() / 2;
     if answers.len() < wanted {

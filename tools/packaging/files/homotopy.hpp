@@ -143,16 +143,15 @@ inline std::vector<Answer> decide_any(const Mesh &mesh, const std::vector<std::p
     return asked.told(outcome);
 }
 
-// An orientable closed surface that is kept, so that questions can be asked as they come, by one thread at a time. It is moved, and not
-// copied; of one that was moved from, nothing is asked.
+// A surface that is kept, so that questions can be asked as they come, by one thread at a time. It is moved, and not copied; of one that was
+// moved from, nothing is asked.
 class KeptMesh {
 public:
-    explicit KeptMesh(const Mesh &mesh) {
-        homotopy_outcome outcome;
-        homotopy_mesh_new(mesh.vertices, detail::of(mesh.sizes), mesh.sizes.size(), detail::of(mesh.corners), mesh.corners.size(), &held,
-                          &outcome);
-        if (outcome.code != HOMOTOPY_DONE) detail::refuse(outcome);
-    }
+    // An orientable closed surface.
+    explicit KeptMesh(const Mesh &mesh) : KeptMesh(mesh, homotopy_mesh_new) {}
+
+    // A surface of any kind, closed or with boundary, orientable or not.
+    static KeptMesh any(const Mesh &mesh) { return KeptMesh(mesh, homotopy_mesh_new_any); }
 
     KeptMesh(KeptMesh &&other) noexcept { std::swap(held, other.held); }
 
@@ -171,7 +170,7 @@ public:
         return asked.told(outcome);
     }
 
-    // Whether the closed walks of each pair are freely homotopic.
+    // Whether the closed walks of each pair are freely homotopic. Refused where the surface is not orientable.
     std::vector<Answer> loops(const std::vector<std::pair<Walk, Walk>> &pairs) {
         detail::Asked asked(pairs);
         homotopy_outcome outcome;
@@ -194,6 +193,12 @@ public:
     }
 
 private:
+    KeptMesh(const Mesh &mesh, decltype(&homotopy_mesh_new) keep) {
+        homotopy_outcome outcome;
+        keep(mesh.vertices, detail::of(mesh.sizes), mesh.sizes.size(), detail::of(mesh.corners), mesh.corners.size(), &held, &outcome);
+        if (outcome.code != HOMOTOPY_DONE) detail::refuse(outcome);
+    }
+
     homotopy_mesh held = HOMOTOPY_EMPTY_MESH;
 };
 

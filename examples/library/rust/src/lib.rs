@@ -146,6 +146,10 @@ extern "C" {
         vertices: u32, sizes: *const u32, face_count: usize, corners: *const u32, corner_count: usize,
         mesh: *mut Handle, outcome: *mut Outcome,
     );
+    fn homotopy_mesh_new_any(
+        vertices: u32, sizes: *const u32, face_count: usize, corners: *const u32, corner_count: usize,
+        mesh: *mut Handle, outcome: *mut Outcome,
+    );
     fn homotopy_mesh_decide(
         mesh: *mut Handle,
         walk_sizes: *const u32, walk_count: usize, walk_vertices: *const u32, walk_vertex_count: usize,
@@ -263,6 +267,22 @@ impl Mesh<'_> {
         }
     }
 
+    /// Keeps a surface of any kind, closed or with boundary, orientable or not.
+    pub fn keep_any(&self) -> Result<KeptMesh, Refused> {
+        let (mut kept, mut outcome) = (KeptMesh(Handle { kept: std::ptr::null_mut() }), Outcome::default());
+        // SAFETY: as above.
+        unsafe {
+            homotopy_mesh_new_any(
+                self.vertices, self.sizes.as_ptr(), self.sizes.len(), self.corners.as_ptr(), self.corners.len(),
+                &mut kept.0, &mut outcome,
+            );
+        }
+        match outcome.code {
+            DONE => Ok(kept),
+            _ => Err(outcome.refused()),
+        }
+    }
+
     /// What two walks on an orientable closed surface are, with the text that shows it.
     pub fn certify(&self, first: &[u32], second: &[u32]) -> Result<Certificate, Refused> {
         let (mut outcome, mut text) = (Outcome::default(), vec![0u8; 65536]);
@@ -319,14 +339,14 @@ impl Mesh<'_> {
     }
 }
 
-/// An orientable closed surface that is kept. Another thread may have it; it is asked by one at a time.
+/// A surface that is kept. Another thread may have it; it is asked by one at a time.
 pub struct KeptMesh(Handle);
 
 // SAFETY: the library has a proof that what it keeps may be asked by another thread, and given back there.
 unsafe impl Send for KeptMesh {}
 
 impl KeptMesh {
-    /// The answer on each pair of walks, as `Mesh::decide` gives it.
+    /// The answer on each pair of walks, as `Mesh::decide_any` gives it.
     pub fn decide(&mut self, pairs: &[(&[u32], &[u32])]) -> Result<Vec<Answer>, Refused> {
         let mut asked = Asked::of(pairs);
         // SAFETY: as above; the handle was changed by the library alone, and is this value's.
@@ -339,7 +359,7 @@ impl KeptMesh {
         asked.told(answer_of)
     }
 
-    /// Whether the closed walks of each pair are freely homotopic.
+    /// Whether the closed walks of each pair are freely homotopic. Refused where the surface is not orientable.
     pub fn loops(&mut self, pairs: &[(&[u32], &[u32])]) -> Result<Vec<LoopAnswer>, Refused> {
         let mut asked = Asked::of(pairs);
         // SAFETY: as above.

@@ -6,9 +6,9 @@ use Rattle.homotopy_arrays.proofs.answering.answer_all.Given as goal
 abbrev pub invariant-loop-pair : goal.invariant-loop-pair
 invariant-loop-pair g l =
     record {
-      same : g.S.Asked.mesh l.asked ≡ g.S.Asked.mesh l.fn.asked;
+      same : l.surface ≡ l.fn.surface;
       place : l.at ≡ sum (take (2 * l.pair) l.sizes);
       each : length l.answers.items ≡ l.pair;
       answered : (k : ℕ) (none : g.row.A.Denot) → k < length l.answers.items
-          → IsAnswerAt (g.S.Asked.Answers (g.S.Asked.mesh l.fn.asked)) l.sizes l.vertices k (get_or l.answers.items k none);
+          → IsAnswerAt (g.A.WalkAnswer.Is l.fn.surface) l.sizes l.vertices k (get_or l.answers.items k none);
     }

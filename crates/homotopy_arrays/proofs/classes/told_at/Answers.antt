@@ -1,4 +1,4 @@
-use Rattle.homotopy_arrays.proofs.Common.{mesh_of_finder, List, ℕ, subst, sym, Some}
+use Rattle.homotopy_arrays.proofs.Common.{List, ℕ, subst, sym, Some}
 use Rattle.std.specs.Prelude.{◌≡◌}
 use Rattle.homotopy_arrays.specs.Classes.{IsWalkIn}
 use Rattle.homotopy_arrays.specs.Pairs.{walks_fault}
@@ -6,11 +6,11 @@ use Rattle.homotopy_arrays.proofs.classes.told_at.Goals as goal
 
 pub fault_of-requires : goal.fault_of-requires
 fault_of-requires c =
-    subst (λ (w : List ℕ). IsWalkIn (mesh_of_finder c.args.finder.now) w → ⊥) (sym c.slice_at-list.ensures) c.requires.none.none
+    subst (λ (w : List ℕ). IsWalkIn c.args.surface.now w → ⊥) (sym c.slice_at-list.ensures) c.requires.none.none
 
 pub returns-in-Ok : goal.returns-in-Ok
 returns-in-Ok c = (
   c.requires.sizes,
   c.requires.none,
-  subst (λ (w : List ℕ). walks_fault (mesh_of_finder c.args.finder.now) w w ≡ Some c.in-Ok.fault) c.slice_at-list.ensures c.in-Ok.ensures,
+  subst (λ (w : List ℕ). walks_fault c.args.surface.now w w ≡ Some c.in-Ok.fault) c.slice_at-list.ensures c.in-Ok.ensures,
 )

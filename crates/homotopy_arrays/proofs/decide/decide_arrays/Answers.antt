@@ -1,8 +1,9 @@
-use Rattle.homotopy_arrays.proofs.Common.{ℕ, List, inl, err_from_is_err_and}
+use Rattle.homotopy_arrays.proofs.Common.{ℕ, List, inl, inr, refl, err_from_is_err_and, IsOrientableSurface}
+use Rattle.compact_surfaces.proofs.ClosedLemmas.{compact_surface}
 use Rattle.homotopy_arrays.specs.Decisions.{AreDecided, IsDecideFault}
 use Rattle.homotopy_arrays.specs.MeshArrays.{mesh_in}
 use Rattle.homotopy_arrays.specs.Surfaces.{IsSurfaceFault}
-use Rattle.homotopy_arrays.proofs.EndLemmas.{of_kept, refused}
+use Rattle.homotopy_arrays.proofs.EndLemmas.{of_kept, on_kind, refused}
 use Rattle.homotopy_arrays.proofs.decide.decide_arrays.Goals as goal
 
 pub returns-in_err-kept : goal.returns-in_err-kept
@@ -17,4 +18,7 @@ returns c =
     let sizes : List ℕ = c.args.walk_sizes.now in
     let vertices : List ℕ = c.args.walk_vertices.now in
     of_kept (mesh_in c.args.mesh) c.in_ok-kept.kept (λ mesh given. AreDecided sizes vertices mesh given.items)
-    (IsDecideFault sizes vertices) c.decide-given.result c.in_ok-kept.ensures c.decide-given.ensures.ends
+    (IsDecideFault sizes vertices) c.decide-given.result c.in_ok-kept.ensures
+    (λ is.
+    on_kind IsOrientableSurface (IsDecideFault sizes vertices) sizes vertices c.in_ok-kept.kept c.decide-given.result is
+    (compact_surface c.in_ok-kept.kept is.manifold) (λ m on none. inr (on, none, refl)) c.decide-given.ensures.ends)

@@ -1,6 +1,4 @@
-use Rattle.homotopy_c.proofs.Common.{IsAnswer, Different}
-use Rattle.compact_surfaces.specs.CompactSurfaces.{IsCompactSurface}
-use Rattle.homotopy_arrays.specs.Compact.{IsDecideAnyFault}
+use Rattle.homotopy_c.proofs.Common.{IsCompactSurface, IsDecideAnyFault, IsAnswer, Different}
 use Rattle.homotopy_c.specs.Meanings.{DoesAnswer}
 use Rattle.homotopy_c.specs.Outcomes.{byte_of}
 use Rattle.homotopy_c.proofs.TellingLemmas.{answers_mean, byte_means, else_same}

@@ -1,13 +1,9 @@
-use Rattle.homotopy_c.proofs.Common.{ap, refl, ◌∙◌, Ok, Err}
-use Rattle.homotopy_c.specs.declared.handle.MeshHandle.{MeshHandle}
+use Rattle.homotopy_c.proofs.Common.{IsKept, mesh_of, IsSurfaceFault}
+use Rattle.homotopy_c.proofs.TellingLemmas.{held_told}
 use Rattle.homotopy_c.proofs.mesh.homotopy_mesh_new.Goals as goal
 
-pub returns-in-Ok : goal.returns-in-Ok
-returns-in-Ok c = record {
-  end = Ok c.in-Ok.kept.value;
-  right = c.in-Ok.ensures;
-  tells = (ap (λ (h : MeshHandle). h.kept) c.replace.ensures.after ∙ c.of.ensures, c.coded.ensures);
-}
-
-pub returns-in-Err : goal.returns-in-Err
-returns-in-Err c = record { end = Err c.in-Err.fault; right = c.in-Err.ensures; tells = (refl, c.told.ensures) }
+pub returns : goal.returns
+returns c =
+    let told = held_told (mesh_of c.args.vertices c.args.sizes.now c.args.corners.now) IsKept IsSurfaceFault c.keep.result
+    c.args.mesh.now.kept c.hold.new.mesh.kept c.hold.result c.keep.ensures c.hold.ensures in
+    record { end = told.0; right = told.1; tells = told.2 }

@@ -1,9 +1,9 @@
-use Rattle.homotopy_arrays.proofs.Common.{mesh_of_finder, ◌≡◌, subst, sym, Some, FaceList}
+use Rattle.homotopy_arrays.proofs.Common.{◌≡◌, subst, sym, Some, FaceList}
 use Rattle.homotopy_arrays.specs.Pairs.{AreWalks, walks_fault}
 use Rattle.homotopy_arrays.proofs.answering.PairAnswerWalkAnswer.answer_walks.Goals as goal
 use Rattle.homotopy_arrays.proofs.answering.PairAnswerWalkAnswer.answer_walks.Goals.{In-None}
 
-none : (c : In-None) → AreWalks (mesh_of_finder c.args.finder.now) c.args.first.now c.args.second.now → ⊥
+none : (c : In-None) → AreWalks c.args.surface.now c.args.first.now c.args.second.now → ⊥
 none c = rw c.in-None.is at c.in_ok-answer_if_walks.ensures.answer
 
 pub fault_of-requires : goal.fault_of-requires

@@ -1,22 +1,37 @@
-use Rattle.homotopy_arrays.proofs.Common.{false, true, ◌≡◌, ◌∙◌, inr, refl, subst, sym, FaceList, IsOrientableSurface}
+use Rattle.homotopy_arrays.proofs.Common.{false, true, ◌≡◌, ◌∙◌, inl, inr, refl, subst, sym, both_ways, FaceList}
 use Rattle.homotopy_arrays.specs.Pairs.{AreAnswers, are_pairs}
 use Rattle.homotopy_arrays.proofs.kept.KeptMesh.answers.Goals as goal
+
+pub returns-then-not-is_told_on-clause-ends : goal.returns-then-not-is_told_on-clause-ends
+returns-then-not-is_told_on-clause-ends g c =
+    inr (inr (record {
+      mesh = c.args.self.now;
+      is = refl;
+      holds = inl (
+        (λ on.
+            both_ways c.is_told_on.result c.if-not-is_told_on.true
+            (c.is_told_on.ensures.1 (subst g.A.WalkAnswer.On (sym c.self.view_is) on))),
+        refl,
+      );
+    }))
 
 pub returns-then-not-are_pairs-clause-ends : goal.returns-then-not-are_pairs-clause-ends
 returns-then-not-are_pairs-clause-ends g c =
     let none : are_pairs c.args.walk_sizes.now c.args.walk_vertices.now ≡ false = sym c.are_pairs.ensures ∙ c.if-not-are_pairs.true in
-    let surface : IsOrientableSurface c.args.self.now = subst IsOrientableSurface c.self.view_is c.self.invariant in
-    inr (inr (record { mesh = c.args.self.now; is = refl; holds = inr (surface, none, refl) }))
+    let on : g.A.WalkAnswer.On c.args.self.now =
+    subst g.A.WalkAnswer.On c.self.view_is (c.is_told_on.ensures.0 c.if-not-is_told_on.false) in
+    inr (inr (record { mesh = c.args.self.now; is = refl; holds = inr (on, none, refl) }))
 
 pub returns-clause-ends : goal.returns-clause-ends
 returns-clause-ends g c =
     let pairs : are_pairs c.args.walk_sizes.now c.args.walk_vertices.now ≡ true = sym c.are_pairs.ensures ∙ c.if-not-are_pairs.false in
-    let surface : IsOrientableSurface c.args.self.now = subst IsOrientableSurface c.self.view_is c.self.invariant in
+    let on : g.A.WalkAnswer.On c.args.self.now =
+    subst g.A.WalkAnswer.On c.self.view_is (c.is_told_on.ensures.0 c.if-not-is_told_on.false) in
     record {
       mesh = c.args.self.now;
       is = refl;
       holds = record {
-        surface = surface;
+        surface = on;
         pairs = pairs;
         answers =
             subst (λ (m : FaceList). AreAnswers (g.A.WalkAnswer.Is m) c.args.walk_sizes.now c.args.walk_vertices.now

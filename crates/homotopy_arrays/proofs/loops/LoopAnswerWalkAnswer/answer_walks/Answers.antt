@@ -1,4 +1,4 @@
-use Rattle.homotopy_arrays.proofs.Common.{IsClosedWalk, FreelyHomotopic, mesh_of_finder, ◌≡◌, ◌∷◌, [], List, ℕ, length, ap, arith, subst, sym, ◌∙◌, Some, slice_get}
+use Rattle.homotopy_arrays.proofs.Common.{IsClosedWalk, FreelyHomotopic, ◌≡◌, ◌∷◌, [], List, ℕ, length, ap, arith, subst, sym, ◌∙◌, Some, slice_get}
 use Rattle.free_loops.specs.declared.deciding.FreeAnswer.{FreeAnswer}
 use Rattle.free_loops.specs.declared.deciding.FreeAnswer.TheVariants.{Freely, NotFreely}
 use Rattle.std.specs.Prelude.{◌↔◌}
@@ -8,8 +8,8 @@ use Rattle.homotopy_arrays.proofs.loops.LoopAnswerWalkAnswer.answer_walks.Goals 
 use Rattle.homotopy_arrays.proofs.loops.LoopAnswerWalkAnswer.answer_walks.Goals.{In-Pair, After-at-2}
 
 -- two closed walks that were checked
-checked : (c : In-Pair) → AreCheckedLoops (mesh_of_finder c.args.finder.now) c.args.first.now c.args.second.now (Pair c.in-Pair.pair)
-checked c = rw c.in-Pair.is at (c.in_ok-pair.ensures (mesh_of_finder c.args.finder.now) c.sides.ensures.table)
+checked : (c : In-Pair) → AreCheckedLoops c.args.surface.now c.args.first.now c.args.second.now (Pair c.in-Pair.pair)
+checked c = rw c.in-Pair.is at (c.in_ok-pair.ensures c.args.surface.now c.sides.ensures.table)
 
 first_is : (c : After-at-2) → c.args.first.now ≡ c.at.result.now
 first_is c =
@@ -25,8 +25,8 @@ second_is c =
 
 pub returns-in-Faulty-clause-answer : goal.returns-in-Faulty-clause-answer
 returns-in-Faulty-clause-answer c =
-    let told : AreCheckedLoops (mesh_of_finder c.args.finder.now) c.args.first.now c.args.second.now (Faulty c.in-Faulty.fault) =
-    rw c.in-Faulty.is at (c.in_ok-pair.ensures (mesh_of_finder c.args.finder.now) c.sides.ensures.table) in
+    let told : AreCheckedLoops c.args.surface.now c.args.first.now c.args.second.now (Faulty c.in-Faulty.fault) =
+    rw c.in-Faulty.is at (c.in_ok-pair.ensures c.args.surface.now c.sides.ensures.table) in
     told
 
 pub at-requires : goal.at-requires
@@ -41,18 +41,18 @@ at-requires-2 c =
 
 pub decide_free-requires-clause-first : goal.decide_free-requires-clause-first
 decide_free-requires-clause-first c =
-    subst (IsClosedWalk (mesh_of_finder c.args.finder.now)) (first_is (goal.at.decide_free-requires-clause-first c).After-at-2)
+    subst (IsClosedWalk c.args.surface.now) (first_is (goal.at.decide_free-requires-clause-first c).After-at-2)
     (checked (goal.at.decide_free-requires-clause-first c).In-Pair).0.first_closed
 
 pub decide_free-requires-clause-second : goal.decide_free-requires-clause-second
 decide_free-requires-clause-second c =
-    subst (IsClosedWalk (mesh_of_finder c.args.finder.now)) (second_is (goal.at.decide_free-requires-clause-second c).After-at-2)
+    subst (IsClosedWalk c.args.surface.now) (second_is (goal.at.decide_free-requires-clause-second c).After-at-2)
     (checked (goal.at.decide_free-requires-clause-second c).In-Pair).0.second_closed
 
 -- the decision is one on the lists
 decided : (c : After-at-2) (answer : FreeAnswer)
-    → (answer ≡ Freely) ↔ FreelyHomotopic (mesh_of_finder c.args.finder.now) c.at.result.now c.at-2.result.now
-    → (answer ≡ Freely) ↔ FreelyHomotopic (mesh_of_finder c.args.finder.now) c.args.first.now c.args.second.now
+    → (answer ≡ Freely) ↔ FreelyHomotopic c.args.surface.now c.at.result.now c.at-2.result.now
+    → (answer ≡ Freely) ↔ FreelyHomotopic c.args.surface.now c.args.first.now c.args.second.now
 decided c answer told = rw (first_is c, second_is c) told
 
 pub returns-in-Freely-clause-answer : goal.returns-in-Freely-clause-answer
