@@ -11,3 +11,5 @@ pub mod ChainVerdictLemmas
 pub mod CocycleVerdictLemmas
 pub mod VerdictLemmas
 pub mod EdgeSumLemmas
+pub mod SideNumberLemmas
+pub mod ArrayVerdictLemmas

@@ -4,7 +4,8 @@ use Rattle.std.specs.declared.alloc.AllocError.{AllocError}
 use Rattle.surf_model.specs.declared.names.FaceName.{FaceName}
 use Rattle.surf_model.specs.declared.names.VertexName.{VertexName}
 use Rattle.homology.specs.Certificates.{face_number, edge_number}
-use Rattle.homology.specs.Verdicts.{IsFirstAgainst, HasFace, HasEdge, IsLeastUnbalanced, IsLeastOpen, IsVerdict}
+use Rattle.homology.specs.Tallies.{number_at}
+use Rattle.homology.specs.Verdicts.{IsFirstAgainst, HasFace, HasEdge, IsChainVerdict, IsCocycleVerdict, IsLeastUnbalanced, IsLeastOpen, IsVerdict}
 use Rattle.homology.specs.declared.certificate.FaceNumber.{FaceNumber}
 use Rattle.homology.specs.declared.certificate.EdgeNumber.{EdgeNumber}
 use Rattle.homology.specs.declared.certificate.HomologyCert.{HomologyCert}
@@ -119,3 +120,30 @@ pub exactly : (mesh : FaceList) (first second : List ℕ) (certificate : Homolog
     → IfOk result (λ given. given ≡ v)
 exactly mesh first second certificate (Ok given) h v is = one_verdict mesh first second certificate given v h is
 exactly mesh first second certificate (Err e) h v is = tt
+
+-- ---- what is listed
+
+of_chain : (mesh : FaceList) (first second : List ℕ) (lines : List FaceNumber) (v : HomologyVerdict) → All (HasFace mesh) lines
+    → IsChainVerdict mesh (face_number lines) first second v → IsVerdict mesh first second (Chain lines) v
+of_chain mesh first second lines (Face f) all h = absurd h
+of_chain mesh first second lines (Edge low high) all h = (all, h)
+of_chain mesh first second lines (Sum f) all h = h
+of_chain mesh first second lines Zero all h = h
+of_chain mesh first second lines Accepted all h = (all, h)
+
+-- the verdict on the numbers of all faces is that on a chain whose listed faces are there
+pub chain_listed : (mesh : FaceList) (first second : List ℕ) (lines : List FaceNumber) (of_face : List ℤ)
+    (result : Result HomologyVerdict AllocError) → All (HasFace mesh) lines
+    → IfOk result (λ v. (number : ℕ → ℤ) → ((f : ℕ) → number_at of_face f ≡ number f) → IsChainVerdict mesh number first second v)
+    → ((f : ℕ) → number_at of_face f ≡ face_number lines f) → IfOk result (IsVerdict mesh first second (Chain lines))
+chain_listed mesh first second lines of_face (Ok v) all h same = of_chain mesh first second lines v all (h (face_number lines) same)
+chain_listed mesh first second lines of_face (Err e) all h same = tt
+
+-- and that on the numbers of all edges is that on a cocycle whose listed pairs are edges
+pub cocycle_listed : (mesh : FaceList) (first second : List ℕ) (lines : List EdgeNumber) (v : HomologyVerdict) → All (HasEdge mesh) lines
+    → IsCocycleVerdict mesh (edge_number lines) first second v → IsVerdict mesh first second (Cocycle lines) v
+cocycle_listed mesh first second lines (Face f) all h = h
+cocycle_listed mesh first second lines (Edge low high) all h = absurd h
+cocycle_listed mesh first second lines (Sum f) all h = (all, h)
+cocycle_listed mesh first second lines Zero all h = (all, h.0, h.1)
+cocycle_listed mesh first second lines Accepted all h = (all, h.0, h.1)

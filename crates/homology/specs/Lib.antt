@@ -5,4 +5,6 @@ pub mod Certificates
 pub mod MadeCertificates
 pub mod Verdicts
 pub mod Tallies
+pub mod ArrayCertificates
+pub mod ArrayVerdicts
 pub mod Examples

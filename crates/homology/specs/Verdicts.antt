@@ -46,6 +46,22 @@ pub record IsLeastOpen (mesh : FaceList) (of_edge : ℕ → ℕ → ℤ) (f : �
   pub against : face_sum mesh of_edge f ≢ pos 0
   pub least : (g : ℕ) → g < f → face_sum mesh of_edge g ≡ pos 0
 
+-- What comes of the numbers of all faces: the least edge at which they are no chain, or that they are one.
+abbrev pub IsChainVerdict : FaceList → (of_face : ℕ → ℤ) → (first second : List ℕ) → HomologyVerdict → Type 0
+IsChainVerdict mesh of_face first second (Face f) = ⊥
+IsChainVerdict mesh of_face first second (Edge low high) = IsLeastUnbalanced mesh of_face first second low.0 high.0
+IsChainVerdict mesh of_face first second (Sum f) = ⊥
+IsChainVerdict mesh of_face first second Zero = ⊥
+IsChainVerdict mesh of_face first second Accepted = IsChain mesh of_face first second
+
+-- What comes of the numbers of all edges: the least face round which they are no cocycle, that they separate nothing, or that they do.
+abbrev pub IsCocycleVerdict : FaceList → (of_edge : ℕ → ℕ → ℤ) → (first second : List ℕ) → HomologyVerdict → Type 0
+IsCocycleVerdict mesh of_edge first second (Face f) = ⊥
+IsCocycleVerdict mesh of_edge first second (Edge low high) = ⊥
+IsCocycleVerdict mesh of_edge first second (Sum f) = IsLeastOpen mesh of_edge f.0
+IsCocycleVerdict mesh of_edge first second Zero = IsCocycle mesh of_edge × (separation of_edge first second ≡ pos 0)
+IsCocycleVerdict mesh of_edge first second Accepted = IsCocycle mesh of_edge × Separates of_edge first second
+
 -- The first that holds: a listed face or pair is not there, an equation of the chain or of the cocycle fails, the cocycle separates
 -- nothing, or the certificate holds.
 abbrev pub IsVerdict : FaceList → List ℕ → List ℕ → HomologyCert → HomologyVerdict → Type 0

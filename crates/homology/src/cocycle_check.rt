@@ -4,7 +4,7 @@ ghost use Rattle.surf_model.specs.Edges.{IsTableOf, edge_in};
 ghost use Rattle.surf_model.specs.Walks.{IsWalk};
 ghost use Rattle.homology.specs.Sums.{along};
 ghost use Rattle.homology.specs.Cocycles.{dart_number, face_sum, IsCocycle};
-ghost use Rattle.homology.specs.Verdicts.{IsVerdict, IsLeastOpen};
+ghost use Rattle.homology.specs.Verdicts.{IsCocycleVerdict, IsLeastOpen, IsVerdict};
 ghost use Rattle.homology.specs.Tallies.{AreWithin, AreNumbersOf};
 ghost use Rattle.homology.specs.declared.certificate.HomologyCert.TheVariants.{Cocycle};
 ghost use Rattle.homology.specs.declared.certificate.TheConstants.{MOST_NUMBER};
@@ -32,15 +32,27 @@ pub(crate) fn check_cocycle(
         return Ok(HomologyVerdict::Edge(line.low, line.high));
     }
     let of_edge = numbers_by_edge(alloc, faces, sides, numbers)?;
-    if let Some(face) = first_open(faces, sides, &of_edge) {
-        return Ok(HomologyVerdict::Sum(face));
+    Ok(judge_edges(walks, &of_edge))
+}
+
+/// The verdict on the numbers of all edges: it looks at each face, and then at the two walks.
+pub(crate) fn judge_edges(walks: WalkPair<'_>, of_edge: &[i64]) -> HomologyVerdict
+    requires table { IsTableOf walks.faces.now walks.sides.now }
+    requires long { length of_edge.now ≡ length walks.sides.now }
+    requires small { AreWithin MOST_NUMBER of_edge.now }
+    ensures { (number : ℕ → ℕ → ℤ) → AreNumbersOf walks.entry.sides.now of_edge.now number
+        → IsCocycleVerdict walks.entry.faces.now number walks.entry.first.now walks.entry.second.now result }
+{
+    let (faces, sides) = (walks.faces, walks.sides);
+    if let Some(face) = first_open(faces, sides, of_edge) {
+        return HomologyVerdict::Sum(face);
     }
-    let first = sum_along(faces, sides, &of_edge, walks.first);
-    let second = sum_along(faces, sides, &of_edge, walks.second);
+    let first = sum_along(faces, sides, of_edge, walks.first);
+    let second = sum_along(faces, sides, of_edge, walks.second);
     if first == second {
-        return Ok(HomologyVerdict::Zero);
+        return HomologyVerdict::Zero;
     }
-    Ok(HomologyVerdict::Accepted)
+    HomologyVerdict::Accepted
 }
 
 /// The first face round which the numbers do not add up to 0.

@@ -1,0 +1,11 @@
+use Rattle.homology.proofs.Common.{◌≡◌, ℕ, ℤ, take}
+use Rattle.homology.specs.ArrayCertificates.{side_numbers}
+use Rattle.homology.specs.Tallies.{AreNumbersOf, AreWithin}
+use Rattle.homology.specs.declared.certificate.TheConstants.{MOST_NUMBER}
+use Rattle.homology.proofs.side_numbers.numbers_round.Given as goal
+
+-- the sides so far
+abbrev pub invariant-loop-dart : goal.invariant-loop-dart
+invariant-loop-dart l =
+    AreWithin MOST_NUMBER l.of_side.items
+    × ((number : ℕ → ℕ → ℤ) → AreNumbersOf l.sides l.of_edge number → l.of_side.items ≡ take l.dart (side_numbers l.faces number))
