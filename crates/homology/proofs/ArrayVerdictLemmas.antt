@@ -1,5 +1,5 @@
 -- What is accepted of an array, and that nothing else is.
-use Rattle.homology.proofs.Common.{◌≡◌, ◌≤◌, ℕ, List, length, refl, ap, ◌∙◌, subst, arith, ℤ, ◌↔◌, FaceList}
+use Rattle.homology.proofs.Common.{◌≡◌, ℕ, List, length, refl, ap, ◌∙◌, subst, arith, ℤ, ◌↔◌, FaceList}
 use Rattle.homology.specs.ArrayCertificates.{AreChainNumbers, AreCocycleNumbers}
 use Rattle.homology.specs.ArrayVerdicts.{IsArrayChainVerdict, IsArrayCocycleVerdict}
 use Rattle.homology.specs.Chains.{IsChain}

@@ -1,4 +1,4 @@
-use Rattle.homology.proofs.Common.{◌≡◌, true, List, ℕ, ℤ, ap, sym, subst, arith, length, ◌∙◌, rules, IsTrue}
+use Rattle.homology.proofs.Common.{List, ℤ, sym, subst, arith, rules, IsTrue}
 use Rattle.homology.specs.Tallies.{AreNumbersOf}
 use Rattle.homology.proofs.SideNumberLemmas.{are_numbers_in, number_in}
 use Rattle.homology.proofs.array_check.check_cocycle_array.Goals as goal

@@ -1,4 +1,4 @@
-use Rattle.homology.proofs.Common.{◌≡◌, ◌≢◌, ◌<◌, ◌≤◌, ℕ, true, false, List, length, get_or, refl, sym, ap, ◌∙◌, subst, arith, ℤ, pos, to_z, of_z, w64, take, take_all, take_more, get_or_default, unsigned_abs}
+use Rattle.homology.proofs.Common.{◌≡◌, ◌<◌, ◌≤◌, ℕ, true, false, List, length, get_or, refl, sym, ap, ◌∙◌, subst, arith, ℤ, pos, to_z, of_z, w64, take, take_all, take_more, get_or_default, unsigned_abs}
 use Rattle.homology.specs.ArrayCertificates.{side_numbers}
 use Rattle.homology.specs.Tallies.{AreNumbersOf, number_at}
 use Rattle.homology.specs.declared.certificate.TheConstants.{MOST_NUMBER}
