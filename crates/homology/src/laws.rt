@@ -48,3 +48,12 @@ pub fn arrays_are_accepted_where_they_hold()
         → IsArrayCocycleVerdict mesh first second numbers verdict
         → (verdict ≡ Judged Accepted) ↔ (AreCocycleNumbers mesh first second numbers × AreWithin MOST_NUMBER numbers) }
 {}
+
+/// What an array shows, on any mesh: where it is a chain for two walks they are homologous, and where it is a cocycle that separates them
+/// they are not.
+pub fn arrays_show_what_holds()
+    ensures chain { (mesh : FaceList) (first second : List ℕ) (numbers : List ℤ) → AreChainNumbers mesh first second numbers
+        → AreHomologous mesh first second }
+    ensures cocycle { (mesh : FaceList) (first second : List ℕ) (numbers : List ℤ) → IsWalk mesh first → IsWalk mesh second
+        → AreCocycleNumbers mesh first second numbers → AreHomologous mesh first second → ⊥ }
+{}
