@@ -58,7 +58,7 @@ pub fn find_certificate(
 }
 
 /// A certificate for two walks that lie in a component, which shows what holds of them on the whole mesh.
-fn certificate_on(
+pub fn certificate_on(
     alloc: Global,
     component: &Component,
     first: &Walk,

@@ -1,11 +1,8 @@
 -- The arrays of a mesh are read as that mesh, and what is read is the mesh whose arrays they are.
-use Rattle.homotopy_arrays.proofs.Common.{DifferTo, differ_more, differ_all, ◌≡◌, ℕ, zero, suc, ◌+◌, ◌<◌, ◌≤◌, Bool, true, false, cond, not, eqb, ltb, List, [], ◌∷◌, ◌++◌, length, take, drop, map, append_assoc, append-nil, length-take-le, refl, sym, ap, ap₂, subst, ◌∙◌, arith, le-ltb, lt-ltb, ne_eqb, eqb-true, ltb-false, and_from, take_at, drop_at, take-append-drop, length-drop, sum_by-cons, list_all, All, Option, Some, None, Result, Ok, sum_by, flat_map, FaceList, IsFace, total_sides, MOST_VERTICES, MOST_SIDES}
+use Rattle.homotopy_arrays.proofs.Common.{AreArraysOf, counts_fault, face_fault, faces_behind, mesh_of, unless, Fault, ManyVertices, CornerCount, ManySides, DifferTo, differ_more, differ_all, ◌≡◌, ℕ, zero, suc, ◌+◌, ◌<◌, ◌≤◌, Bool, true, false, cond, not, eqb, ltb, List, [], ◌∷◌, ◌++◌, length, take, drop, map, append_assoc, append-nil, length-take-le, refl, sym, ap, ap₂, subst, ◌∙◌, arith, le-ltb, lt-ltb, ne_eqb, eqb-true, ltb-false, and_from, take_at, drop_at, take-append-drop, length-drop, sum_by-cons, list_all, All, Option, Some, None, Result, Ok, sum_by, flat_map, FaceList, IsFace, total_sides, MOST_VERTICES, MOST_SIDES}
 use Rattle.std.proofs.lemmas.List.Concat.{length-flat_map}
 use Rattle.std.proofs.lemmas.List.Elements.{All-nil, All-cons, All-head, All-tail}
 use Rattle.std.specs.Prelude.{sum}
-use Rattle.homotopy_arrays.specs.MeshArrays.{AreArraysOf, counts_fault, face_fault, faces_behind, mesh_of, unless}
-use Rattle.homotopy_arrays.specs.declared.fault.Fault.{Fault}
-use Rattle.homotopy_arrays.specs.declared.fault.Fault.TheVariants.{ManyVertices, CornerCount, ManySides}
 use Rattle.homotopy_arrays.proofs.MeshLemmas.{good_face, is_face, counts_good}
 
 -- ---- with a face nothing is wrong

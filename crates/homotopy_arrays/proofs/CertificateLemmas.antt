@@ -1,9 +1,8 @@
 -- Certificates in bytes, read move by move or whole.
-use Rattle.homotopy_arrays.proofs.Common.{◌≡◌, ◌⊎◌, inl, inr, ℕ, ◌≤◌, Bool, true, false, List, [], ◌∷◌, refl, ap, sym, ◌∙◌, subst, arith, nat_lt, if◌then◌else◌, Option, Some, None, Result, Ok, Err, is_some, Line, full_lines, end_line, answer_of, first_head, fits, fitting_head, head_among, head_in, head_of_text, within_peak, denial_of_lines, Certificate, denial_left, started, CertHead, CertFault}
+use Rattle.homotopy_arrays.proofs.Common.{◌≡◌, ◌⊎◌, inl, inr, ℕ, ◌≤◌, Bool, true, false, List, [], ◌∷◌, refl, ap, sym, ◌∙◌, subst, arith, nat_lt, if◌then◌else◌, Option, Some, None, Result, Ok, Err, is_some, Line, full_lines, end_line, answer_of, first_head, fits, fitting_head, head_among, head_in, head_of_text, within_peak, head_of, denial_of_lines, Certificate, denial_left, started, CertHead, CertFault}
 use Rattle.commands.specs.Inputs.{certificate_of}
 use Rattle.labellings.specs.declared.denial.Denial.{Denial}
 use Rattle.std.proofs.lemmas.Bool.Decides.{nat_tests}
-use Rattle.walk_files.specs.Certificates.{head_of}
 use Rattle.walk_files.specs.declared.certificate.CertHead.TheVariants.{Moves, Labels}
 use Rattle.walk_files.specs.declared.fault.CertFault.TheVariants.{Bad, Peak, OutOfMemory}
 use Rattle.walk_files.specs.declared.limits.TheConstants.{MOST_PEAK}

@@ -1,18 +1,13 @@
 -- Certificates, from their parts.
-use Rattle.homotopy_arrays.proofs.Common.{signed_surface, IsSigned, SignedMesh, ◌≡◌, ◌⊎◌, ℕ, List, sym, ap, ◌∙◌, inl, inr, option_map, MatchResult, None, Result, Ok, Err, FaceList}
+use Rattle.homotopy_arrays.proofs.Common.{signed_surface, IsSigned, SignedMesh, Certifies, IsCertified, IsCertifyFault, IsFaultOfPair, IsLimitFault, no_memory, AreWalks, IsSurfaceFault, IsSurfaceOf, OfMesh, Fault, OutOfMemory, ◌≡◌, ◌⊎◌, ℕ, List, sym, ap, ◌∙◌, inl, inr, option_map, MatchResult, None, Result, Ok, Err, FaceList}
 use Rattle.certify_commands.proofs.Certifying.{convinces_decides}
 use Rattle.certify_commands.specs.Certify.{IsWithinLimits, certify_limits, limit_word}
 use Rattle.commands.proofs.LimitLemmas.{fitting}
 use Rattle.commands.specs.Certificates.{IsShown}
 use Rattle.commands.specs.Limits.{first_over, over_line}
 use Rattle.commands.specs.declared.certificate.Certificate.{Certificate}
-use Rattle.homotopy_arrays.specs.Certifications.{Certifies, IsCertified, IsCertifyFault, IsFaultOfPair, IsLimitFault, no_memory}
-use Rattle.homotopy_arrays.specs.Pairs.{AreWalks}
-use Rattle.homotopy_arrays.specs.Surfaces.{IsSurfaceFault, IsSurfaceOf, OfMesh}
 use Rattle.homotopy_arrays.specs.declared.certify.CertifyFault.{CertifyFault}
 use Rattle.homotopy_arrays.specs.declared.certify.CertifyFault.TheVariants.{Mesh}
-use Rattle.homotopy_arrays.specs.declared.fault.Fault.{Fault}
-use Rattle.homotopy_arrays.specs.declared.fault.Fault.TheVariants.{OutOfMemory}
 
 -- ---- limits
 

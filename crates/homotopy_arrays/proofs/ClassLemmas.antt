@@ -1,10 +1,8 @@
 -- Walks that are cut from arrays, and their classes.
-use Rattle.homotopy_arrays.proofs.Common.{IsCompactSurface, ◌≡◌, ◌≢◌, ℕ, ◌+◌, ◌<◌, ◌≤◌, List, [], ◌∷◌, ◌++◌, length, get_or, refl, sym, ap, ap₂, subst, ◌∙◌, arith, Vec, MatchResult, None, Result, Ok, Err, FaceList, IsWalk, IsFirstNoWalk, AreClasses}
+use Rattle.homotopy_arrays.proofs.Common.{IsCompactSurface, AreClassed, AreClassesIn, AreCut, IsFirstNone, IsNoClassesIn, IsWalkIn, first_walks, length_fault, walk_at, ◌≡◌, ◌≢◌, ℕ, ◌+◌, ◌<◌, ◌≤◌, List, [], ◌∷◌, ◌++◌, length, get_or, refl, sym, ap, ap₂, subst, ◌∙◌, arith, Vec, MatchResult, None, Result, Ok, Err, FaceList, IsWalk, IsFirstNoWalk, AreClasses}
+use Rattle.homotopy_arrays.specs.declared.classes.NoClasses.{NoClasses}
 use Rattle.std.proofs.lemmas.List.FromFn.{get_or-map-range_with_len, length-map-range_with_len, map-range_with_len_more}
 use Rattle.std.specs.Prelude.{sum}
-use Rattle.homotopy_arrays.specs.Classes.{AreClassed, AreClassesIn, AreCut, IsFirstNone, IsNoClassesIn, IsWalkIn, first_walks}
-use Rattle.homotopy_arrays.specs.Pairs.{length_fault, walk_at}
-use Rattle.homotopy_arrays.specs.declared.classes.NoClasses.{NoClasses}
 use Rattle.homotopy_arrays.proofs.PairLemmas.{length_fits, length_good}
 
 -- ---- cutting

@@ -1,27 +1,31 @@
--- What proofs of this crate cite of others, passed on from one place (by tools/imports). Declares nothing.
-pub use Rattle.closed_surfaces.proofs.Components.{signed_surface}
-pub use Rattle.closed_surfaces.specs.SignedSurfaces.{IsNoSurface, IsSigned}
+-- What proofs of this crate cite of its definitions and of other crates, passed on from one place (by tools/imports). Declares nothing.
+pub use Rattle.closed_surfaces.proofs.Components.{signed_surface, walk_there}
+pub use Rattle.closed_surfaces.specs.SignedSurfaces.{IsComponentOf, IsNoSurface, IsSigned}
 pub use Rattle.closed_surfaces.specs.declared.signed_mesh.SignedMesh.{SignedMesh}
 pub use Rattle.closed_walks.specs.FreeHomotopy.{FreelyHomotopic, IsClosedWalk}
-pub use Rattle.commands.specs.HomologyCertificates.{Homologous, HomologyAnswer, ShowsHomology, answer_in}
 pub use Rattle.compact_surfaces.specs.CompactSurfaces.{IsCompactSurface}
-pub use Rattle.homology.proofs.ChainVerdictLemmas.{boundary_agrees, number_at-zeros}
-pub use Rattle.homology.proofs.Common.{Contains, Edge, FaceSide, HasEnds, IsEdgeBetween, IsTableOf, Side, all_sides, edge_between, edge_in, face_at, get_or_default, get_or_from_slice_get, head_of, is_edge, length-replicate, length-set, of_z, pos, replicate, set, tail_of, take_all, to_z, unsigned_abs, w64, ℤ}
-pub use Rattle.homology.proofs.NumbersLemmas.{edge_written, edges_small, face_written}
-pub use Rattle.homology.proofs.SizeLemmas.{sent}
-pub use Rattle.homology.specs.Certificates.{edge_number, face_number}
-pub use Rattle.homology.specs.Cocycles.{IsCocycle, Separates, dart_number}
-pub use Rattle.homology.specs.Tallies.{AreNumbersOf, number_at, turned}
-pub use Rattle.homology.specs.declared.certificate.EdgeNumber.{EdgeNumber}
-pub use Rattle.homology.specs.declared.certificate.FaceNumber.{FaceNumber}
-pub use Rattle.homology.specs.declared.certificate.TheConstants.{MOST_NUMBER}
+pub use Rattle.homology.specs.ArrayCertificates.{AreSmall, DoShow}
+pub use Rattle.homotopy_arrays.specs.Certifications.{Certifies, IsCertified, IsCertifyFault, IsFaultOfPair, IsLimitFault, no_memory}
+pub use Rattle.homotopy_arrays.specs.CheckedPairs.{AreCheckedLoops, AreListed, IsChecked}
+pub use Rattle.homotopy_arrays.specs.Classes.{AreClassed, AreClassesIn, AreCut, IsFirstNone, IsNoClassesIn, IsWalkIn, first_walks}
+pub use Rattle.homotopy_arrays.specs.Compact.{AreDecidedOnAny, IsCompactFault, IsCompactKept, IsDecideAnyFault, of_compact_fault}
+pub use Rattle.homotopy_arrays.specs.Decisions.{AreAnsweredOn, AreDecided, IsAskedFault, IsDecideFault, IsKept}
+pub use Rattle.homotopy_arrays.specs.Homologies.{AreLong, AreShown, IsHomologyFault, IsHomologyFaultOfPair, ShowsWalks, answer_by}
+pub use Rattle.homotopy_arrays.specs.Judgements.{IsFaultOfMoves, IsFaultOfSpelling, IsFaultOfText, IsFaultOfWalks, IsVerdictOnMoves, IsVerifyFault, Judges, JudgesSpelt, JudgesText, JudgesWalks, of_certificate_fault}
+pub use Rattle.homotopy_arrays.specs.MeshArrays.{AreArraysOf, counts_fault, face_fault, mesh_in, unless}
+unfoldable pub use Rattle.homotopy_arrays.specs.MeshArrays.{faces_behind, mesh_of}
+pub use Rattle.homotopy_arrays.specs.Pairs.{AreAnswers, AreWalks, IsAnswer, are_pairs, length_fault, walk_at, walks_fault}
+pub use Rattle.homotopy_arrays.specs.Surfaces.{EndsOn, IsSurfaceFault, IsSurfaceOf, OfMesh, of_no_surface, of_surface_fault}
+pub use Rattle.homotopy_arrays.specs.declared.fault.Fault.{Fault}
+pub use Rattle.homotopy_arrays.specs.declared.fault.Fault.TheVariants.{CornerCount, EqualNeighbours, FewCorners, ManySides, ManyVertices, NoVertex, OutOfMemory, WalkCount}
+pub use Rattle.homotopy_arrays.specs.declared.pair.Checked.TheVariants.{Faulty, Pair}
 pub use Rattle.move_checker.specs.Verdicts.{verdict_of}
 pub use Rattle.off_reader.proofs.RingLemmas.{DifferTo, all_below, differ_all, differ_at, differ_more, equal_found}
 pub use Rattle.std.proofs.Common.{Bool, List, ap, append-nil, append_assoc, ap₂, arith, cond, drop, eqb, false, get_or, inl, inr, length, length-take-le, ltb, map, not, refl, subst, suc, sum, sym, take, true, zero, ℕ, [], ◌%◌, ◌*◌, ◌++◌, ◌+◌, ◌-◌, ◌<◌, ◌↔◌, ◌∙◌, ◌∷◌, ◌≡◌, ◌≢◌, ◌≤◌, ◌⊎◌}
 pub use Rattle.std.proofs.lemmas.Bool.{and_from, and_parts, both_ways, cases_lt, eq-eqb, eqb-false, eqb-true, le-ltb, lt-ltb, ltb-false, ne_eqb}
-pub use Rattle.std.proofs.lemmas.List.{drop-drop, drop_all, drop_at, drop_more, get_or-map, get_or_append_left, length-drop, length-map, length_push, take-append-drop, take_at, take_more}
+pub use Rattle.std.proofs.lemmas.List.{drop-drop, drop_all, drop_at, drop_more, get_or_append_left, length-drop, length_push, take-append-drop, take_all, take_at, take_more}
 pub use Rattle.std.proofs.lemmas.List.Sums.{sum_by-append, sum_by-cons, sum_by-take-drop}
-pub use Rattle.std.proofs.lemmas.Option.{none-some}
+pub use Rattle.std.proofs.lemmas.Option.{get_or_from_slice_get, none-some}
 pub use Rattle.std.proofs.lemmas.Result.{err_from_is_err_and}
 pub use Rattle.std.specs.Global.{Vec}
 pub use Rattle.std.specs.List.{list_all}
@@ -36,7 +40,7 @@ pub use Rattle.verify_commands.proofs.Gathering.{left_start, list-moves, list-wr
 pub use Rattle.walk_classes.specs.Faults.{IsClassFault, IsFirstNoWalk}
 pub use Rattle.walk_classes.specs.WalkClasses.{AreClasses}
 pub use Rattle.walk_files.proofs.EachLemmas.{before_ok}
-pub use Rattle.walk_files.specs.Certificates.{answer_of, first_head, fits, fitting_head, head_among, head_in, head_of_text, moves_of_text, within_peak}
+pub use Rattle.walk_files.specs.Certificates.{answer_of, first_head, fits, fitting_head, head_among, head_in, head_of, head_of_text, moves_of_text, within_peak}
 pub use Rattle.walk_files.specs.ClosedPairs.{IsClosedPair, loops_fault}
 pub use Rattle.walk_files.specs.Denials.{denial_of_lines}
 pub use Rattle.walk_files.specs.Pairs.{IsPair, pair_fault}

@@ -1,17 +1,11 @@
 -- How questions end.
-use Rattle.homotopy_arrays.proofs.Common.{signed_surface, IsNoSurface, SignedMesh, IsCompactSurface, ◌≡◌, ◌⊎◌, sym, ap, subst, ◌∙◌, inl, inr, refl, ℕ, List, false, Vec, Result, Ok, Err, FaceList, IsOrientableSurface}
+use Rattle.homotopy_arrays.proofs.Common.{signed_surface, IsNoSurface, SignedMesh, IsCompactSurface, AreDecidedOnAny, IsCompactFault, IsCompactKept, of_compact_fault, AreAnsweredOn, IsAskedFault, IsKept, IsAnswer, are_pairs, EndsOn, IsSurfaceFault, IsSurfaceOf, OfMesh, of_no_surface, of_surface_fault, Fault, OutOfMemory, WalkCount, ◌≡◌, ◌⊎◌, sym, ap, subst, ◌∙◌, inl, inr, refl, ℕ, List, false, Vec, Result, Ok, Err, FaceList, IsOrientableSurface}
 use Rattle.closed_surfaces.specs.declared.signed_mesh.NoSurface.{NoSurface}
 use Rattle.compact_surfaces.specs.Faults.{IsFirstFault}
 use Rattle.compact_surfaces.specs.declared.fault.CompactFault.{CompactFault}
-use Rattle.homotopy_arrays.specs.Pairs.{IsAnswer, are_pairs}
 use Rattle.homotopy_arrays.specs.declared.decide.PairAnswer.{PairAnswer}
 use Rattle.closed_surfaces.specs.declared.signed_mesh.NoSurface.TheVariants as nones
 use Rattle.compact_surfaces.specs.declared.fault.CompactFault.TheVariants as compact
-use Rattle.homotopy_arrays.specs.Compact.{AreDecidedOnAny, IsCompactFault, IsCompactKept, of_compact_fault}
-use Rattle.homotopy_arrays.specs.Decisions.{AreAnsweredOn, IsAskedFault, IsKept}
-use Rattle.homotopy_arrays.specs.Surfaces.{EndsOn, IsSurfaceFault, IsSurfaceOf, OfMesh, of_no_surface, of_surface_fault}
-use Rattle.homotopy_arrays.specs.declared.fault.Fault.{Fault}
-use Rattle.homotopy_arrays.specs.declared.fault.Fault.TheVariants.{OutOfMemory, WalkCount}
 
 -- a fault, and what is said of it more weakly
 pub refused : (read : Result FaceList Fault) (P Q : FaceList → Fault → Type 0) (fault : Fault)

@@ -1,23 +1,18 @@
 -- What comes of certificates, from their parts.
-use Rattle.homotopy_arrays.proofs.Common.{◌≡◌, ◌⊎◌, ◌<◌, ◌≤◌, ℕ, zero, suc, List, [], ◌∷◌, length, get_or, refl, sym, ap, subst, ◌∙◌, inl, inr, arith, Result, Ok, Err, MatchResult, Option, Some, None, slice_get, FaceList, Move, Line, end_line, left_start, list-moves, list-wrong, before_ok, head_of_text, moves_of_text, denial_of_lines, Certificate, count_in, denial_left, lines_to_come, moves_left, moves_to_come, next_answer, next_of, started, unless_refused, CertHead, CertFault}
+use Rattle.homotopy_arrays.proofs.Common.{IsFaultOfMoves, IsFaultOfSpelling, IsFaultOfText, IsFaultOfWalks, IsVerdictOnMoves, IsVerifyFault, Judges, JudgesSpelt, JudgesText, JudgesWalks, of_certificate_fault, AreWalks, Fault, OutOfMemory, ◌≡◌, ◌⊎◌, ◌<◌, ◌≤◌, ℕ, zero, suc, List, [], ◌∷◌, length, get_or, refl, sym, ap, subst, ◌∙◌, inl, inr, arith, get_or_from_slice_get, Result, Ok, Err, MatchResult, Option, Some, None, slice_get, FaceList, Move, Line, end_line, left_start, list-moves, list-wrong, before_ok, head_of_text, moves_of_text, denial_of_lines, Certificate, count_in, denial_left, lines_to_come, moves_left, moves_to_come, next_answer, next_of, started, unless_refused, CertHead, CertFault}
 use Rattle.commands.specs.declared.inputs.TheConstants.{MOST_BYTES}
+use Rattle.homotopy_arrays.specs.declared.verify.Judgement.{Judgement}
+use Rattle.homotopy_arrays.specs.declared.verify.Judgement.TheVariants.{Moves, Denial}
+use Rattle.homotopy_arrays.specs.declared.verify.VerifyFault.{VerifyFault}
+use Rattle.homotopy_arrays.specs.declared.verify.VerifyFault.TheVariants.{Mesh}
 use Rattle.labellings.specs.DenialVerdicts.{IsVerdict}
 use Rattle.labellings.specs.declared.verdict.DenialVerdict.{DenialVerdict}
 use Rattle.move_checker.specs.declared.judge.Verdict.{Verdict}
-use Rattle.std.proofs.lemmas.Option.{get_or_from_slice_get}
 use Rattle.verify_commands.proofs.Streaming.{denial_right}
 use Rattle.labellings.specs.declared.denial.Denial as denials
 use Rattle.walk_files.specs.declared.certificate.CertHead.TheVariants as heads
 use Rattle.walk_files.specs.declared.fault.CertFault.TheVariants as certificates
 use Rattle.commands.specs.declared.certificate.Certificate.TheVariants as shown
-use Rattle.homotopy_arrays.specs.Judgements.{IsFaultOfMoves, IsFaultOfSpelling, IsFaultOfText, IsFaultOfWalks, IsVerdictOnMoves, IsVerifyFault, Judges, JudgesSpelt, JudgesText, JudgesWalks, of_certificate_fault}
-use Rattle.homotopy_arrays.specs.Pairs.{AreWalks}
-use Rattle.homotopy_arrays.specs.declared.fault.Fault.{Fault}
-use Rattle.homotopy_arrays.specs.declared.fault.Fault.TheVariants.{OutOfMemory}
-use Rattle.homotopy_arrays.specs.declared.verify.Judgement.{Judgement}
-use Rattle.homotopy_arrays.specs.declared.verify.Judgement.TheVariants.{Moves, Denial}
-use Rattle.homotopy_arrays.specs.declared.verify.VerifyFault.{VerifyFault}
-use Rattle.homotopy_arrays.specs.declared.verify.VerifyFault.TheVariants.{Mesh}
 use Rattle.homotopy_arrays.proofs.CertificateLemmas.{bad_head, denial_faulty, denial_given, denial_or_memory, denial_start, started_ok}
 
 -- ---- the text

@@ -7,5 +7,4 @@ pub mod EndLemmas
 pub mod CertificateLemmas
 pub mod JudgementLemmas
 pub mod CertificationLemmas
-pub mod SideNumberLemmas
 pub mod HomologyLemmas

@@ -1,10 +1,7 @@
 -- Meshes from arrays, face by face.
-use Rattle.homotopy_arrays.proofs.Common.{all_below, differ_at, ◌≡◌, ℕ, ◌+◌, ◌*◌, ◌<◌, ◌≤◌, Bool, true, false, cond, not, eqb, ltb, List, [], ◌∷◌, ◌++◌, length, take, drop, get_or, length-take-le, refl, sym, ap, subst, ◌∙◌, arith, eq-eqb, lt-ltb, le-ltb, ltb-false, drop-drop, drop_more, drop_all, length-drop, take_more, length_push, sum_by-append, sum_by-take-drop, sum_by-cons, none-some, list_all, Option, Some, None, Ok, Err, sum_by, PendingFace, IsFace, total_sides, MOST_VERTICES, MOST_SIDES}
+use Rattle.homotopy_arrays.proofs.Common.{face_fault, faces_behind, mesh_of, unless, Fault, ManyVertices, CornerCount, ManySides, FewCorners, NoVertex, EqualNeighbours, all_below, differ_at, ◌≡◌, ℕ, ◌+◌, ◌*◌, ◌<◌, ◌≤◌, Bool, true, false, cond, not, eqb, ltb, List, [], ◌∷◌, ◌++◌, length, take, drop, get_or, length-take-le, refl, sym, ap, subst, ◌∙◌, arith, eq-eqb, lt-ltb, le-ltb, ltb-false, drop-drop, drop_more, drop_all, length-drop, take_more, length_push, sum_by-append, sum_by-take-drop, sum_by-cons, none-some, list_all, Option, Some, None, Ok, Err, sum_by, PendingFace, IsFace, total_sides, MOST_VERTICES, MOST_SIDES}
 use Rattle.off_reader.specs.OffTexts.{has_equal_neighbours}
 use Rattle.std.specs.Prelude.{sum}
-use Rattle.homotopy_arrays.specs.MeshArrays.{face_fault, faces_behind, mesh_of, unless}
-use Rattle.homotopy_arrays.specs.declared.fault.Fault.{Fault}
-use Rattle.homotopy_arrays.specs.declared.fault.Fault.TheVariants.{ManyVertices, CornerCount, ManySides, FewCorners, NoVertex, EqualNeighbours}
 
 -- ---- one face
 

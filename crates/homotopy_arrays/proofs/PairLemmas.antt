@@ -1,5 +1,9 @@
 -- Pairs of walks, cut from arrays.
-use Rattle.homotopy_arrays.proofs.Common.{IsClosedWalk, ◌≡◌, ◌≢◌, ℕ, Bool, true, false, cond, eqb, ltb, ◌+◌, ◌-◌, ◌*◌, ◌<◌, ◌≤◌, List, [], ◌∷◌, ◌++◌, length, take, drop, get_or, refl, sym, ap, ap₂, subst, ◌∙◌, inl, inr, arith, ◌↔◌, cases_lt, ne_eqb, eqb-false, le-ltb, ltb-false, take_more, get_or_append_left, length_push, sum_by-append, sum_by-take-drop, sum_by-cons, none-some, Some, None, sum_by, Option, MatchOption, option_map, FaceList, IsWalk, HaveCommonEnds, IsClosedPair, loops_fault, IsPair, pair_fault}
+use Rattle.homotopy_arrays.proofs.Common.{IsClosedWalk, AreWalks, length_fault, walk_at, walks_fault, ◌≡◌, ◌≢◌, ℕ, Bool, true, false, cond, eqb, ltb, ◌+◌, ◌-◌, ◌*◌, ◌<◌, ◌≤◌, List, [], ◌∷◌, ◌++◌, length, take, drop, get_or, refl, sym, ap, ap₂, subst, ◌∙◌, inl, inr, arith, ◌↔◌, cases_lt, ne_eqb, eqb-false, le-ltb, ltb-false, take_more, get_or_append_left, length_push, sum_by-append, sum_by-take-drop, sum_by-cons, none-some, Some, None, sum_by, Option, MatchOption, option_map, FaceList, IsWalk, HaveCommonEnds, IsClosedPair, loops_fault, IsPair, pair_fault}
+use Rattle.homotopy_arrays.specs.Loops.{AreLoops, closed_fault}
+use Rattle.homotopy_arrays.specs.declared.pair.TheConstants.{MOST_WALK}
+use Rattle.homotopy_arrays.specs.declared.pair.WalkFault.{WalkFault}
+use Rattle.homotopy_arrays.specs.declared.pair.WalkFault.TheVariants.{Empty, Long, Pair, Loops}
 use Rattle.std.proofs.Math.Seq.{get_or-append_seam}
 use Rattle.std.specs.Option.{option_or}
 use Rattle.std.specs.Prelude.{sum}
@@ -9,11 +13,6 @@ use Rattle.walk_files.specs.declared.pair.PairFault.{PairFault}
 use Rattle.walk_translate.specs.Found.{IsFoundOn}
 use Rattle.surf_model.specs.Moves as moves
 use Rattle.surf_model.specs.declared.decisions.Answer as deciding
-use Rattle.homotopy_arrays.specs.Loops.{AreLoops, closed_fault}
-use Rattle.homotopy_arrays.specs.Pairs.{AreWalks, length_fault, walk_at, walks_fault}
-use Rattle.homotopy_arrays.specs.declared.pair.WalkFault.{WalkFault}
-use Rattle.homotopy_arrays.specs.declared.pair.WalkFault.TheVariants.{Empty, Long, Pair, Loops}
-use Rattle.homotopy_arrays.specs.declared.pair.TheConstants.{MOST_WALK}
 
 -- ---- the lengths
 

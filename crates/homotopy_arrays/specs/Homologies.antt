@@ -1,11 +1,12 @@
 -- How the question ends whether two walks are homologous, with numbers that show it.
-use Rattle.std.specs.Prelude.{◌≡◌, ◌⊎◌, ◌↔◌, ℕ, ◌+◌, ◌<◌, ◌≤◌, List, length, map, ℤ, Some, Result, Err}
-use Rattle.surf_model.specs.FaceLists.{FaceList, FaceSide, all_sides}
+use Rattle.std.specs.Prelude.{◌≡◌, ◌⊎◌, ◌↔◌, ℕ, ◌+◌, ◌<◌, ◌≤◌, List, Some, Result, Err}
+use Rattle.surf_model.specs.FaceLists.{FaceList}
 use Rattle.surf_model.specs.OrientableSurfaces.{IsOrientableSurface}
 use Rattle.surf_model.specs.Walks.{darts}
-use Rattle.homology.specs.Chains.{AreHomologous, IsChain}
-use Rattle.homology.specs.Cocycles.{IsCocycle, Separates, dart_number}
-use Rattle.homology.specs.Tallies.{number_at}
+use Rattle.homology.specs.ArrayCertificates.{AreSmall, DoShow}
+use Rattle.homology.specs.Chains.{AreHomologous}
+use Rattle.homology.specs.declared.array.HomologyNumbers.{HomologyNumbers}
+use Rattle.homology.specs.declared.array.HomologyNumbers.TheVariants.{Chain, Cocycle}
 use Rattle.homology.specs.declared.certificate.TheConstants.{MOST_NUMBER}
 use Rattle.commands.specs.HomologyCertificates.{HomologyAnswer, Homologous, NotHomologous}
 use Rattle.homotopy_arrays.specs.Pairs.{AreWalks, walks_fault}
@@ -14,46 +15,22 @@ use Rattle.homotopy_arrays.specs.declared.fault.Fault.{Fault}
 use Rattle.homotopy_arrays.specs.declared.fault.Fault.TheVariants.{OutOfMemory}
 use Rattle.homotopy_arrays.specs.declared.homologies.HomologyFault.{HomologyFault}
 use Rattle.homotopy_arrays.specs.declared.homologies.HomologyFault.TheVariants.{Mesh, Walks, Darts}
-use Rattle.homotopy_arrays.specs.declared.homologies.HomologyNumbers.{HomologyNumbers}
-use Rattle.homotopy_arrays.specs.declared.homologies.HomologyNumbers.TheVariants.{Chain, Cocycle}
 use Rattle.homotopy_arrays.specs.declared.pair.WalkFault.{WalkFault}
 
--- ---- what numbers show
-
--- what numbers of the edges give to each side, face after face: to the side from corner k to the next corner of its face entry k
-abbrev pub side_numbers : FaceList → (of_edge : ℕ → ℕ → ℤ) → List ℤ
-side_numbers mesh of_edge = map (λ (side : FaceSide). dart_number of_edge side.tail side.head) (all_sides mesh)
-
--- a number for each face, which are a chain for the walks
-pub record AreChainNumbers (mesh : FaceList) (first second : List ℕ) (numbers : List ℤ) : Type 0 where
-  pub each_face : length numbers ≡ length mesh.faces
-  pub chain : IsChain mesh (number_at numbers) first second
-
--- a number for each side, which a cocycle gives it that separates the walks
-pub record AreCocycleNumbers (mesh : FaceList) (first second : List ℕ) (numbers : List ℤ) : Type 0 where
-  pub of_edge : ℕ → ℕ → ℤ
-  pub cocycle : IsCocycle mesh of_edge
-  pub separates : Separates of_edge first second
-  pub each_side : numbers ≡ side_numbers mesh of_edge
-
--- the numbers show whether the walks are homologous
-abbrev pub DoShow : FaceList → (first second : List ℕ) → HomologyNumbers → Type 0
-DoShow mesh first second (Chain numbers) = AreChainNumbers mesh first second numbers.items
-DoShow mesh first second (Cocycle numbers) = AreCocycleNumbers mesh first second numbers.items
-
--- the answer that they are for
+-- the answer that numbers are for
 abbrev pub answer_by : HomologyNumbers → HomologyAnswer
 answer_by (Chain numbers) = Homologous
 answer_by (Cocycle numbers) = NotHomologous
 
 -- ---- how the question ends
 
--- two walks of the mesh with common ends, not too long together, and numbers that show what holds of them: those of a chain exactly where
--- they are homologous
+-- two walks of the mesh with common ends, not too long together, and numbers that show what holds of them, none too large: those of a chain
+-- exactly where they are homologous
 pub record AreShown (mesh : FaceList) (first second : List ℕ) (shown : HomologyNumbers) : Type 0 where
   pub walks : AreWalks mesh first second
   pub few : darts first + darts second ≤ MOST_NUMBER
   pub show : DoShow mesh first second shown
+  pub small : AreSmall shown
   pub exactly : (answer_by shown ≡ Homologous) ↔ AreHomologous mesh first second
 
 -- the arrays are an orientable closed surface, and the numbers are for two walks of it; `read` is the mesh that they are, or what is first

@@ -75,9 +75,9 @@ pub enum Judgement {
 
 /// A mesh with its table.
 #[derive(Clone, Copy)]
-struct Tabled<'a> {
-    faces: &'a Faces,
-    sides: &'a Sides,
+pub(crate) struct Tabled<'a> {
+    pub(crate) faces: &'a Faces,
+    pub(crate) sides: &'a Sides,
 }
 
 /// What comes of the certificate that the bytes spell, between two walks of the mesh that the arrays are, which need be no surface.

@@ -3,6 +3,7 @@ use Rattle.std.specs.Prelude.{◌≡◌, ℕ, true, false, refl, ℤ}
 use Rattle.std.specs.Global.{Vec}
 use Rattle.surf_model.specs.declared.names.FaceName.{FaceName}
 use Rattle.surf_model.specs.declared.names.VertexName.{VertexName}
+use Rattle.homology.specs.declared.array.HomologyNumbers.TheVariants.{Chain, Cocycle}
 use Rattle.labellings.specs.declared.fault.LabelFault.TheVariants as labels
 use Rattle.labellings.specs.declared.verdict.DenialVerdict.TheVariants as denials
 use Rattle.move_checker.specs.declared.fault.MoveFault.TheVariants as moves
@@ -16,7 +17,6 @@ use Rattle.homotopy_arrays.specs.declared.classes.NoClasses.TheVariants as none
 use Rattle.homotopy_arrays.specs.declared.decide.PairAnswer.TheVariants.{Homotopic, Different, Faulty}
 use Rattle.homotopy_arrays.specs.declared.fault.Fault.TheVariants as faults
 use Rattle.homotopy_arrays.specs.declared.homologies.HomologyFault.TheVariants as homologies
-use Rattle.homotopy_arrays.specs.declared.homologies.HomologyNumbers.TheVariants.{Chain, Cocycle}
 use Rattle.homotopy_arrays.specs.declared.loops.LoopAnswer.TheVariants as free
 use Rattle.homotopy_arrays.specs.declared.pair.WalkFault.TheVariants.{Empty, Long, Pair, Loops}
 use Rattle.homotopy_arrays.specs.declared.verify.VerifyFault.TheVariants as unjudged

@@ -1,12 +1,12 @@
 -- How a call tells whether walks are homologous.
 use Rattle.std.specs.Prelude.{◌≡◌, ℕ, ◌<◌, ◌≤◌, List, length, ℤ, Result, Ok, Err, MatchResult}
 use Rattle.surf_model.specs.FaceLists.{FaceList}
+use Rattle.homology.specs.declared.array.HomologyNumbers.{HomologyNumbers}
+use Rattle.homology.specs.declared.array.HomologyNumbers.TheVariants.{Chain, Cocycle}
 use Rattle.homotopy_arrays.specs.Homologies.{IsHomologyFault, ShowsWalks}
 use Rattle.homotopy_arrays.specs.declared.fault.Fault.{Fault}
 use Rattle.homotopy_arrays.specs.declared.homologies.HomologyFault.{HomologyFault}
 use Rattle.homotopy_arrays.specs.declared.homologies.HomologyFault.TheVariants.{Mesh, Walks, Darts}
-use Rattle.homotopy_arrays.specs.declared.homologies.HomologyNumbers.{HomologyNumbers}
-use Rattle.homotopy_arrays.specs.declared.homologies.HomologyNumbers.TheVariants.{Chain, Cocycle}
 use Rattle.homotopy_c.specs.Outcomes.{coded, told, told_walks}
 use Rattle.homotopy_c.specs.Told.{in_front}
 use Rattle.homotopy_c.specs.declared.codes.TheConstants as codes

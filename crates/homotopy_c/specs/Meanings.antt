@@ -4,6 +4,7 @@ use Rattle.std.specs.List.{list_any}
 use Rattle.surf_model.specs.FaceLists.{FaceList}
 use Rattle.surf_model.specs.Moves as moves
 use Rattle.closed_walks.specs.FreeHomotopy.{FreelyHomotopic}
+use Rattle.homology.specs.ArrayCertificates.{AreChainNumbers, AreCocycleNumbers}
 use Rattle.homology.specs.Chains.{AreHomologous}
 use Rattle.labellings.specs.Denials.{DenialHolds}
 use Rattle.move_checker.specs.Verdicts.{LeadsWithin}
@@ -14,7 +15,6 @@ use Rattle.surf_model.specs.Genera.{AreNumbersOf}
 use Rattle.surf_model.specs.declared.numbers.SurfaceNumbers as counted
 use Rattle.commands.specs.declared.certificate.Certificate.{Certificate}
 use Rattle.commands.specs.declared.certificate.Certificate.TheVariants as shown
-use Rattle.homotopy_arrays.specs.Homologies.{AreChainNumbers, AreCocycleNumbers}
 use Rattle.homotopy_arrays.specs.Loops.{AreLoops}
 use Rattle.homotopy_arrays.specs.Pairs.{AreWalks}
 use Rattle.homotopy_c.specs.Told.{in_front}

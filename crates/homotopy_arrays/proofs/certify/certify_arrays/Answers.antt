@@ -1,5 +1,4 @@
-use Rattle.homotopy_arrays.proofs.Common.{err_from_is_err_and}
-use Rattle.homotopy_arrays.specs.MeshArrays.{mesh_in}
+use Rattle.homotopy_arrays.proofs.Common.{mesh_in, err_from_is_err_and}
 use Rattle.homotopy_arrays.proofs.CertificationLemmas.{no_surface, on_surface}
 use Rattle.homotopy_arrays.proofs.certify.certify_arrays.Goals as goal
 

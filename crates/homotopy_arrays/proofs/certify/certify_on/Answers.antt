@@ -1,8 +1,4 @@
-use Rattle.homotopy_arrays.proofs.Common.{◌≡◌, ◌⊎◌, List, ℕ, arith, refl, sym, subst, inl, inr, MatchResult}
-use Rattle.homotopy_arrays.specs.Certifications.{IsCertified, IsLimitFault, no_memory}
-use Rattle.homotopy_arrays.specs.CheckedPairs.{IsChecked}
-use Rattle.homotopy_arrays.specs.Pairs.{AreWalks}
-use Rattle.homotopy_arrays.specs.declared.pair.Checked.TheVariants.{Pair, Faulty}
+use Rattle.homotopy_arrays.proofs.Common.{IsCertified, IsLimitFault, no_memory, IsChecked, AreWalks, Pair, Faulty, ◌≡◌, ◌⊎◌, List, ℕ, arith, refl, sym, subst, inl, inr, MatchResult}
 use Rattle.homotopy_arrays.proofs.CertificationLemmas.{on_walks}
 use Rattle.homotopy_arrays.proofs.JudgementLemmas.{first_of, second_of, two_walks}
 use Rattle.homotopy_arrays.proofs.certify.certify_on.Goals as goal

@@ -1,5 +1,4 @@
-use Rattle.homotopy_arrays.proofs.Common.{◌≡◌, ℕ, List, length, subst, sym, arith, FaceList, IsClassFault, IsFirstNoWalk, AreClasses}
-use Rattle.homotopy_arrays.specs.Classes.{IsFirstNone}
+use Rattle.homotopy_arrays.proofs.Common.{IsFirstNone, ◌≡◌, ℕ, List, length, subst, sym, arith, FaceList, IsClassFault, IsFirstNoWalk, AreClasses}
 use Rattle.homotopy_arrays.proofs.ClassLemmas.{all_classes, none_cut, not_cut}
 use Rattle.homotopy_arrays.proofs.classes.classes_in.Goals as goal
 

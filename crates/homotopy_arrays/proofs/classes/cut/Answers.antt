@@ -1,5 +1,4 @@
-use Rattle.homotopy_arrays.proofs.Common.{◌≡◌, ◌<◌, inl, inr, ℕ, List, length, sym, subst, ◌∙◌, arith, cases_lt, none-some, None, Some}
-use Rattle.homotopy_arrays.specs.Pairs.{length_fault, walk_at}
+use Rattle.homotopy_arrays.proofs.Common.{length_fault, walk_at, ◌≡◌, ◌<◌, inl, inr, ℕ, List, length, sym, subst, ◌∙◌, arith, cases_lt, none-some, None, Some}
 use Rattle.homotopy_arrays.proofs.ClassLemmas.{cut_at, cut_more}
 use Rattle.homotopy_arrays.proofs.PairLemmas.{next_place, place_within, walk_cut}
 use Rattle.homotopy_arrays.proofs.classes.cut.Goals as goal

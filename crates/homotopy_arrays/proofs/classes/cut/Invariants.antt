@@ -1,6 +1,4 @@
-use Rattle.homotopy_arrays.proofs.Common.{◌≡◌, ◌<◌, ℕ, sum, take, None}
-use Rattle.homotopy_arrays.specs.Classes.{first_walks}
-use Rattle.homotopy_arrays.specs.Pairs.{length_fault, walk_at}
+use Rattle.homotopy_arrays.proofs.Common.{first_walks, length_fault, walk_at, ◌≡◌, ◌<◌, ℕ, sum, take, None}
 use Rattle.homotopy_arrays.proofs.classes.cut.Given as goal
 
 -- the walks so far

@@ -1,7 +1,5 @@
-use Rattle.homotopy_arrays.proofs.Common.{List, ℕ, subst, sym, Some}
+use Rattle.homotopy_arrays.proofs.Common.{IsWalkIn, walks_fault, List, ℕ, subst, sym, Some}
 use Rattle.std.specs.Prelude.{◌≡◌}
-use Rattle.homotopy_arrays.specs.Classes.{IsWalkIn}
-use Rattle.homotopy_arrays.specs.Pairs.{walks_fault}
 use Rattle.homotopy_arrays.proofs.classes.told_at.Goals as goal
 
 pub fault_of-requires : goal.fault_of-requires

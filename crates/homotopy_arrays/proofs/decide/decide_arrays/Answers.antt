@@ -1,8 +1,5 @@
-use Rattle.homotopy_arrays.proofs.Common.{ℕ, List, inl, inr, refl, err_from_is_err_and, IsOrientableSurface}
+use Rattle.homotopy_arrays.proofs.Common.{AreDecided, IsDecideFault, mesh_in, IsSurfaceFault, ℕ, List, inl, inr, refl, err_from_is_err_and, IsOrientableSurface}
 use Rattle.compact_surfaces.proofs.ClosedLemmas.{compact_surface}
-use Rattle.homotopy_arrays.specs.Decisions.{AreDecided, IsDecideFault}
-use Rattle.homotopy_arrays.specs.MeshArrays.{mesh_in}
-use Rattle.homotopy_arrays.specs.Surfaces.{IsSurfaceFault}
 use Rattle.homotopy_arrays.proofs.EndLemmas.{of_kept, on_kind, refused}
 use Rattle.homotopy_arrays.proofs.decide.decide_arrays.Goals as goal
 

@@ -1,6 +1,4 @@
-use Rattle.homotopy_arrays.proofs.Common.{IsCompactSurface, ℕ, List, inl, inr, refl, err_from_is_err_and}
-use Rattle.homotopy_arrays.specs.Compact.{AreDecidedOnAny, IsCompactFault, IsDecideAnyFault}
-use Rattle.homotopy_arrays.specs.MeshArrays.{mesh_in}
+use Rattle.homotopy_arrays.proofs.Common.{IsCompactSurface, AreDecidedOnAny, IsCompactFault, IsDecideAnyFault, mesh_in, ℕ, List, inl, inr, refl, err_from_is_err_and}
 use Rattle.homotopy_arrays.proofs.EndLemmas.{of_compact, on_kind, refused}
 use Rattle.homotopy_arrays.proofs.decide_any.decide_any_arrays.Goals as goal
 

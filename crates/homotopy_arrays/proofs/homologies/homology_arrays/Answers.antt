@@ -1,6 +1,5 @@
-use Rattle.homotopy_arrays.proofs.Common.{err_from_is_err_and}
-use Rattle.homotopy_arrays.specs.MeshArrays.{mesh_in}
-use Rattle.homotopy_arrays.proofs.HomologyLemmas.{shown_on_none, shown_on_surface, surface_read}
+use Rattle.homotopy_arrays.proofs.Common.{mesh_in, err_from_is_err_and}
+use Rattle.homotopy_arrays.proofs.HomologyLemmas.{shown_on_none, shown_on_surface}
 use Rattle.homotopy_arrays.proofs.homologies.homology_arrays.Goals as goal
 
 pub returns-in_err-surface : goal.returns-in_err-surface
@@ -14,6 +13,3 @@ pub returns : goal.returns
 returns c =
     shown_on_surface (mesh_in c.args.mesh) c.in_ok-surface.surface c.args.first.now c.args.second.now
     c.show_on.result c.in_ok-surface.ensures c.show_on.ensures
-
-pub show_on-requires-clause-read : goal.show_on-requires-clause-read
-show_on-requires-clause-read c = surface_read (mesh_in c.args.mesh) c.in_ok-surface.surface c.in_ok-surface.ensures

@@ -1,8 +1,5 @@
-use Rattle.homotopy_arrays.proofs.Common.{◌≡◌, ◌⊎◌, List, ℕ, arith, refl, sym, subst, inl, inr, MatchResult}
-use Rattle.homotopy_arrays.specs.Homologies.{AreLong, AreShown, no_memory}
-use Rattle.homotopy_arrays.specs.CheckedPairs.{IsChecked}
-use Rattle.homotopy_arrays.specs.Pairs.{AreWalks}
-use Rattle.homotopy_arrays.specs.declared.pair.Checked.TheVariants.{Pair, Faulty}
+use Rattle.homotopy_arrays.proofs.Common.{IsChecked, AreLong, AreShown, AreWalks, Pair, Faulty, ◌≡◌, ◌⊎◌, List, ℕ, arith, refl, sym, subst, inl, inr, MatchResult}
+use Rattle.homotopy_arrays.specs.Homologies.{no_memory}
 use Rattle.homotopy_arrays.proofs.HomologyLemmas.{shown_on_walks}
 use Rattle.homotopy_arrays.proofs.JudgementLemmas.{first_of, second_of, two_walks}
 use Rattle.homotopy_arrays.proofs.homologies.show_on.Goals as goal
@@ -11,7 +8,7 @@ use Rattle.homotopy_arrays.proofs.homologies.show_on.Goals.{In-Pair}
 are_checked : (c : In-Pair) → IsChecked c.args.surface.faces c.args.first.now c.args.second.now (Pair c.in-Pair.walks)
 are_checked c =
     subst (IsChecked c.args.surface.faces c.args.first.now c.args.second.now) c.in-Pair.is
-    (c.in_ok-walks.ensures c.args.surface.faces c.requires.signed.table)
+    (c.in_ok-walks.ensures c.args.surface.faces c.requires.table)
 
 pub at-requires : goal.at-requires
 at-requires c =
@@ -54,5 +51,5 @@ returns-in-Faulty c =
     let first : List ℕ = c.args.first.now in
     let second : List ℕ = c.args.second.now in
     let checked : IsChecked mesh first second (Faulty c.in-Faulty.fault) =
-    subst (IsChecked mesh first second) c.in-Faulty.is (c.in_ok-walks.ensures mesh c.requires.signed.table) in
+    subst (IsChecked mesh first second) c.in-Faulty.is (c.in_ok-walks.ensures mesh c.requires.table) in
     inr (inl (c.in-Faulty.fault, checked.0, checked.1, refl))

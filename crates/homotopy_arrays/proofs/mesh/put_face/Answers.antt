@@ -1,5 +1,4 @@
-use Rattle.homotopy_arrays.proofs.Common.{ℕ, List, take, arith, sym, ap, subst, ◌∙◌, ◌≡◌, PendingFace, IsFace}
-use Rattle.std.proofs.lemmas.List.{take_all}
+use Rattle.homotopy_arrays.proofs.Common.{ℕ, List, take, arith, sym, ap, subst, ◌∙◌, ◌≡◌, take_all, PendingFace, IsFace}
 use Rattle.homotopy_arrays.proofs.MeshLemmas.{is_face}
 use Rattle.homotopy_arrays.proofs.mesh.put_face.Goals as goal
 

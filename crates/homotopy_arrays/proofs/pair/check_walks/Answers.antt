@@ -1,8 +1,5 @@
-use Rattle.homotopy_arrays.proofs.Common.{List, ℕ, [], ◌∷◌, refl, sym, ap, subst, false, ◌∙◌, both_ways, option_map, IsPair, pair_fault}
-use Rattle.homotopy_arrays.specs.CheckedPairs.{AreListed}
-use Rattle.homotopy_arrays.specs.Pairs.{length_fault}
+use Rattle.homotopy_arrays.proofs.Common.{AreListed, length_fault, Pair, Faulty, List, ℕ, [], ◌∷◌, refl, sym, ap, subst, false, ◌∙◌, both_ways, option_map, IsPair, pair_fault}
 use Rattle.homotopy_arrays.specs.declared.pair.WalkFault.TheVariants as faults
-use Rattle.homotopy_arrays.specs.declared.pair.Checked.TheVariants.{Pair, Faulty}
 use Rattle.homotopy_arrays.proofs.PairLemmas.{lengths_bad, length_good, no_pair, told_first, walks_of_pair}
 use Rattle.homotopy_arrays.proofs.pair.check_walks.Goals as goal
 use Rattle.homotopy_arrays.proofs.pair.check_walks.Goals.{In-Pair}

@@ -1,5 +1,4 @@
-use Rattle.homotopy_arrays.specs.CheckedPairs.{IsChecked}
-use Rattle.homotopy_arrays.specs.declared.pair.Checked.TheVariants.{Pair, Faulty}
+use Rattle.homotopy_arrays.proofs.Common.{IsChecked, Pair, Faulty}
 use Rattle.homotopy_arrays.proofs.pair.fault_of.Goals as goal
 
 pub unreachable-requires : goal.unreachable-requires

@@ -1,6 +1,5 @@
-use Rattle.homotopy_arrays.proofs.Common.{◌≡◌, inl, inr, err_from_is_err_and, Ok}
+use Rattle.homotopy_arrays.proofs.Common.{mesh_in, ◌≡◌, inl, inr, err_from_is_err_and, Ok}
 use Rattle.homotopy_arrays.proofs.EndLemmas.{none_ends}
-use Rattle.homotopy_arrays.specs.MeshArrays.{mesh_in}
 use Rattle.homotopy_arrays.proofs.surface.surface_of_arrays.Goals as goal
 
 pub returns-in_err-of : goal.returns-in_err-of

@@ -1,5 +1,4 @@
-use Rattle.homotopy_arrays.proofs.Common.{err_from_is_err_and}
-use Rattle.homotopy_arrays.specs.MeshArrays.{mesh_in}
+use Rattle.homotopy_arrays.proofs.Common.{mesh_in, err_from_is_err_and}
 use Rattle.homotopy_arrays.proofs.JudgementLemmas.{mesh_read, no_mesh, on_mesh}
 use Rattle.homotopy_arrays.proofs.verify.verify_arrays.Goals as goal
 

@@ -1,7 +1,4 @@
-use Rattle.homotopy_arrays.proofs.Common.{◌≡◌, List, ℕ, arith, refl, sym, subst, inl, inr, MatchResult, IsWalk}
-use Rattle.homotopy_arrays.specs.CheckedPairs.{IsChecked}
-use Rattle.homotopy_arrays.specs.Judgements.{IsFaultOfText, JudgesText}
-use Rattle.homotopy_arrays.specs.declared.pair.Checked.TheVariants.{Pair, Faulty}
+use Rattle.homotopy_arrays.proofs.Common.{IsChecked, IsFaultOfText, JudgesText, Pair, Faulty, ◌≡◌, List, ℕ, arith, refl, sym, subst, inl, inr, MatchResult, IsWalk}
 use Rattle.homotopy_arrays.proofs.JudgementLemmas.{first_of, on_walks, second_of, two_walks}
 use Rattle.homotopy_arrays.proofs.verify.verify_walks.Goals as goal
 use Rattle.homotopy_arrays.proofs.verify.verify_walks.Goals.{In-Pair}

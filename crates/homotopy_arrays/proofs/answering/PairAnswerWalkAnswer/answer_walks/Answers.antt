@@ -1,5 +1,4 @@
-use Rattle.homotopy_arrays.proofs.Common.{◌≡◌, subst, sym, Some, FaceList}
-use Rattle.homotopy_arrays.specs.Pairs.{AreWalks, walks_fault}
+use Rattle.homotopy_arrays.proofs.Common.{AreWalks, walks_fault, ◌≡◌, subst, sym, Some, FaceList}
 use Rattle.homotopy_arrays.proofs.answering.PairAnswerWalkAnswer.answer_walks.Goals as goal
 use Rattle.homotopy_arrays.proofs.answering.PairAnswerWalkAnswer.answer_walks.Goals.{In-None}
 

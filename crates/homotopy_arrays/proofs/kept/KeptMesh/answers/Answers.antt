@@ -1,5 +1,4 @@
-use Rattle.homotopy_arrays.proofs.Common.{false, true, ◌≡◌, ◌∙◌, inl, inr, refl, subst, sym, both_ways, FaceList}
-use Rattle.homotopy_arrays.specs.Pairs.{AreAnswers, are_pairs}
+use Rattle.homotopy_arrays.proofs.Common.{AreAnswers, are_pairs, false, true, ◌≡◌, ◌∙◌, inl, inr, refl, subst, sym, both_ways, FaceList}
 use Rattle.homotopy_arrays.proofs.kept.KeptMesh.answers.Goals as goal
 
 pub returns-then-not-is_told_on-clause-ends : goal.returns-then-not-is_told_on-clause-ends

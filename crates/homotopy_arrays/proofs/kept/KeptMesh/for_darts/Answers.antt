@@ -1,4 +1,4 @@
-use Rattle.homotopy_arrays.specs.MeshArrays.{mesh_in}
+use Rattle.homotopy_arrays.proofs.Common.{mesh_in}
 use Rattle.homotopy_arrays.proofs.EndLemmas.{kept_surface}
 use Rattle.homotopy_arrays.proofs.kept.KeptMesh.for_darts.Goals as goal
 

@@ -1,6 +1,5 @@
-use Rattle.homotopy_arrays.proofs.Common.{◌≡◌, inl, inr, sym, err_from_is_err_and, Ok}
+use Rattle.homotopy_arrays.proofs.Common.{mesh_in, ◌≡◌, inl, inr, sym, err_from_is_err_and, Ok}
 use Rattle.homotopy_arrays.proofs.EndLemmas.{compact_ends}
-use Rattle.homotopy_arrays.specs.MeshArrays.{mesh_in}
 use Rattle.homotopy_arrays.proofs.kept.KeptMesh.of_any.Goals as goal
 
 pub returns-in_err-surface : goal.returns-in_err-surface

@@ -1,9 +1,7 @@
-use Rattle.homotopy_arrays.proofs.Common.{IsClosedWalk, FreelyHomotopic, ◌≡◌, ◌∷◌, [], List, ℕ, length, ap, arith, subst, sym, ◌∙◌, Some, slice_get}
+use Rattle.homotopy_arrays.proofs.Common.{IsClosedWalk, FreelyHomotopic, AreCheckedLoops, Pair, Faulty, ◌≡◌, ◌∷◌, [], List, ℕ, length, ap, arith, subst, sym, ◌∙◌, Some, slice_get}
 use Rattle.free_loops.specs.declared.deciding.FreeAnswer.{FreeAnswer}
 use Rattle.free_loops.specs.declared.deciding.FreeAnswer.TheVariants.{Freely, NotFreely}
 use Rattle.std.specs.Prelude.{◌↔◌}
-use Rattle.homotopy_arrays.specs.CheckedPairs.{AreCheckedLoops}
-use Rattle.homotopy_arrays.specs.declared.pair.Checked.TheVariants.{Pair, Faulty}
 use Rattle.homotopy_arrays.proofs.loops.LoopAnswerWalkAnswer.answer_walks.Goals as goal
 use Rattle.homotopy_arrays.proofs.loops.LoopAnswerWalkAnswer.answer_walks.Goals.{In-Pair, After-at-2}
 
