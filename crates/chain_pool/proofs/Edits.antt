@@ -1,10 +1,5 @@
 -- The edits of one chain at its place: a step on, a step back, an entry more, an entry less.
-use Rattle.chain_pool.proofs.Common.{◌≡◌, ◌≢◌, ℕ, ◌+◌, ◌-◌, ◌<◌, List, set, count_by, is_some, Option, Some, None, refl, sym, ap, subst, ◌∙◌, inl, inr, arith, cases_eq, get_or-set_other}
-use Rattle.chain_pool.specs.Chains.{under, IsEdit, cells_in}
-use Rattle.chain_pool.specs.Memory.{Parted, Owner, Free, Left, Right, memory_of, joined_lists, parted_under, chains_of, stack_of, left_of, right_of, IsSound, advanced, retreated, pushed, cut_here}
-use Rattle.chain_pool.specs.declared.cells.Cell.{Cell}
-use Rattle.chain_pool.specs.declared.cells.Cell.TheVariants.{Head, Entry}
-use Rattle.chain_pool.specs.declared.cells.Stack.{Stack}
+use Rattle.chain_pool.proofs.Common.{under, IsEdit, cells_in, Parted, Owner, Free, Left, Right, memory_of, joined_lists, parted_under, chains_of, stack_of, left_of, right_of, IsSound, advanced, retreated, pushed, cut_here, Cell, Head, Entry, Stack, ◌≡◌, ◌≢◌, ℕ, ◌+◌, ◌-◌, ◌<◌, List, set, count_by, is_some, Option, Some, None, refl, sym, ap, subst, ◌∙◌, inl, inr, arith, cases_eq, get_or-set_other}
 use Rattle.chain_pool.proofs.Rewrites.{rewritten, at_entry, at_head, entries_stay, lefts_stay, rights_stay, kinds_stay, chain_at_head, chain_stays, apart}
 use Rattle.chain_pool.proofs.Soundness.{count_by-set, cells_in-edit_joined, cells_of-parted, parted_under-is, cells_here}
 use Rattle.chain_pool.proofs.Stacks.{length-values}

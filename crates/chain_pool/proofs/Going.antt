@@ -1,10 +1,5 @@
 -- The way to a place: the two stacks of a chain are kept at hand, and its head is written at the end.
-use Rattle.chain_pool.proofs.Common.{◌≡◌, ◌≢◌, ℕ, ◌+◌, ◌-◌, ◌<◌, ◌^◌, List, length, set, Option, Some, None, refl, sym, ap, subst, ◌∙◌, arith, inl, inr, cases_eq, get_or-set_same, get_or-set_other, length-set, length-map, ext_get_or, set-set, set_comm}
-use Rattle.chain_pool.specs.Chains.{under, IsUnder, IsEdit}
-use Rattle.chain_pool.specs.Memory.{Parted, PartedChains, joined, parted_under, parted_at, chains_of, IsSound, IsEntry, advanced, retreated}
-use Rattle.chain_pool.specs.declared.cells.Cell.{Cell}
-use Rattle.chain_pool.specs.declared.cells.Cell.TheVariants.{Head, Entry}
-use Rattle.chain_pool.specs.declared.cells.Stack.{Stack}
+use Rattle.chain_pool.proofs.Common.{under, IsUnder, IsEdit, Parted, PartedChains, joined, parted_under, parted_at, chains_of, IsSound, IsEntry, advanced, retreated, Cell, Head, Entry, Stack, ◌≡◌, ◌≢◌, ℕ, ◌+◌, ◌-◌, ◌<◌, ◌^◌, List, length, set, Option, Some, None, refl, sym, ap, subst, ◌∙◌, arith, inl, inr, cases_eq, get_or-set_same, get_or-set_other, length-set, length-map, ext_get_or, set-set, set_comm}
 use Rattle.chain_pool.proofs.Edits.{Edited, advance_edits, retreat_edits}
 use Rattle.chain_pool.proofs.Places.{SameLists, SameLists-refl, SameLists-more, SameLists-done, joined-advanced, joined-retreated}
 use Rattle.chain_pool.proofs.Rewrites.{within}

@@ -1,10 +1,5 @@
 -- A cell more for the free ones, a chain that starts and a chain that goes.
-use Rattle.chain_pool.proofs.Common.{◌≡◌, ◌≢◌, ℕ, ◌+◌, ◌-◌, ◌<◌, List, [], set, count_by, is_some, Option, Some, None, refl, sym, ap, ◌∙◌, inl, inr, arith, cases_eq, get_or-set_same, get_or-set_other}
-use Rattle.chain_pool.specs.Chains.{under, IsEdit, IsAlike, cells_of}
-use Rattle.chain_pool.specs.Memory.{Parted, Left, Right, memory_of, joined_option, chains_of, left_of, right_of, no_cells, IsSound, values}
-use Rattle.chain_pool.specs.declared.cells.Cell.{Cell}
-use Rattle.chain_pool.specs.declared.cells.Cell.TheVariants.{Head, Entry}
-use Rattle.chain_pool.specs.declared.cells.Stack.{Stack}
+use Rattle.chain_pool.proofs.Common.{under, IsEdit, IsAlike, cells_of, Parted, Left, Right, memory_of, joined_option, chains_of, left_of, right_of, no_cells, IsSound, values, Cell, Head, Entry, Stack, ◌≡◌, ◌≢◌, ℕ, ◌+◌, ◌-◌, ◌<◌, List, [], set, count_by, is_some, Option, Some, None, refl, sym, ap, ◌∙◌, inl, inr, arith, cases_eq, get_or-set_same, get_or-set_other}
 use Rattle.chain_pool.proofs.Rewrites.{parted_with, chain_by_contents, chain_at_head, chain_stays, within}
 use Rattle.chain_pool.proofs.Singles.{Kept, Adds, added, Takes, taken}
 use Rattle.chain_pool.proofs.Soundness.{count_by-set, cells_in-edit_joined, cells_in-alike_joined, cells_of-parted, cells_here}

@@ -1,7 +1,5 @@
 -- What is seen of chains at their places, and edit after edit.
-use Rattle.chain_pool.proofs.Common.{◌≡◌, ◌≢◌, ◌⊎◌, ℕ, ◌+◌, ◌-◌, List, [], ◌∷◌, ◌++◌, length, reverse, take, drop, Option, Some, None, refl, sym, ap, subst, ◌∙◌, arith, inl, inr, append_assoc, cases_eq, reverse-append, reverse-reverse, length-map, ext_get_or, take-append-drop, drop-drop, length-drop, IsSome}
-use Rattle.chain_pool.specs.Chains.{Chains, under, IsUnder, IsEdit, IsAlike, list_under, inserted, cut}
-use Rattle.chain_pool.specs.Memory.{Parted, PartedChains, joined, joined_option, joined_lists, parted_under, parted_at, pushed, cut_here}
+use Rattle.chain_pool.proofs.Common.{Chains, under, IsUnder, IsEdit, IsAlike, list_under, inserted, cut, Parted, PartedChains, joined, joined_option, joined_lists, parted_under, parted_at, pushed, cut_here, ◌≡◌, ◌≢◌, ◌⊎◌, ℕ, ◌+◌, ◌-◌, List, [], ◌∷◌, ◌++◌, length, reverse, take, drop, Option, Some, None, refl, sym, ap, subst, ◌∙◌, arith, inl, inr, append_assoc, cases_eq, reverse-append, reverse-reverse, length-map, ext_get_or, take-append-drop, drop-drop, length-drop, IsSome}
 use Rattle.chain_pool.proofs.Soundness.{parted_under-is, under-joined, IsEdit-joined}
 
 option_cases : (found : Option Parted) → (found ≡ None) ⊎ ((parted : Parted) × (found ≡ Some parted))

@@ -1,6 +1,5 @@
 -- What is under names: in a list that was mapped, and how many cells all chains have.
-use Rattle.chain_pool.proofs.Common.{◌≡◌, ◌≢◌, ℕ, zero, suc, ◌+◌, ◌≤◌, List, [], ◌∷◌, map, Option, None, refl, sym, ap, arith, sum_by-cons}
-use Rattle.chain_pool.specs.Chains.{under, IsEdit, IsAlike, cells_of, cells_in}
+use Rattle.chain_pool.proofs.Common.{under, IsEdit, IsAlike, cells_of, cells_in, ◌≡◌, ◌≢◌, ℕ, zero, suc, ◌+◌, ◌≤◌, List, [], ◌∷◌, map, Option, None, refl, sym, ap, arith, sum_by-cons}
 
 pub under-map : {A B : Type 0} (f : Option A → Option B) → f None ≡ None → (xs : List (Option A)) (k : ℕ)
     → under (map f xs) k ≡ f (under xs k)

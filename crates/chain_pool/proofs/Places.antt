@@ -1,7 +1,5 @@
 -- The place of a chain: it goes on and back, and the list stays.
-use Rattle.chain_pool.proofs.Common.{◌≡◌, ℕ, List, [], ◌∷◌, ◌++◌, length, reverse, take, drop, Option, Some, None, refl, sym, ap, subst, ◌∙◌, arith, append_assoc, reverse-append, reverse-reverse, length-reverse, take-append-le, take_all, drop-append-le, drop_all, IsSome}
-use Rattle.chain_pool.specs.Chains.{under, IsUnder, IsEdit}
-use Rattle.chain_pool.specs.Memory.{Parted, PartedChains, joined, parted_under, parted_at, advanced, retreated}
+use Rattle.chain_pool.proofs.Common.{under, IsUnder, IsEdit, Parted, PartedChains, joined, parted_under, parted_at, advanced, retreated, ◌≡◌, ℕ, List, [], ◌∷◌, ◌++◌, length, reverse, take, drop, Option, Some, None, refl, sym, ap, subst, ◌∙◌, arith, append_assoc, reverse-append, reverse-reverse, length-reverse, take-append-le, take_all, drop-append-le, drop_all, IsSome}
 use Rattle.chain_pool.proofs.Soundness.{parted_under-is}
 
 some_parted : (found : Option Parted) → IsSome found → (parted : Parted) × (found ≡ Some parted)

@@ -1,10 +1,5 @@
 -- Stacks of cells that are only read.
-use Rattle.chain_pool.proofs.Common.{◌≡◌, ℕ, zero, suc, ◌-◌, ◌<◌, List, [], ◌∷◌, length, get_or, drop, Option, Some, None, refl, sym, ap, subst, ◌∙◌, arith, MatchOption, IsSome}
-use Rattle.chain_pool.specs.Chains.{under}
-use Rattle.chain_pool.specs.Memory.{Memory, Owner, Owners, Left, Right, memory_of, values, IsOwned, IsStack, IsSound, IsEntry, left_of, right_of}
-use Rattle.chain_pool.specs.declared.cells.Cell.{Cell}
-use Rattle.chain_pool.specs.declared.cells.Cell.TheVariants.{Head, Entry}
-use Rattle.chain_pool.specs.declared.cells.Stack.{Stack}
+use Rattle.chain_pool.proofs.Common.{under, Memory, Owner, Owners, Left, Right, memory_of, values, IsOwned, IsStack, IsSound, IsEntry, left_of, right_of, Cell, Head, Entry, Stack, ◌≡◌, ℕ, zero, suc, ◌-◌, ◌<◌, List, [], ◌∷◌, length, get_or, drop, Option, Some, None, refl, sym, ap, subst, ◌∙◌, arith, MatchOption, IsSome}
 use Rattle.chain_pool.proofs.Stacks.{values-none, values-more}
 
 pub IsStack-owned : (h : Memory) (o : Owners) (s : Owner) (n top : ℕ) → IsOwned h o s n top → IsStack h n top

@@ -1,10 +1,5 @@
 -- What chains are after the write of one cell, or of an entry and a head.
-use Rattle.chain_pool.proofs.Common.{◌≡◌, ◌≢◌, ℕ, ◌<◌, List, length, set, Option, Some, None, refl, sym, ap, ◌∙◌, inl, inr, arith, cases_eq, get_or-set_same, get_or-set_other, get_or_past, length-set}
-use Rattle.chain_pool.specs.Chains.{under}
-use Rattle.chain_pool.specs.Memory.{Parted, Memory, Left, Right, memory_of, parted_by, chains_of, left_of, right_of}
-use Rattle.chain_pool.specs.declared.cells.Cell.{Cell}
-use Rattle.chain_pool.specs.declared.cells.Cell.TheVariants.{Head, Entry}
-use Rattle.chain_pool.specs.declared.cells.Stack.{Stack}
+use Rattle.chain_pool.proofs.Common.{under, Parted, Memory, Left, Right, memory_of, parted_by, chains_of, left_of, right_of, Cell, Head, Entry, Stack, ◌≡◌, ◌≢◌, ℕ, ◌<◌, List, length, set, Option, Some, None, refl, sym, ap, ◌∙◌, inl, inr, arith, cases_eq, get_or-set_same, get_or-set_other, get_or_past, length-set}
 use Rattle.chain_pool.proofs.Lookups.{under-map}
 use Rattle.chain_pool.proofs.Transfers.{content, content_of}
 

@@ -1,9 +1,5 @@
 -- What all stacks are after one cell becomes free, or one free cell a head.
-use Rattle.chain_pool.proofs.Common.{◌≡◌, ◌≢◌, ℕ, suc, ◌+◌, ◌-◌, ◌<◌, [], Option, Some, refl, sym, ap, subst, ◌∙◌, inl, inr, arith, cases_eq}
-use Rattle.chain_pool.specs.Memory.{Memory, Owner, Owners, Free, Left, Right, values, IsOwned, AreOwned, left_of, right_of, no_cells}
-use Rattle.chain_pool.specs.declared.cells.Cell.{Cell}
-use Rattle.chain_pool.specs.declared.cells.Cell.TheVariants.{Head, Entry}
-use Rattle.chain_pool.specs.declared.cells.Stack.{Stack}
+use Rattle.chain_pool.proofs.Common.{Memory, Owner, Owners, Free, Left, Right, values, IsOwned, AreOwned, left_of, right_of, no_cells, Cell, Head, Entry, Stack, ◌≡◌, ◌≢◌, ℕ, suc, ◌+◌, ◌-◌, ◌<◌, [], Option, Some, refl, sym, ap, subst, ◌∙◌, inl, inr, arith, cases_eq}
 use Rattle.chain_pool.proofs.Stacks.{Keeps, IsLoose, HasTop, IsOwned-none, IsOwned-more, IsOwned-top, IsOwned-kept, values-none, values-kept, owners_with, owners_with-here, owners_with-others}
 use Rattle.chain_pool.proofs.Transfers.{content, content_of, IsOwnedStack}
 

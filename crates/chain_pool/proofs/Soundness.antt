@@ -1,10 +1,5 @@
 -- How the numbers of a pool stay sound.
-use Rattle.chain_pool.proofs.Common.{◌≡◌, ℕ, ◌+◌, ◌<◌, ◌^◌, List, length, reverse, set, cond, count_by, is_some, Option, Some, None, refl, sym, ap, ◌∙◌, arith, length-append, length-reverse, sum_by-set}
-use Rattle.chain_pool.specs.Chains.{under, IsEdit, IsAlike, cells_of, cells_in}
-use Rattle.chain_pool.specs.Memory.{Parted, Left, Right, memory_of, joined, joined_option, joined_lists, parted_under, chains_of, left_of, right_of, IsSound}
-use Rattle.chain_pool.specs.declared.cells.Cell.{Cell}
-use Rattle.chain_pool.specs.declared.cells.Cell.TheVariants.{Head}
-use Rattle.chain_pool.specs.declared.cells.Stack.{Stack}
+use Rattle.chain_pool.proofs.Common.{under, IsEdit, IsAlike, cells_of, cells_in, Parted, Left, Right, memory_of, joined, joined_option, joined_lists, parted_under, chains_of, left_of, right_of, IsSound, Cell, Head, Stack, ◌≡◌, ℕ, ◌+◌, ◌<◌, ◌^◌, List, length, reverse, set, cond, count_by, is_some, Option, Some, None, refl, sym, ap, ◌∙◌, arith, length-append, length-reverse, sum_by-set}
 use Rattle.chain_pool.proofs.Lookups.{under-map, cells_in-edit, cells_in-alike, cells_of-le}
 use Rattle.chain_pool.proofs.Rewrites.{within, chain_at_head}
 use Rattle.chain_pool.proofs.Stacks.{length-values}

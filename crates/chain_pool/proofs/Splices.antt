@@ -1,7 +1,5 @@
 -- Chains that go: given back, or moved into another.
-use Rattle.chain_pool.proofs.Common.{◌≡◌, ◌≢◌, ℕ, ◌+◌, ◌-◌, ◌<◌, ◌≤◌, List, [], ◌∷◌, ◌++◌, length, reverse, take, drop, get_or, Option, Some, None, refl, sym, ap, ◌∙◌, arith, append_assoc, zero-add, reverse-append, reverse-reverse, append-nil, take_all, drop_all, drop-drop, length-drop, take_more, get_or-drop, nil_from_length}
-use Rattle.chain_pool.specs.Chains.{Chains, under, IsEdit, list_under, cut, spliced}
-use Rattle.chain_pool.specs.Memory.{Parted, PartedChains, joined, joined_option, joined_lists, parted_under, parted_at, pushed, cut_here}
+use Rattle.chain_pool.proofs.Common.{Chains, under, IsEdit, list_under, cut, spliced, Parted, PartedChains, joined, joined_option, joined_lists, parted_under, parted_at, pushed, cut_here, ◌≡◌, ◌≢◌, ℕ, ◌+◌, ◌-◌, ◌<◌, ◌≤◌, List, [], ◌∷◌, ◌++◌, length, reverse, take, drop, get_or, Option, Some, None, refl, sym, ap, ◌∙◌, arith, append_assoc, zero-add, reverse-append, reverse-reverse, append-nil, take_all, drop_all, drop-drop, length-drop, take_more, get_or-drop, nil_from_length}
 use Rattle.chain_pool.proofs.Lists.{list_in}
 use Rattle.chain_pool.proofs.Soundness.{parted_under-is, under-joined, length-joined}
 

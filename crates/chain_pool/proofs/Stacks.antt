@@ -1,7 +1,5 @@
 -- Stacks of cells: what a stack keeps while other cells change.
-use Rattle.chain_pool.proofs.Common.{◌≡◌, ◌≢◌, ◌⊎◌, ℕ, zero, suc, ◌-◌, ◌<◌, cond, eqb, List, [], ◌∷◌, length, Some, refl, sym, ap, subst, ◌∙◌, inl, inr, arith, cases_eq}
-use Rattle.chain_pool.specs.Memory.{Memory, Owner, Owners, Free, Left, Right, values, IsOwned}
-use Rattle.chain_pool.specs.declared.cells.Cell.TheVariants.{Entry}
+use Rattle.chain_pool.proofs.Common.{Memory, Owner, Owners, Free, Left, Right, values, IsOwned, Entry, ◌≡◌, ◌≢◌, ◌⊎◌, ℕ, zero, suc, ◌-◌, ◌<◌, cond, eqb, List, [], ◌∷◌, length, Some, refl, sym, ap, subst, ◌∙◌, inl, inr, arith, cases_eq}
 
 pub values-none : (h : Memory) (top : ℕ) → values h 0 top ≡ []
 unfolding values

@@ -1,8 +1,5 @@
 -- What a change of one or two cells does to all stacks.
-use Rattle.chain_pool.proofs.Common.{◌≡◌, ◌≢◌, ℕ, suc, ◌+◌, ◌-◌, ◌<◌, List, ◌∷◌, Some, sym, ap, subst, ◌∙◌, inl, inr, arith}
-use Rattle.chain_pool.specs.Memory.{Memory, Owner, Owners, values, IsOwned, AreOwned, stack_of}
-use Rattle.chain_pool.specs.declared.cells.Cell.TheVariants.{Entry}
-use Rattle.chain_pool.specs.declared.cells.Stack.{Stack}
+use Rattle.chain_pool.proofs.Common.{Memory, Owner, Owners, values, IsOwned, AreOwned, stack_of, Entry, Stack, ◌≡◌, ◌≢◌, ℕ, suc, ◌+◌, ◌-◌, ◌<◌, List, ◌∷◌, Some, sym, ap, subst, ◌∙◌, inl, inr, arith}
 use Rattle.chain_pool.proofs.Stacks.{Keeps, IsLoose, HasTop, IsOwned-more, IsOwned-top, IsOwned-kept, values-more, values-kept, owners_with, owners_with-here, owners_with-others, owner_cases}
 
 -- the values of a stack

@@ -1,10 +1,5 @@
 -- What the functions over cells know of the slab that they write, and of the chain that they are given.
-use Rattle.chain_pool.proofs.Common.{Slab, with_value, ◌≡◌, ℕ, ◌<◌, List, length, set, Option, Some, None, refl, sym, ap, subst, ◌∙◌, arith, IsSome}
-use Rattle.chain_pool.specs.Chains.{under, IsUnder}
-use Rattle.chain_pool.specs.Memory.{Parted, Memory, Owner, Free, Left, Right, memory_of, parted_by, parted_under, chains_of, stack_of, left_of, right_of, IsSound, IsEntry, values}
-use Rattle.chain_pool.specs.declared.cells.Cell.{Cell}
-use Rattle.chain_pool.specs.declared.cells.Cell.TheVariants.{Head, Entry}
-use Rattle.chain_pool.specs.declared.cells.Stack.{Stack}
+use Rattle.chain_pool.proofs.Common.{under, IsUnder, Parted, Memory, Owner, Free, Left, Right, memory_of, parted_by, parted_under, chains_of, stack_of, left_of, right_of, IsSound, IsEntry, values, Cell, Head, Entry, Stack, Slab, with_value, ◌≡◌, ℕ, ◌<◌, List, length, set, Option, Some, None, refl, sym, ap, subst, ◌∙◌, arith, IsSome}
 use Rattle.chain_pool.proofs.Lookups.{under-map}
 use Rattle.chain_pool.proofs.Rewrites.{chain_at_head}
 use Rattle.chain_pool.proofs.Soundness.{parted_under-is, length-left, length-right}

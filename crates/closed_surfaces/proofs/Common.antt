@@ -1,4 +1,5 @@
--- What proofs of this crate cite of others, passed on from one place (by tools/imports). Declares nothing.
+-- What proofs of this crate cite of its definitions and of other crates, passed on from one place (by tools/imports). Declares nothing.
+pub use Rattle.closed_surfaces.specs.SignedSurfaces.{IsComponentOf, IsPart, IsSigned, surface_of}
 pub use Rattle.connectivity.proofs.CornerLemmas.{corner_used}
 pub use Rattle.manifold_check.proofs.PartPieces.{IsOfComponent, closed_alone, names_within, one_component, piece_of_parts, walk_alone}
 pub use Rattle.manifold_check.proofs.PieceSurfaces.{coherent_alone}

@@ -1,10 +1,9 @@
 -- The component in which a walk lies.
-use Rattle.closed_surfaces.proofs.Common.{walk_alone, ◌≡◌, ℕ, List, get_or, sym, ap, ◌∙◌, subst, Result, Ok, Err, IfOk, FaceList, IsOrientableSurface}
-use Rattle.surf_model.specs.Walks.{IsWalk}
-use Rattle.closed_surfaces.specs.SignedSurfaces.{IsSigned, IsPart, IsComponentOf, surface_of}
+use Rattle.closed_surfaces.proofs.Common.{IsSigned, IsPart, IsComponentOf, surface_of, walk_alone, ◌≡◌, ℕ, List, get_or, sym, ap, ◌∙◌, subst, Result, Ok, Err, IfOk, FaceList, IsOrientableSurface}
 use Rattle.closed_surfaces.specs.declared.component.Component.{Component}
 use Rattle.closed_surfaces.specs.declared.component.Component.TheVariants.{Whole, Alone}
 use Rattle.closed_surfaces.specs.declared.signed_mesh.SignedMesh.{SignedMesh}
+use Rattle.surf_model.specs.Walks.{IsWalk}
 
 -- what a call ends with, by what it ends with besides
 pub if_ok : {V E : Type 0} {P Q : V → Type 0} (result : Result V E) → ((x : V) → P x → Q x) → IfOk result P → IfOk result Q

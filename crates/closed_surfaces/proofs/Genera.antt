@@ -1,14 +1,13 @@
 -- The numbers of a mesh, and the genera of the components of a surface: that they are there, and that there are no others.
-use Rattle.closed_surfaces.proofs.Common.{corner_used, IsOfComponent, piece_of_parts, closed_alone, coherent_alone, ◌≡◌, inl, inr, ℕ, zero, suc, ◌+◌, ◌*◌, ◌<◌, ◌≤◌, Bool, true, eqb, List, ◌∷◌, ◌++◌, length, get_or, refl, sym, ap, ◌∙◌, subst, arith, add-one, [], cases_lt, eq-eqb, ext_get_or, get_or_append_left, get_or_push, length_push, All-head, All-tail, length-range_with_len, get_or-range_with_len, range_with_len, ℤ, pos, ◌+ℤ◌, ◌-ℤ◌, filter, All, some_table, PartsView, AreParts, component_at, component_mesh, EachTwoAreJoined, place_of_face, Edge, IsTableOf, FaceList, IsFaceList, IsFace, face_at, is_used, LiesOnSphere, AreNumbersOf, HasGenus, IsOrientableSurface, signs_among, submesh, IsSurface, SurfaceNumbers}
+use Rattle.closed_surfaces.proofs.Common.{IsPart, corner_used, IsOfComponent, piece_of_parts, closed_alone, coherent_alone, ◌≡◌, inl, inr, ℕ, zero, suc, ◌+◌, ◌*◌, ◌<◌, ◌≤◌, Bool, true, eqb, List, ◌∷◌, ◌++◌, length, get_or, refl, sym, ap, ◌∙◌, subst, arith, add-one, [], cases_lt, eq-eqb, ext_get_or, get_or_append_left, get_or_push, length_push, All-head, All-tail, length-range_with_len, get_or-range_with_len, range_with_len, ℤ, pos, ◌+ℤ◌, ◌-ℤ◌, filter, All, some_table, PartsView, AreParts, component_at, component_mesh, EachTwoAreJoined, place_of_face, Edge, IsTableOf, FaceList, IsFaceList, IsFace, face_at, is_used, LiesOnSphere, AreNumbersOf, HasGenus, IsOrientableSurface, signs_among, submesh, IsSurface, SurfaceNumbers}
+use Rattle.closed_surfaces.specs.ComponentGenera.{AreGeneraOf}
+use Rattle.closed_surfaces.specs.declared.component.Part.{Part}
 use Rattle.manifold_check.proofs.PieceSides.{valid_alone, faces_by_name}
 use Rattle.std.proofs.lemmas.Int.{ints}
 use Rattle.surf_model.proofs.OneTableLemmas.{one_table}
 use Rattle.surf_model.specs.Numbers.{count_below}
 use Rattle.tree_cotree.proofs.GenusLemmas.{table_and_genus}
 use Rattle.closed_surfaces.proofs.SomeParts.{some_parts, same_count, same_places, same_meshes}
-use Rattle.closed_surfaces.specs.SignedSurfaces.{IsPart}
-use Rattle.closed_surfaces.specs.ComponentGenera.{AreGeneraOf}
-use Rattle.closed_surfaces.specs.declared.component.Part.{Part}
 
 -- ---- numbers
 

@@ -1,5 +1,5 @@
 -- What answers for a compact surface is a closed manifold.
-use Rattle.compact_surfaces.proofs.Common.{few_of_two, no_edge_no_side, double_of, mirror_face, rim_quads, HasBoundary, ◌≡◌, ◌⊎◌, ◌↔◌, Bool, false, ℕ, ◌<◌, ◌≤◌, List, ◌++◌, length, map, take, append_assoc, ap, sym, ◌∙◌, subst, inl, inr, arith, true, both_ways, cases_Bool, IsTrue, Option, MatchOption, Edge, IsTableOf, FaceList, HasFileSize, IsFaceList, is_edge, IsOrientableSurface, IsClosedManifold, IsOrientable, sides_between}
+use Rattle.compact_surfaces.proofs.Common.{IsClosedFor, IsCompactSurface, IsCoverBeyond, IsFaultBehind, IsFirstFault, IsKept, first_faces, CompactFault, Cover, OutOfMemory, few_of_two, no_edge_no_side, double_of, mirror_face, rim_quads, HasBoundary, ◌≡◌, ◌⊎◌, ◌↔◌, Bool, false, ℕ, ◌<◌, ◌≤◌, List, ◌++◌, length, map, take, append_assoc, ap, sym, ◌∙◌, subst, inl, inr, arith, true, both_ways, cases_Bool, IsTrue, Option, MatchOption, Edge, IsTableOf, FaceList, HasFileSize, IsFaceList, is_edge, IsOrientableSurface, IsClosedManifold, IsOrientable, sides_between}
 use Rattle.closed_doubles.proofs.DoubleRings.{double_rings}
 use Rattle.closed_doubles.proofs.DoubleSigns.{double_orientable, orientable_there}
 use Rattle.closed_doubles.proofs.SidePlaces.{some_side}
@@ -10,11 +10,6 @@ use Rattle.closed_surfaces.specs.declared.signed_mesh.NoSurface.TheVariants.{Fau
 use Rattle.doubling.proofs.DoubleFaces.{double_size}
 use Rattle.manifold_check.proofs.FaultLemmas.{no_fault}
 use Rattle.std.proofs.Math.Seq.{take-append_seam, take-length}
-use Rattle.compact_surfaces.specs.CompactSurfaces.{IsClosedFor, IsCompactSurface}
-use Rattle.compact_surfaces.specs.Faults.{IsCoverBeyond, IsFaultBehind, IsFirstFault}
-use Rattle.compact_surfaces.specs.Kept.{IsKept, first_faces}
-use Rattle.compact_surfaces.specs.declared.fault.CompactFault.{CompactFault}
-use Rattle.compact_surfaces.specs.declared.fault.CompactFault.TheVariants.{Cover, OutOfMemory}
 
 pub double_manifold : (mesh : FaceList) → IsFaceList mesh → IsCompactSurface mesh → IsClosedManifold (double_of mesh)
 double_manifold mesh valid is = record {

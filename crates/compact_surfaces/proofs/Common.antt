@@ -1,5 +1,11 @@
--- What proofs of this crate cite of others, passed on from one place (by tools/imports). Declares nothing.
+-- What proofs of this crate cite of its definitions and of other crates, passed on from one place (by tools/imports). Declares nothing.
 pub use Rattle.closed_walks.specs.FreeHomotopy.{FreelyHomotopic, IsClosedWalk}
+pub use Rattle.compact_surfaces.specs.CompactSurfaces.{IsClosedFor, IsCompactSurface}
+pub use Rattle.compact_surfaces.specs.Faults.{IsConditionFault, IsCoverBeyond, IsFaultBehind, IsFirstFault, IsLimitFault}
+pub use Rattle.compact_surfaces.specs.Kept.{IsKept, first_faces}
+pub use Rattle.compact_surfaces.specs.Manifolds.{has_signs, mesh_of_manifold}
+pub use Rattle.compact_surfaces.specs.declared.fault.CompactFault.{CompactFault}
+pub use Rattle.compact_surfaces.specs.declared.fault.CompactFault.TheVariants.{Cover, Double, EdgeSides, NoFace, OutOfMemory, Pinched}
 pub use Rattle.component_deciding.specs.WordFinders.{mesh_of_finder}
 pub use Rattle.connectivity.proofs.EdgeCounts.{few_of_two, no_edge_no_side}
 pub use Rattle.doubling.proofs.KeptClasses.{keeps_free_homotopy, keeps_homotopy}
@@ -26,5 +32,5 @@ pub use Rattle.surf_model.specs.Walks.{AreWalkPair, IsWalk}
 pub use Rattle.surf_model.specs.declared.decisions.Answer.TheVariants.{Different}
 pub use Rattle.walk_classes.specs.Faults.{IsClassFault, IsFirstNoWalk}
 pub use Rattle.walk_classes.specs.WalkClasses.{AreClasses, AreInOneClass, IsLeastInClass, walk_at}
-pub use Rattle.walk_classes.specs.declared.fault.ClassFault.TheVariants.{NoWalk, OutOfMemory}
+pub use Rattle.walk_classes.specs.declared.fault.ClassFault.TheVariants.{NoWalk}
 pub use Rattle.walk_translate.specs.Found.{IsFoundOn}

@@ -1,9 +1,5 @@
 -- First faults exclude each other.
-use Rattle.compact_surfaces.specs.CompactSurfaces.{IsClosedFor, IsCompactSurface}
-use Rattle.compact_surfaces.specs.Faults.{IsConditionFault, IsCoverBeyond, IsFirstFault, IsLimitFault}
-use Rattle.compact_surfaces.specs.declared.fault.CompactFault.{CompactFault}
-use Rattle.compact_surfaces.specs.declared.fault.CompactFault.TheVariants.{NoFace, EdgeSides, Pinched, Double, Cover, OutOfMemory}
-use Rattle.compact_surfaces.proofs.Common.{not_too_large, one_limit, one_ways, cover_by, ◌≡◌, ℕ, Bool, List, refl, ap, sym, ◌∙◌, subst, inl, inr, arith, cases_order, FaceList, HasFileSize}
+use Rattle.compact_surfaces.proofs.Common.{IsClosedFor, IsCompactSurface, IsConditionFault, IsCoverBeyond, IsFirstFault, IsLimitFault, CompactFault, NoFace, EdgeSides, Pinched, Double, Cover, OutOfMemory, not_too_large, one_limit, one_ways, cover_by, ◌≡◌, ℕ, Bool, List, refl, ap, sym, ◌∙◌, subst, inl, inr, arith, cases_order, FaceList, HasFileSize}
 use Rattle.connectivity.specs.Joined.{IsLeastPinch}
 use Rattle.doubling.specs.DoubleFaults.{IsTooLarge}
 use Rattle.doubling.specs.declared.fault.DoubleFault.{DoubleFault}

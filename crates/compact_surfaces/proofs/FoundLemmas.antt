@@ -1,5 +1,5 @@
 -- What is found on the double is found on the mesh, and what is found of lifts is found of the walks below.
-use Rattle.compact_surfaces.proofs.Common.{keeps_homotopy, kept_walk, double_of, lift_is_walk, lifts_homotopic, cover_by, lift_by, AreWays, ◌≡◌, ◌↔◌, ℕ, ◌+◌, ◌<◌, Bool, true, List, get_or, sym, ◌∙◌, subst, inl, inr, arith, All, Option, Some, None, list_keeps_ends, Edge, FaceList, IsFaceList, is_edge, is_used, Homotopic, AreWalkPair, IsWalk, Different, IsFoundOn}
+use Rattle.compact_surfaces.proofs.Common.{IsKept, keeps_homotopy, kept_walk, double_of, lift_is_walk, lifts_homotopic, cover_by, lift_by, AreWays, ◌≡◌, ◌↔◌, ℕ, ◌+◌, ◌<◌, Bool, true, List, get_or, sym, ◌∙◌, subst, inl, inr, arith, All, Option, Some, None, list_keeps_ends, Edge, FaceList, IsFaceList, is_edge, is_used, Homotopic, AreWalkPair, IsWalk, Different, IsFoundOn}
 use Rattle.closed_doubles.proofs.JoinedDoubles.{fold_used}
 use Rattle.connectivity.proofs.EdgeLemmas.{edge_differs, used_below}
 use Rattle.doubling.proofs.FoldedSides.{edge_folds}
@@ -7,7 +7,6 @@ use Rattle.doubling.proofs.RepeatLemmas.{fold_kept}
 use Rattle.doubling.proofs.ValidDoubles.{double_valid}
 use Rattle.doubling.specs.Folds.{fold}
 use Rattle.surf_model.specs.declared.decisions.Answer.{Answer}
-use Rattle.compact_surfaces.specs.Kept.{IsKept}
 
 -- ---- the double
 

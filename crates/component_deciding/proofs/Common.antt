@@ -1,5 +1,11 @@
--- What proofs of this crate cite of others, passed on from one place (by tools/imports). Declares nothing.
+-- What proofs of this crate cite of its definitions and of other crates, passed on from one place (by tools/imports). Declares nothing.
 pub use Rattle.closed_walks.specs.FreeHomotopy.{FreeStep, FreelyHomotopic, FreelyLeads, IsClosedWalk, Moved, Rotated, after_all_free, after_free}
+pub use Rattle.component_deciding.specs.ComponentWords.{AreLabelledApart, IsOwnLabelled, IsWordAmong, IsWordAt, SeveralView, labelled_at, unboxed}
+pub use Rattle.component_deciding.specs.OwnVertices.{AreOwnNumbers, IsApart, IsOwnWalk, own_mesh, own_walk}
+unfoldable pub use Rattle.component_deciding.specs.OwnVertices.{own_number}
+pub use Rattle.component_deciding.specs.declared.apart.Apart.{Apart}
+pub use Rattle.component_deciding.specs.declared.order.Placed.{Placed}
+pub use Rattle.component_deciding.specs.declared.own_numbers.OwnNumbers.{OwnNumbers}
 pub use Rattle.manifold_check.proofs.MeasureLemmas.{count_of_passing, place_of_used, unused_counted, used_alike, used_counted, vertices_counted}
 pub use Rattle.manifold_check.proofs.PartPieces.{IsOfComponent, closed_alone, names_within, piece_of_parts, walk_alone, walk_same_place, walk_whole}
 pub use Rattle.manifold_check.proofs.PieceLemmas.{IsPiece, face-submesh, length-submesh, used_down}

@@ -1,11 +1,9 @@
 -- The vertices of components by their own numbers, the faces of a component, and the walks there.
-use Rattle.component_deciding.proofs.Common.{count_of_passing, place_of_used, used_alike, IsOfComponent, piece_of_parts, IsPiece, face-submesh, length-submesh, total_renamed, valid_renamed, ◌≡◌, inl, inr, ℕ, ◌+◌, ◌<◌, ◌≤◌, true, eqb, List, [], ◌∷◌, ◌++◌, length, get_or, take, ap, sym, ◌∙◌, subst, arith, cases_lt, map-append, map_more, get_or_default, get_or-map, get_or_append_left, get_or_push, length-map, take_more, filter_agree, range_with_len, corner_used, map_agree, IsCounted, PartsView, AreParts, component_at, component_mesh, FaceList, IsFace, IsFaceList, HasFileSize, face_at, is_used, total_sides, numbers, VertexName}
+use Rattle.component_deciding.proofs.Common.{AreOwnNumbers, own_mesh, own_number, own_walk, OwnNumbers, count_of_passing, place_of_used, used_alike, IsOfComponent, piece_of_parts, IsPiece, face-submesh, length-submesh, total_renamed, valid_renamed, ◌≡◌, inl, inr, ℕ, ◌+◌, ◌<◌, ◌≤◌, true, eqb, List, [], ◌∷◌, ◌++◌, length, get_or, take, ap, sym, ◌∙◌, subst, arith, cases_lt, map-append, map_more, get_or_default, get_or-map, get_or_append_left, get_or_push, length-map, take_more, filter_agree, range_with_len, corner_used, map_agree, IsCounted, PartsView, AreParts, component_at, component_mesh, FaceList, IsFace, IsFaceList, HasFileSize, face_at, is_used, total_sides, numbers, VertexName}
 use Rattle.manifold_check.proofs.PieceSides.{valid_alone, small_alone}
 use Rattle.std.proofs.lemmas.List.Sums.{sum_by_more_le}
 use Rattle.std.specs.Prelude.{map}
 use Rattle.surf_model.specs.declared.limits.TheConstants.{MOST_SIDES}
-use Rattle.component_deciding.specs.OwnVertices.{AreOwnNumbers, own_mesh, own_number, own_walk}
-use Rattle.component_deciding.specs.declared.own_numbers.OwnNumbers.{OwnNumbers}
 use Rattle.component_deciding.proofs.OwnLemmas.{own_renamed}
 
 -- ---- the numbers of vertices

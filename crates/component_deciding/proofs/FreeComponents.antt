@@ -1,5 +1,5 @@
 -- Free homotopy of closed walks on a mesh, and on a component over its own vertices.
-use Rattle.component_deciding.proofs.Common.{FreeStep, FreelyHomotopic, FreelyLeads, IsClosedWalk, Moved, Rotated, after_all_free, after_free, IsOfComponent, piece_of_parts, walk_alone, walk_same_place, walk_whole, homotopic_alike, homotopic_renamed, led_back, valid_renamed, ends_renamed, restored, walk_renamed, IsRenamed, ◌≡◌, ◌↔◌, ℕ, ◌<◌, List, [], ◌∷◌, ◌++◌, length, get_or, map, refl, ap, sym, ◌∙◌, subst, arith, map-append, Some, used_below, component_at, component_mesh, FaceList, IsFaceList, HasGenus, Homotopic, AreJoinedByWalk, IsWalk, AreWalkPair, darts}
+use Rattle.component_deciding.proofs.Common.{FreeStep, FreelyHomotopic, FreelyLeads, IsClosedWalk, Moved, Rotated, after_all_free, after_free, IsApart, IsOwnWalk, own_mesh, own_number, own_walk, Apart, IsOfComponent, piece_of_parts, walk_alone, walk_same_place, walk_whole, homotopic_alike, homotopic_renamed, led_back, valid_renamed, ends_renamed, restored, walk_renamed, IsRenamed, ◌≡◌, ◌↔◌, ℕ, ◌<◌, List, [], ◌∷◌, ◌++◌, length, get_or, map, refl, ap, sym, ◌∙◌, subst, arith, map-append, Some, used_below, component_at, component_mesh, FaceList, IsFaceList, HasGenus, Homotopic, AreJoinedByWalk, IsWalk, AreWalkPair, darts}
 use Rattle.closed_walks.proofs.FreeStepLemmas.{on, parts_turn, step_keeps}
 use Rattle.closed_walks.proofs.MovedSteps.{freely}
 use Rattle.free_loops.proofs.ClosedLoopLemmas.{common_ends, way_ends}
@@ -7,8 +7,6 @@ use Rattle.polygon_cut.proofs.WalkLemmas.{walk_way}
 use Rattle.polygon_cut.proofs.WayLemmas.{IsWay, back, way_home, way_on, way_walk}
 use Rattle.surf_model.proofs.ContextLemmas.{first_answer}
 use Rattle.surf_model.proofs.WayBackLemmas.{keeps_ends}
-use Rattle.component_deciding.specs.OwnVertices.{IsApart, IsOwnWalk, own_mesh, own_number, own_walk}
-use Rattle.component_deciding.specs.declared.apart.Apart.{Apart}
 use Rattle.component_deciding.proofs.ComponentLemmas.{IsNumbered, component_valid}
 use Rattle.component_deciding.proofs.OwnLemmas.{own_renamed, used_vertex}
 use Rattle.component_deciding.proofs.OwnSurfaces.{own_homotopic}

@@ -1,8 +1,7 @@
 -- What is asked of pairs in an order: one more, and all of them.
-use Rattle.component_deciding.proofs.Common.{◌≡◌, ◌≢◌, inl, inr, ℕ, ◌+◌, ◌<◌, ◌≤◌, eqb, List, length, get_or, set, map, sym, ap, ◌∙◌, subst, arith, get_or-set_same, get_or-set_other, cases_Bool, cases_lt, eqb-true, eq-eqb, both_ways, get_or_default, get_or-map, length-map, All-permutation, Contains-permutation, length_permutation, range_with_len, All, Contains}
-use Rattle.std.proofs.lemmas.List.FromFn.{length-range_with_len, get_or-range_with_len}
+use Rattle.component_deciding.proofs.Common.{Placed, ◌≡◌, ◌≢◌, inl, inr, ℕ, ◌+◌, ◌<◌, ◌≤◌, eqb, List, length, get_or, set, map, sym, ap, ◌∙◌, subst, arith, get_or-set_same, get_or-set_other, cases_Bool, cases_lt, eqb-true, eq-eqb, both_ways, get_or_default, get_or-map, length-map, All-permutation, Contains-permutation, length_permutation, range_with_len, All, Contains}
 use Rattle.component_deciding.specs.Orders.{AreAllPairs}
-use Rattle.component_deciding.specs.declared.order.Placed.{Placed}
+use Rattle.std.proofs.lemmas.List.FromFn.{length-range_with_len, get_or-range_with_len}
 
 -- the numbers in an order
 abbrev pub pairs_of : List Placed → List ℕ

@@ -1,7 +1,6 @@
 -- The vertices that a mesh uses, by number: each has its own, and they lead to the mesh over them alone.
-use Rattle.component_deciding.proofs.Common.{count_passes, IsRenamed, ◌≡◌, inl, inr, ℕ, zero, suc, ◌<◌, Bool, true, false, ◌&&◌, cond, eqb, refl, ap, sym, ◌∙◌, subst, arith, cases_lt, eq-eqb, ne_eqb, and_right, used_below, FaceList, IsFaceList, is_used}
+use Rattle.component_deciding.proofs.Common.{own_number, own_mesh, count_passes, IsRenamed, ◌≡◌, inl, inr, ℕ, zero, suc, ◌<◌, Bool, true, false, ◌&&◌, cond, eqb, refl, ap, sym, ◌∙◌, subst, arith, cases_lt, eq-eqb, ne_eqb, and_right, used_below, FaceList, IsFaceList, is_used}
 use Rattle.surf_model.specs.Numbers.{count_below}
-use Rattle.component_deciding.specs.OwnVertices.{own_number, own_mesh}
 
 -- the number below n that passes and has i such numbers before it
 abbrev pub passing_at : (ℕ → Bool) → (n i : ℕ) → ℕ

@@ -1,9 +1,6 @@
 -- A component over its own vertices is a connected orientable closed surface, and its walks are homotopic there as on the whole mesh.
-use Rattle.component_deciding.proofs.Common.{IsOfComponent, closed_alone, piece_of_parts, walk_alone, walk_whole, used_down, homotopic_alike, coherent_alone, homotopic_renamed, led_back, list_restored, ends_renamed, joined_renamed, walk_renamed, IsRenamed, ◌≡◌, ◌↔◌, ℕ, ◌<◌, Bool, true, List, length, get_or, map, sym, ap, ◌∙◌, subst, All-weaker, All, Option, None, Some, map_agree, PartsView, component_at, component_mesh, EachTwoAreJoined, FaceList, IsFaceList, is_used, Homotopic, signs_among, IsClosedManifold, IsClosed, IsCoherent, IsWalk, HaveCommonEnds, AreWalkPair, Answer, IsFoundOn}
+use Rattle.component_deciding.proofs.Common.{AreOwnNumbers, IsApart, IsOwnWalk, own_mesh, own_number, own_walk, Apart, OwnNumbers, IsOfComponent, closed_alone, piece_of_parts, walk_alone, walk_whole, used_down, homotopic_alike, coherent_alone, homotopic_renamed, led_back, list_restored, ends_renamed, joined_renamed, walk_renamed, IsRenamed, ◌≡◌, ◌↔◌, ℕ, ◌<◌, Bool, true, List, length, get_or, map, sym, ap, ◌∙◌, subst, All-weaker, All, Option, None, Some, map_agree, PartsView, component_at, component_mesh, EachTwoAreJoined, FaceList, IsFaceList, is_used, Homotopic, signs_among, IsClosedManifold, IsClosed, IsCoherent, IsWalk, HaveCommonEnds, AreWalkPair, Answer, IsFoundOn}
 use Rattle.renaming.proofs.RenamedSurfaces.{closed_renamed, coherent_renamed}
-use Rattle.component_deciding.specs.OwnVertices.{AreOwnNumbers, IsApart, IsOwnWalk, own_mesh, own_number, own_walk}
-use Rattle.component_deciding.specs.declared.apart.Apart.{Apart}
-use Rattle.component_deciding.specs.declared.own_numbers.OwnNumbers.{OwnNumbers}
 use Rattle.component_deciding.proofs.ComponentLemmas.{IsNumbered, component_valid}
 use Rattle.component_deciding.proofs.OwnLemmas.{own_renamed, used_vertex}
 

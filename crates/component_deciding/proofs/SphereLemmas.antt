@@ -1,11 +1,9 @@
 -- Components of genus 0, on which any two walks with common ends are homotopic.
-use Rattle.component_deciding.proofs.Common.{IsOfComponent, closed_alone, piece_of_parts, homotopic_alike, coherent_alone, ◌≡◌, ◌↔◌, ℕ, ◌<◌, List, length, get_or, subst, arith, PartsView, AreParts, component_at, component_mesh, FaceList, IsFaceList, HasGenus, Homotopic, signs_among, IsSurface, AreWalkPair}
+use Rattle.component_deciding.proofs.Common.{IsApart, Apart, IsOfComponent, closed_alone, piece_of_parts, homotopic_alike, coherent_alone, ◌≡◌, ◌↔◌, ℕ, ◌<◌, List, length, get_or, subst, arith, PartsView, AreParts, component_at, component_mesh, FaceList, IsFaceList, HasGenus, Homotopic, signs_among, IsSurface, AreWalkPair}
 use Rattle.closed_surfaces.proofs.Genera.{one_genus}
 use Rattle.closed_surfaces.proofs.SomeParts.{same_count, same_meshes}
 use Rattle.closed_surfaces.specs.ComponentGenera.{AreGeneraOf}
 use Rattle.polygon_cut.proofs.GenusLemmas.{homotopic_at_genus_0}
-use Rattle.component_deciding.specs.OwnVertices.{IsApart}
-use Rattle.component_deciding.specs.declared.apart.Apart.{Apart}
 use Rattle.component_deciding.proofs.ComponentLemmas.{IsNumbered, component_valid}
 use Rattle.component_deciding.proofs.OwnSurfaces.{own_pair}
 

@@ -1,12 +1,9 @@
 -- What words of walks decide, on a connected surface and among several components.
-use Rattle.component_deciding.proofs.Common.{◌≡◌, ◌≢◌, ◌↔◌, inl, inr, ℕ, zero, suc, ◌<◌, eqb, List, [], ◌∷◌, ◌++◌, length, get_or, set, get_or-set_same, get_or-set_other, sym, ap, ◌∙◌, refl, subst, length-set, both_ways, cases_Bool, eq-eqb, eqb-true, Box, IfSome, MatchOption, None, Option, Some, component_mesh, FaceList, HasGenus, Homotopic, IsWalk, AreWalkPair, Answer, DoDecide, IsFoundOn, IsWordFound, IsWordUnder, LabelledView}
+use Rattle.component_deciding.proofs.Common.{AreLabelledApart, IsOwnLabelled, IsWordAmong, IsWordAt, SeveralView, labelled_at, unboxed, IsApart, IsOwnWalk, own_mesh, own_walk, Apart, ◌≡◌, ◌≢◌, ◌↔◌, inl, inr, ℕ, zero, suc, ◌<◌, eqb, List, [], ◌∷◌, ◌++◌, length, get_or, set, get_or-set_same, get_or-set_other, sym, ap, ◌∙◌, refl, subst, length-set, both_ways, cases_Bool, eq-eqb, eqb-true, Box, IfSome, MatchOption, None, Option, Some, component_mesh, FaceList, HasGenus, Homotopic, IsWalk, AreWalkPair, Answer, DoDecide, IsFoundOn, IsWordFound, IsWordUnder, LabelledView}
 use Rattle.turn_words.specs.declared.word.Word.{Word}
 use Rattle.turn_words.specs.declared.word.Word.TheVariants.{Turns}
 use Rattle.walk_translate.proofs.DecidingLemmas.{under_decide}
 use Rattle.surf_model.specs.declared.decisions.Answer.TheVariants as answers
-use Rattle.component_deciding.specs.ComponentWords.{AreLabelledApart, IsOwnLabelled, IsWordAmong, IsWordAt, SeveralView, labelled_at, unboxed}
-use Rattle.component_deciding.specs.OwnVertices.{IsApart, IsOwnWalk, own_mesh, own_walk}
-use Rattle.component_deciding.specs.declared.apart.Apart.{Apart}
 use Rattle.component_deciding.proofs.ComponentLemmas.{IsNumbered}
 use Rattle.component_deciding.proofs.OwnSurfaces.{own_homotopic, own_walks, walk_back}
 use Rattle.component_deciding.proofs.SphereLemmas.{homotopic_on_sphere}

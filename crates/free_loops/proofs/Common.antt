@@ -1,10 +1,11 @@
--- What proofs of this crate cite of others, passed on from one place (by tools/imports). Declares nothing.
+-- What proofs of this crate cite of its definitions and of other crates, passed on from one place (by tools/imports). Declares nothing.
 pub use Rattle.closed_walks.proofs.FreeStepLemmas.{closes, end_is, end_of, on, parts_turn, turn}
 pub use Rattle.closed_walks.proofs.MovedSteps.{freely}
 pub use Rattle.closed_walks.specs.FreeHomotopy.{FreelyHomotopic, IsClosedWalk}
 pub use Rattle.flat_forms.specs.FlatStates.{IsEven, IsFlatWheel, flat_next}
 pub use Rattle.flat_forms.specs.Pairs.{spokes_of, sum_of_pairs}
 pub use Rattle.flat_forms.specs.Vectors.{Vector, less, origin, plus, unit_step}
+pub use Rattle.free_loops.specs.CyclicForms.{IsCyclicFormOf}
 pub use Rattle.halfedge_map.specs.OrientedMeshes.{IsOrientedSurface, OrientedMesh}
 pub use Rattle.labellings.proofs.WalkWordLemmas.{flat_wheel_of_good, quad_path_below, quad_path_in_pairs, quad_path_leads_to_sum}
 pub use Rattle.labellings.specs.GoodLabellings.{IsGood}

@@ -1,11 +1,10 @@
 -- What the forms of two closed walks decide, on the surface from which the polygon of the labelling was cut.
-use Rattle.free_loops.proofs.Common.{IsClosedWalk, FreelyHomotopic, flat_next, Vector, origin, OrientedMesh, IsOrientedSurface, quad_path_leads_to_sum, LabellingView, quad_path, IsWordOf, IsFullWheel, IsRotation, ◌≡◌, ◌↔◌, ℕ, Bool, ◌<◌, ◌≤◌, List, [], ◌∷◌, ap, sym, ◌∙◌, subst, arith, ℤ, IsTrue, FaceList, led, Turns, Flat, cut_is_good, HasSphereSplit, IsLabelledByCut}
+use Rattle.free_loops.proofs.Common.{IsClosedWalk, FreelyHomotopic, flat_next, Vector, origin, IsCyclicFormOf, OrientedMesh, IsOrientedSurface, quad_path_leads_to_sum, LabellingView, quad_path, IsWordOf, IsFullWheel, IsRotation, ◌≡◌, ◌↔◌, ℕ, Bool, ◌<◌, ◌≤◌, List, [], ◌∷◌, ap, sym, ◌∙◌, subst, arith, ℤ, IsTrue, FaceList, led, Turns, Flat, cut_is_good, HasSphereSplit, IsLabelledByCut}
+use Rattle.free_loops.specs.declared.deciding.FreeAnswer.{FreeAnswer}
+use Rattle.free_loops.specs.declared.deciding.FreeAnswer.TheVariants.{Freely}
 use Rattle.joined_loops.proofs.FlatWalks.{one_sum}
 use Rattle.joined_loops.proofs.FreeWalks.{one_cyclic_form}
 use Rattle.turn_words.specs.declared.word.Word.{Word}
-use Rattle.free_loops.specs.declared.deciding.FreeAnswer.{FreeAnswer}
-use Rattle.free_loops.specs.declared.deciding.FreeAnswer.TheVariants.{Freely}
-use Rattle.free_loops.specs.CyclicForms.{IsCyclicFormOf}
 use Rattle.free_loops.proofs.CutWheelLemmas.{full_wheel}
 use Rattle.free_loops.proofs.FreeWordLemmas.{closed_way, sphere_free, rotations_free}
 use Rattle.free_loops.proofs.PlaneLemmas.{sums_free}

@@ -1,13 +1,12 @@
 -- The cyclic form of a closed walk, by way of its canonical word: elementary steps lead from the turn word of the quad path to that
 -- word, so loop steps lead from the quad path to the word's spokes.
-use Rattle.free_loops.proofs.Common.{quad_path_below, IsGood, LabellingView, quad_path, IsWordOf, leads-on, IsLoop, IsFullWheel, IsCyclicallyCanonical, LoopLeads, ◌≡◌, ℕ, ◌%◌, ◌<◌, List, length, ap, sym, ◌∙◌, subst, All, FaceList, led, turn_word_of, Reaches, Turns}
+use Rattle.free_loops.proofs.Common.{IsCyclicFormOf, quad_path_below, IsGood, LabellingView, quad_path, IsWordOf, leads-on, IsLoop, IsFullWheel, IsCyclicallyCanonical, LoopLeads, ◌≡◌, ℕ, ◌%◌, ◌<◌, List, length, ap, sym, ◌∙◌, subst, All, FaceList, led, turn_word_of, Reaches, Turns}
 use Rattle.joined_loops.proofs.Going.{led-even}
 use Rattle.turn_words.proofs.Spokes.{turns, canonical}
 use Rattle.turn_words.proofs.Unique.{unique}
 use Rattle.turn_words.specs.Canonical.{IsCanonicalOf}
 use Rattle.turn_words.specs.HyperStates.{IsEven, empty_state, hyper_next}
 use Rattle.turn_words.specs.Lemmas.HyperLaws.{hyper_starts}
-use Rattle.free_loops.specs.CyclicForms.{IsCyclicFormOf}
 use Rattle.free_loops.proofs.ClosedLoopLemmas.{even_path}
 use Rattle.free_loops.proofs.SpellingLemmas.{as_many}
 use Rattle.free_loops.proofs.WordStepLemmas.{reached_leads}

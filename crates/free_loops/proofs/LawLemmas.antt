@@ -1,6 +1,5 @@
 -- What decides free homotopy, said of the polygon that was cut.
-use Rattle.free_loops.proofs.Common.{IsClosedWalk, FreelyHomotopic, flat_next, origin, OrientedMesh, IsOrientedSurface, quad_path, PolygonView, IsCutFrom, labelling_from, IsRotation, ◌≡◌, ◌↔◌, ℕ, ◌<◌, ◌≤◌, List, refl, arith, SplitView, IsSplit, led, IsLabelledByCut}
-use Rattle.free_loops.specs.CyclicForms.{IsCyclicFormOf}
+use Rattle.free_loops.proofs.Common.{IsClosedWalk, FreelyHomotopic, flat_next, origin, IsCyclicFormOf, OrientedMesh, IsOrientedSurface, quad_path, PolygonView, IsCutFrom, labelling_from, IsRotation, ◌≡◌, ◌↔◌, ℕ, ◌<◌, ◌≤◌, List, refl, arith, SplitView, IsSplit, led, IsLabelledByCut}
 use Rattle.free_loops.proofs.DecidingLemmas.{sphere_frees, points_free, free_points, forms_free, free_forms}
 
 -- the labelling of a polygon is one that a cut gives

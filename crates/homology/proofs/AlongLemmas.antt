@@ -1,6 +1,5 @@
 -- Sums along walks: of parts, of a part put in another's place, and of the ways round a face.
-use Rattle.homology.proofs.Common.{◌≡◌, inl, inr, ℕ, zero, suc, ◌+◌, ◌-◌, ◌<◌, ◌≤◌, Bool, true, false, List, [], ◌∷◌, ◌++◌, length, get_or, refl, ap, sym, ◌∙◌, arith, ℤ, pos, ◌+ℤ◌, ◌-ℤ◌, cases_lt, nat_tests, ints, neg_ℤ, AreAlike, at_first, at_last, next_corner, corners_from}
-use Rattle.homology.specs.Sums.{along, round}
+use Rattle.homology.proofs.Common.{along, round, ◌≡◌, inl, inr, ℕ, zero, suc, ◌+◌, ◌-◌, ◌<◌, ◌≤◌, Bool, true, false, List, [], ◌∷◌, ◌++◌, length, get_or, refl, ap, sym, ◌∙◌, arith, ℤ, pos, ◌+ℤ◌, ◌-ℤ◌, cases_lt, nat_tests, ints, neg_ℤ, AreAlike, at_first, at_last, next_corner, corners_from}
 
 -- up to an entry, and from there on
 pub along-join : (number : ℕ → ℕ → ℤ) (front rest : List ℕ) (x : ℕ)

@@ -1,16 +1,9 @@
 -- What is accepted of an array, and that nothing else is.
-use Rattle.homology.proofs.Common.{◌≡◌, ℕ, List, length, refl, ap, ◌∙◌, subst, arith, ℤ, ◌↔◌, FaceList}
-use Rattle.homology.specs.ArrayCertificates.{AreChainNumbers, AreCocycleNumbers}
+use Rattle.homology.proofs.Common.{AreChainNumbers, AreCocycleNumbers, IsChain, IsCocycle, Separates, AreWithin, IsChainVerdict, IsCocycleVerdict, MOST_NUMBER, HomologyVerdict, Face, Sum, Zero, Accepted, ◌≡◌, ℕ, List, length, refl, ap, ◌∙◌, subst, arith, ℤ, ◌↔◌, FaceList}
 use Rattle.homology.specs.ArrayVerdicts.{IsArrayChainVerdict, IsArrayCocycleVerdict}
-use Rattle.homology.specs.Chains.{IsChain}
-use Rattle.homology.specs.Cocycles.{IsCocycle, Separates}
-use Rattle.homology.specs.Tallies.{AreWithin}
-use Rattle.homology.specs.Verdicts.{IsChainVerdict, IsCocycleVerdict}
 use Rattle.homology.specs.declared.array_check.ArrayVerdict.{ArrayVerdict}
 use Rattle.homology.specs.declared.array_check.ArrayVerdict.TheVariants.{Count, Large, Uneven, Judged}
-use Rattle.homology.specs.declared.certificate.TheConstants.{MOST_NUMBER}
-use Rattle.homology.specs.declared.verdict.HomologyVerdict.{HomologyVerdict}
-use Rattle.homology.specs.declared.verdict.HomologyVerdict.TheVariants.{Face, Edge, Sum, Zero, Accepted}
+use Rattle.homology.specs.declared.verdict.HomologyVerdict.TheVariants.{Edge}
 use Rattle.homology.proofs.SideNumberLemmas.{length-side_numbers}
 
 -- a chain has no other verdict

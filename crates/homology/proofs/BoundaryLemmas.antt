@@ -1,8 +1,6 @@
 -- Sums over all sides of a mesh, face by face: the boundary of numbered faces.
-use Rattle.homology.proofs.Common.{◌≡◌, inl, inr, ℕ, zero, suc, ◌+◌, ◌<◌, List, [], ◌∷◌, ◌++◌, length, get_or, refl, ap, ap₂, sym, ◌∙◌, arith, ℤ, pos, ◌+ℤ◌, *ℤ-zero, zero-*ℤ, cases_Bool, nat_tests, ints, enumerate_from, range_with_len, ◌*ℤ◌, neg_ℤ, map, flat_map, nat_eq, ◌==◌, if◌then◌else◌, face_side, FaceList, FaceSide, all_sides, sides_of_face, face_at}
+use Rattle.homology.proofs.Common.{boundary, total, along, round, share, ◌≡◌, inl, inr, ℕ, zero, suc, ◌+◌, ◌<◌, List, [], ◌∷◌, ◌++◌, length, get_or, refl, ap, ap₂, sym, ◌∙◌, arith, ℤ, pos, ◌+ℤ◌, *ℤ-zero, zero-*ℤ, cases_Bool, nat_tests, ints, enumerate_from, range_with_len, ◌*ℤ◌, neg_ℤ, map, flat_map, nat_eq, ◌==◌, if◌then◌else◌, face_side, FaceList, FaceSide, all_sides, sides_of_face, face_at}
 use Rattle.std.specs.Prelude.{◌&&◌}
-use Rattle.homology.specs.Sums.{total, along, round, share}
-use Rattle.homology.specs.Chains.{boundary}
 use Rattle.homology.proofs.RingLemmas.{times-sum, sum-times, times-one, times-minus}
 use Rattle.homology.proofs.AlongLemmas.{IsOpposite, first_sides, side_number_at, round-sides}
 

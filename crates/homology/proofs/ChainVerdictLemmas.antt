@@ -1,9 +1,5 @@
 -- The verdict on a chain, from what is left at each edge.
-use Rattle.homology.proofs.Common.{◌≡◌, ◌≢◌, ℕ, zero, suc, ◌<◌, ◌≤◌, List, [], ◌∷◌, length, refl, ap, ap₂, sym, ◌∙◌, subst, arith, ℤ, pos, negsuc, ◌+ℤ◌, nat_tests, ints, map, IsTrue, neg_ℤ, unsigned_abs, replicate, IsEdgeBetween, edge_between, same_pair, table_pair, place_before, Edge, IsTableOf, IsPairBefore, edge_in, FaceList, FaceSide, all_sides, is_edge}
-use Rattle.homology.specs.Sums.{total, along, share}
-use Rattle.homology.specs.Chains.{IsChain, boundary, count_difference}
-use Rattle.homology.specs.Verdicts.{IsBalancedAt, IsLeastUnbalanced}
-use Rattle.homology.specs.Tallies.{number_at, GrewBy, AreWithin, AreNumbersOf, IsLeft}
+use Rattle.homology.proofs.Common.{IsChain, boundary, count_difference, total, along, share, number_at, GrewBy, AreWithin, AreNumbersOf, IsLeft, IsBalancedAt, IsLeastUnbalanced, ◌≡◌, ◌≢◌, ℕ, zero, suc, ◌<◌, ◌≤◌, List, [], ◌∷◌, length, refl, ap, ap₂, sym, ◌∙◌, subst, arith, ℤ, pos, negsuc, ◌+ℤ◌, nat_tests, ints, map, IsTrue, neg_ℤ, unsigned_abs, replicate, IsEdgeBetween, edge_between, same_pair, table_pair, place_before, Edge, IsTableOf, IsPairBefore, edge_in, FaceList, FaceSide, all_sides, is_edge}
 
 -- faces with the same numbers have the same boundary
 pub boundary_agrees : (mesh : FaceList) (one other : ℕ → ℤ) (low high : ℕ) → ((f : ℕ) → one f ≡ other f)

@@ -1,9 +1,5 @@
 -- The sums of a cocycle, dart by dart, and what a test of one says.
-use Rattle.homology.proofs.Common.{◌≡◌, inl, inr, ℕ, suc, ◌+◌, ◌*◌, ◌^◌, ◌<◌, ◌≤◌, List, [], ◌∷◌, length, get_or, take, refl, ap, sym, ◌∙◌, subst, arith, ℤ, pos, ◌+ℤ◌, to_z, of_z, w64, nat_tests, fits_signed_from_abs, neg_ℤ, unsigned_abs, Contains, FitsSigned, head_of, Edge, IsTableOf, HasEnds, edge_in, FaceList, face_at, Side}
-use Rattle.homology.specs.Sums.{along}
-use Rattle.homology.specs.Cocycles.{dart_number}
-use Rattle.homology.specs.Tallies.{number_at, turned, AreNumbersOf}
-use Rattle.homology.specs.declared.certificate.TheConstants.{MOST_NUMBER}
+use Rattle.homology.proofs.Common.{dart_number, along, number_at, turned, AreNumbersOf, MOST_NUMBER, ◌≡◌, inl, inr, ℕ, suc, ◌+◌, ◌*◌, ◌^◌, ◌<◌, ◌≤◌, List, [], ◌∷◌, length, get_or, take, refl, ap, sym, ◌∙◌, subst, arith, ℤ, pos, ◌+ℤ◌, to_z, of_z, w64, nat_tests, fits_signed_from_abs, neg_ℤ, unsigned_abs, Contains, FitsSigned, head_of, Edge, IsTableOf, HasEnds, edge_in, FaceList, face_at, Side}
 use Rattle.homology.proofs.SizeLemmas.{size-sum, sent}
 use Rattle.homology.proofs.AlongLemmas.{first_sides}
 use Rattle.homology.proofs.TallyLemmas.{along-next, ends_of_side}

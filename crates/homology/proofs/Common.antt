@@ -1,4 +1,18 @@
--- What proofs of this crate cite of others, passed on from one place (by tools/imports). Declares nothing.
+-- What proofs of this crate cite of its definitions and of other crates, passed on from one place (by tools/imports). Declares nothing.
+pub use Rattle.homology.specs.ArrayCertificates.{AreChainNumbers, AreCocycleNumbers, side_numbers}
+pub use Rattle.homology.specs.Certificates.{AreEdgeNumbers, AreFaceNumbers, edge_number, face_number, listed_number}
+pub use Rattle.homology.specs.Chains.{IsChain, boundary, count_difference, count_of, crossing, net_crossings}
+pub use Rattle.homology.specs.Cocycles.{IsCocycle, Separates, dart_number, edge_sum, face_sum, separation}
+pub use Rattle.homology.specs.Sums.{along, round, share, total}
+pub use Rattle.homology.specs.Tallies.{AreNumbersOf, AreWithin, GrewBy, IsLeft, face_share, number_at, turned}
+pub use Rattle.homology.specs.Verdicts.{HasEdge, HasFace, IsBalancedAt, IsChainVerdict, IsCocycleVerdict, IsFirstAgainst, IsLeastOpen, IsLeastUnbalanced, IsVerdict}
+pub use Rattle.homology.specs.declared.certificate.EdgeNumber.{EdgeNumber}
+pub use Rattle.homology.specs.declared.certificate.FaceNumber.{FaceNumber}
+pub use Rattle.homology.specs.declared.certificate.HomologyCert.{HomologyCert}
+pub use Rattle.homology.specs.declared.certificate.HomologyCert.TheVariants.{Chain, Cocycle}
+pub use Rattle.homology.specs.declared.certificate.TheConstants.{MOST_NUMBER}
+pub use Rattle.homology.specs.declared.verdict.HomologyVerdict.{HomologyVerdict}
+pub use Rattle.homology.specs.declared.verdict.HomologyVerdict.TheVariants.{Accepted, Face, Sum, Zero}
 pub use Rattle.std.proofs.Common.{Bool, List, ap, ap₂, arith, drop, false, get_or, inl, inr, length, length-append, negsuc, not, of_z, pos, refl, rules, set, subst, suc, sym, take, to_z, true, w64, zero, ℕ, ℤ, [], ◌&&◌, ◌*◌, ◌++◌, ◌+ℤ◌, ◌+◌, ◌-ℤ◌, ◌-◌, ◌<◌, ◌^◌, ◌||◌, ◌∙◌, ◌∷◌, ◌≡◌, ◌≢◌, ◌≤◌, ◌⊎◌}
 pub use Rattle.std.proofs.Math.IntN.{pred_ℤ-*ℤ, pred_ℤ-+ℤ, suc_ℤ-*ℤ, suc_ℤ-+ℤ, zero-*ℤ, *ℤ-negsuc, *ℤ-one, *ℤ-zero, *ℤ_comm}
 unfoldable pub use Rattle.std.proofs.Math.IntN.{one}

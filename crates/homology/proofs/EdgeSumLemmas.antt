@@ -1,8 +1,5 @@
 -- The sum over all edges, of the number of an edge times what a walk counts there, is the sum along the walk.
-use Rattle.homology.proofs.Common.{◌≡◌, ◌≢◌, inl, inr, ℕ, zero, suc, ◌<◌, List, [], ◌∷◌, length, get_or, refl, ap, sym, ◌∙◌, arith, ℤ, pos, negsuc, ◌+ℤ◌, ◌-ℤ◌, *ℤ-zero, nat_tests, ints, ◌*ℤ◌, neg_ℤ, map, Linked, links, IsEdgeBetween, edge_between, Edge, IsTableOf, HasEnds, edge_in, FaceList, IsWalk}
-use Rattle.homology.specs.Sums.{total, along, share}
-use Rattle.homology.specs.Chains.{count_of, count_difference}
-use Rattle.homology.specs.Cocycles.{dart_number, separation, edge_sum}
+use Rattle.homology.proofs.Common.{count_of, count_difference, dart_number, separation, edge_sum, total, along, share, ◌≡◌, ◌≢◌, inl, inr, ℕ, zero, suc, ◌<◌, List, [], ◌∷◌, length, get_or, refl, ap, sym, ◌∙◌, arith, ℤ, pos, negsuc, ◌+ℤ◌, ◌-ℤ◌, *ℤ-zero, nat_tests, ints, ◌*ℤ◌, neg_ℤ, map, Linked, links, IsEdgeBetween, edge_between, Edge, IsTableOf, HasEnds, edge_in, FaceList, IsWalk}
 use Rattle.homology.proofs.RingLemmas.{times-sum, times-one, times-minus, times-opposite}
 use Rattle.homology.proofs.TallyLemmas.{apart, other-share}
 

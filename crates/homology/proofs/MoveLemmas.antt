@@ -1,13 +1,11 @@
 -- Homotopic walks are homologous: what a move changes is the boundary of the face that it crosses.
-use Rattle.homology.proofs.Common.{◌≡◌, ℕ, ◌-◌, ◌<◌, true, false, List, [], ◌∷◌, ◌++◌, length, ap, sym, ◌∙◌, arith, ℤ, pos, negsuc, ◌-ℤ◌, ints, Some, alike, FaceList, face_at, corners_from, all_sides}
+use Rattle.homology.proofs.Common.{IsChain, crossing, net_crossings, along, round, share, ◌≡◌, ℕ, ◌-◌, ◌<◌, true, false, List, [], ◌∷◌, ◌++◌, length, ap, sym, ◌∙◌, arith, ℤ, pos, negsuc, ◌-ℤ◌, ints, Some, alike, FaceList, face_at, corners_from, all_sides}
 use Rattle.surf_model.proofs.ContextLemmas.{first_answer, stays_walk}
 use Rattle.surf_model.proofs.ReplacementLemmas.{by_replacing}
 use Rattle.surf_model.specs.Moves.{apply, apply_all}
 use Rattle.surf_model.specs.Replacements.{Replaces}
 use Rattle.surf_model.specs.declared.moves.Move.{Move}
 use Rattle.surf_model.specs.declared.moves.Move.TheVariants.{Insert, Remove, Across}
-use Rattle.homology.specs.Sums.{along, round, share}
-use Rattle.homology.specs.Chains.{IsChain, crossing, net_crossings}
 use Rattle.homology.proofs.RingLemmas.{one-times, minus-times}
 use Rattle.homology.proofs.AlongLemmas.{IsOpposite, along-part, two_ways, round-sides}
 use Rattle.homology.proofs.BoundaryLemmas.{part_sum, part_sum-sum, part_sum-none, one_face, boundary_is, share-opposite}

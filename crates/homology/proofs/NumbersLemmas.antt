@@ -1,10 +1,5 @@
 -- The numbers of a certificate, written into an array line by line.
-use Rattle.homology.proofs.Common.{◌≡◌, ◌≢◌, ◌⊎◌, inl, inr, ℕ, suc, ◌+◌, ◌<◌, ◌≤◌, Bool, true, false, ◌&&◌, List, [], ◌∷◌, ◌++◌, length, get_or, set, take, refl, ap, sym, ◌∙◌, subst, arith, ℤ, pos, get_or-take, cases_Bool, cases_eq, cases_lt, nat_tests, get_or-set_same, get_or-set_other, take_more, get_or_past, get_or_from_slice_get, All, Some, slice_get, unsigned_abs, if◌then◌else◌, ◌==◌, same_pair, Edge, IsTableOf, IsPairBefore, HasEnds, edge_in, FaceList}
-use Rattle.homology.specs.Certificates.{listed_number, face_number, edge_number, AreFaceNumbers, AreEdgeNumbers}
-use Rattle.homology.specs.Tallies.{number_at, AreWithin, AreNumbersOf}
-use Rattle.homology.specs.declared.certificate.FaceNumber.{FaceNumber}
-use Rattle.homology.specs.declared.certificate.EdgeNumber.{EdgeNumber}
-use Rattle.homology.specs.declared.certificate.TheConstants.{MOST_NUMBER}
+use Rattle.homology.proofs.Common.{listed_number, face_number, edge_number, AreFaceNumbers, AreEdgeNumbers, number_at, AreWithin, AreNumbersOf, EdgeNumber, FaceNumber, MOST_NUMBER, ◌≡◌, ◌≢◌, ◌⊎◌, inl, inr, ℕ, suc, ◌+◌, ◌<◌, ◌≤◌, Bool, true, false, ◌&&◌, List, [], ◌∷◌, ◌++◌, length, get_or, set, take, refl, ap, sym, ◌∙◌, subst, arith, ℤ, pos, get_or-take, cases_Bool, cases_eq, cases_lt, nat_tests, get_or-set_same, get_or-set_other, take_more, get_or_past, get_or_from_slice_get, All, Some, slice_get, unsigned_abs, if◌then◌else◌, ◌==◌, same_pair, Edge, IsTableOf, IsPairBefore, HasEnds, edge_in, FaceList}
 use Rattle.homology.proofs.TallyLemmas.{few_taken, apart}
 
 -- what holds of the elements so far, and of the next

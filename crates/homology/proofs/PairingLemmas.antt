@@ -1,10 +1,7 @@
 -- Darts with weights: where they balance at every edge, the numbers of a cocycle add up to nothing on them. So a cocycle excludes every
 -- chain.
-use Rattle.homology.proofs.Common.{◌≡◌, ◌⊎◌, inl, inr, ℕ, zero, suc, ◌<◌, ◌≤◌, Bool, true, false, not, ◌&&◌, ◌||◌, List, [], ◌∷◌, ◌++◌, length, refl, ap, ap₂, sym, ◌∙◌, arith, ℤ, pos, negsuc, ◌+ℤ◌, ◌-ℤ◌, *ℤ-zero, *ℤ_comm, cases_order, cases_Bool, nat_tests, ints, list_any, ◌*ℤ◌, neg_ℤ, map, filter, nat_eq, Linked, links, FaceList, FaceSide, all_sides, joins, is_edge, IsWalk}
+use Rattle.homology.proofs.Common.{IsChain, count_of, IsCocycle, Separates, dart_number, along, share, ◌≡◌, ◌⊎◌, inl, inr, ℕ, zero, suc, ◌<◌, ◌≤◌, Bool, true, false, not, ◌&&◌, ◌||◌, List, [], ◌∷◌, ◌++◌, length, refl, ap, ap₂, sym, ◌∙◌, arith, ℤ, pos, negsuc, ◌+ℤ◌, ◌-ℤ◌, *ℤ-zero, *ℤ_comm, cases_order, cases_Bool, nat_tests, ints, list_any, ◌*ℤ◌, neg_ℤ, map, filter, nat_eq, Linked, links, FaceList, FaceSide, all_sides, joins, is_edge, IsWalk}
 use Rattle.surf_model.proofs.EdgeLemmas.{edge_swap}
-use Rattle.homology.specs.Sums.{along, share}
-use Rattle.homology.specs.Chains.{IsChain, count_of}
-use Rattle.homology.specs.Cocycles.{IsCocycle, Separates, dart_number}
 use Rattle.homology.proofs.RingLemmas.{times-sum, times-one, one-times, times-minus, minus-times, times-opposite, opposite-times}
 use Rattle.homology.proofs.AlongLemmas.{IsOpposite}
 use Rattle.homology.proofs.BoundaryLemmas.{part_sum, closed_mesh, boundary_is, share-opposite}

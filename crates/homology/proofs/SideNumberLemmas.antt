@@ -1,10 +1,7 @@
 -- The numbers of sides, side by side.
-use Rattle.homology.proofs.Common.{◌≡◌, ◌≢◌, inl, inr, ℕ, zero, suc, ◌+◌, ◌<◌, ◌≤◌, ◌-◌, ◌&&◌, List, [], ◌∷◌, ◌++◌, length, get_or, take, ap, sym, ◌∙◌, subst, arith, ℤ, pos, cases_lt, nat_tests, take_more, get_or-append_right, get_or-map, get_or_append_left, length-map, ◌==◌, if◌then◌else◌, neg_ℤ, unsigned_abs, Contains, AllPairs, face_side, length-all_sides, HasSideEnds, IsSideOfEdge, side_of_edge, table_edge, head_of, tail_of, IsSide, side_number, IsPairBefore, Edge, IsTableOf, HasEnds, edge_in, FaceList, FaceSide, all_sides, face_at, total_sides, Side}
+use Rattle.homology.proofs.Common.{side_numbers, dart_number, AreNumbersOf, AreWithin, number_at, turned, ◌≡◌, ◌≢◌, inl, inr, ℕ, zero, suc, ◌+◌, ◌<◌, ◌≤◌, ◌-◌, ◌&&◌, List, [], ◌∷◌, ◌++◌, length, get_or, take, ap, sym, ◌∙◌, subst, arith, ℤ, pos, cases_lt, nat_tests, take_more, get_or-append_right, get_or-map, get_or_append_left, length-map, ◌==◌, if◌then◌else◌, neg_ℤ, unsigned_abs, Contains, AllPairs, face_side, length-all_sides, HasSideEnds, IsSideOfEdge, side_of_edge, table_edge, head_of, tail_of, IsSide, side_number, IsPairBefore, Edge, IsTableOf, HasEnds, edge_in, FaceList, FaceSide, all_sides, face_at, total_sides, Side}
 use Rattle.surf_model.proofs.SideNumberLemmas.{side_of_number-is}
 use Rattle.surf_model.specs.EdgeDarts.{darts_of}
-use Rattle.homology.specs.ArrayCertificates.{side_numbers}
-use Rattle.homology.specs.Cocycles.{dart_number}
-use Rattle.homology.specs.Tallies.{AreNumbersOf, AreWithin, number_at, turned}
 use Rattle.homology.proofs.CocycleVerdictLemmas.{dart_is}
 
 -- ---- from numbers of the edges to those of the sides

@@ -1,8 +1,6 @@
 -- How large sums become.
-use Rattle.homology.proofs.Common.{◌≡◌, inl, inr, ℕ, zero, suc, ◌+◌, ◌*◌, ◌≤◌, ◌&&◌, List, [], ◌∷◌, length, refl, arith, ◌^◌, ◌<◌, ℤ, pos, negsuc, ◌+ℤ◌, ◌-ℤ◌, to_z, of_z, w64, cases_Bool, ints, to_z-of_z, fits_signed_from_abs, neg_ℤ, ◌≤ℤ◌, unsigned_abs, nat_eq, map}
+use Rattle.homology.proofs.Common.{total, along, share, MOST_NUMBER, ◌≡◌, inl, inr, ℕ, zero, suc, ◌+◌, ◌*◌, ◌≤◌, ◌&&◌, List, [], ◌∷◌, length, refl, arith, ◌^◌, ◌<◌, ℤ, pos, negsuc, ◌+ℤ◌, ◌-ℤ◌, to_z, of_z, w64, cases_Bool, ints, to_z-of_z, fits_signed_from_abs, neg_ℤ, ◌≤ℤ◌, unsigned_abs, nat_eq, map}
 use Rattle.std.proofs.Math.Nat.{mul-suc}
-use Rattle.homology.specs.Sums.{total, along, share}
-use Rattle.homology.specs.declared.certificate.TheConstants.{MOST_NUMBER}
 
 -- between a bound and its opposite
 record IsBetween (n : ℕ) (z : ℤ) : Type 0 where

@@ -1,11 +1,7 @@
 -- A dart gives to one entry of a tally what it gives to each edge of the table.
-use Rattle.homology.proofs.Common.{◌≡◌, ◌≢◌, ◌⊎◌, inl, inr, ℕ, zero, suc, ◌+◌, ◌-◌, ◌*◌, ◌^◌, ◌<◌, ◌≤◌, true, List, [], ◌∷◌, ◌++◌, length, get_or, set, take, refl, ap, sym, ◌∙◌, subst, arith, length-append, ℤ, pos, ◌+ℤ◌, cases_eq, cases_lt, nat_tests, ints, get_or-set_same, get_or-set_other, length-set, get_or_default, get_or_past, range_with_len, neg_ℤ, unsigned_abs, map, Contains, Any, face_side, length-sides_of_face, sides_of_face-more, sides_up_to, sides_up_to-none, sides_up_to-more, sides_up_to-all, length-sides_up_to, HasSideEnds, IsSideOfEdge, side_of_edge, IsEdgeBetween, edge_between, tail_of, head_of, Edge, IsTableOf, IsPairBefore, HasEnds, edge_in, FaceList, FaceSide, HasFileSize, face_at, sides_of_face, is_edge, IsWalk, Side}
+use Rattle.homology.proofs.Common.{boundary, total, along, share, number_at, turned, GrewBy, AreWithin, face_share, MOST_NUMBER, ◌≡◌, ◌≢◌, ◌⊎◌, inl, inr, ℕ, zero, suc, ◌+◌, ◌-◌, ◌*◌, ◌^◌, ◌<◌, ◌≤◌, true, List, [], ◌∷◌, ◌++◌, length, get_or, set, take, refl, ap, sym, ◌∙◌, subst, arith, length-append, ℤ, pos, ◌+ℤ◌, cases_eq, cases_lt, nat_tests, ints, get_or-set_same, get_or-set_other, length-set, get_or_default, get_or_past, range_with_len, neg_ℤ, unsigned_abs, map, Contains, Any, face_side, length-sides_of_face, sides_of_face-more, sides_up_to, sides_up_to-none, sides_up_to-more, sides_up_to-all, length-sides_up_to, HasSideEnds, IsSideOfEdge, side_of_edge, IsEdgeBetween, edge_between, tail_of, head_of, Edge, IsTableOf, IsPairBefore, HasEnds, edge_in, FaceList, FaceSide, HasFileSize, face_at, sides_of_face, is_edge, IsWalk, Side}
 use Rattle.surf_model.specs.declared.limits.TheConstants.{MOST_SIDES}
-use Rattle.homology.specs.Sums.{total, along, share}
-use Rattle.homology.specs.Tallies.{number_at, turned, GrewBy, AreWithin, face_share}
 use Rattle.homology.proofs.SizeLemmas.{size-sum, size-opposite, size-share, size-along, size-total}
-use Rattle.homology.specs.Chains.{boundary}
-use Rattle.homology.specs.declared.certificate.TheConstants.{MOST_NUMBER}
 
 -- one more dart of a walk
 pub along-next : (number : ℕ → ℕ → ℤ) (walk : List ℕ) (k : ℕ) → suc k < length walk

@@ -1,17 +1,9 @@
 -- A certificate has one verdict.
-use Rattle.homology.proofs.Common.{◌≡◌, ◌⊎◌, inl, inr, ℕ, ◌<◌, List, get_or, refl, ap, sym, ◌∙◌, subst, ℤ, arith, cases_order, get_or_default, All, IfOk, Result, Ok, Err, IsPairBefore, FaceList}
+use Rattle.homology.proofs.Common.{face_number, edge_number, number_at, IsFirstAgainst, HasFace, HasEdge, IsChainVerdict, IsCocycleVerdict, IsLeastUnbalanced, IsLeastOpen, IsVerdict, EdgeNumber, FaceNumber, HomologyCert, Chain, Cocycle, HomologyVerdict, Face, Sum, Zero, Accepted, ◌≡◌, ◌⊎◌, inl, inr, ℕ, ◌<◌, List, get_or, refl, ap, sym, ◌∙◌, subst, ℤ, arith, cases_order, get_or_default, All, IfOk, Result, Ok, Err, IsPairBefore, FaceList}
+use Rattle.homology.specs.declared.verdict.HomologyVerdict.TheVariants.{Edge}
 use Rattle.std.specs.declared.alloc.AllocError.{AllocError}
 use Rattle.surf_model.specs.declared.names.FaceName.{FaceName}
 use Rattle.surf_model.specs.declared.names.VertexName.{VertexName}
-use Rattle.homology.specs.Certificates.{face_number, edge_number}
-use Rattle.homology.specs.Tallies.{number_at}
-use Rattle.homology.specs.Verdicts.{IsFirstAgainst, HasFace, HasEdge, IsChainVerdict, IsCocycleVerdict, IsLeastUnbalanced, IsLeastOpen, IsVerdict}
-use Rattle.homology.specs.declared.certificate.FaceNumber.{FaceNumber}
-use Rattle.homology.specs.declared.certificate.EdgeNumber.{EdgeNumber}
-use Rattle.homology.specs.declared.certificate.HomologyCert.{HomologyCert}
-use Rattle.homology.specs.declared.certificate.HomologyCert.TheVariants.{Chain, Cocycle}
-use Rattle.homology.specs.declared.verdict.HomologyVerdict.{HomologyVerdict}
-use Rattle.homology.specs.declared.verdict.HomologyVerdict.TheVariants.{Face, Edge, Sum, Zero, Accepted}
 
 -- the first element against a fact does not come where all meet it
 all_or_first : {X : Type 0} (P : X → Type 0) (xs : List X) (x : X) → All P xs → IsFirstAgainst P xs x → ⊥

@@ -1,5 +1,5 @@
 -- What was found of two walks on their component, listed, shows the same of them on the whole mesh.
-use Rattle.homology_commands.proofs.Common.{walk_there, IsComponentOf, IsPart, surface_of, Homologous, NotHomologous, ShowsHomology, answer_in, OrientedMesh, AreFaceNumbers, AreEdgeNumbers, face_number, edge_number, AreHomologous, IsChain, IsCocycle, number_at, EdgeNumber, FaceNumber, HomologyCert, IsChainFor, IsCocycleFor, IsOfComponent, piece_of_parts, IsPiece, edge_up, length-submesh, ◌≡◌, ◌↔◌, inl, inr, ℕ, ◌<◌, ◌≤◌, true, false, List, length, get_or, refl, ap, ap₂, sym, ◌∙◌, subst, arith, ℤ, pos, cases_lt, filter_passes, range_with_len, All, Linked, links, component_at, IsTableOf, edge_in, FaceList, is_edge, IsWalk}
+use Rattle.homology_commands.proofs.Common.{walk_there, IsComponentOf, IsPart, surface_of, Homologous, NotHomologous, ShowsHomology, answer_in, OrientedMesh, AreFaceNumbers, AreEdgeNumbers, face_number, edge_number, AreHomologous, IsChain, IsCocycle, number_at, EdgeNumber, FaceNumber, HomologyCert, IsNamed, ListsFaces, IsAmong, ListsEdges, name_in, IsChainFor, IsCocycleFor, IsOfComponent, piece_of_parts, IsPiece, edge_up, length-submesh, ◌≡◌, ◌↔◌, inl, inr, ℕ, ◌<◌, ◌≤◌, true, false, List, length, get_or, refl, ap, ap₂, sym, ◌∙◌, subst, arith, ℤ, pos, cases_lt, filter_passes, range_with_len, All, Linked, links, component_at, IsTableOf, edge_in, FaceList, is_edge, IsWalk}
 use Rattle.closed_surfaces.specs.declared.component.Component.{Component}
 use Rattle.closed_surfaces.specs.declared.component.Component.TheVariants.{Whole, Alone}
 use Rattle.homology.proofs.PairingLemmas.{refuted}
@@ -7,7 +7,6 @@ use Rattle.homology.specs.Verdicts.{HasFace, HasEdge}
 use Rattle.std.proofs.lemmas.List.{get_or_past}
 use Rattle.surf_model.proofs.TableEdgeLemmas.{IsEdgeBetween, edge_between, same_pair, table_pair}
 use Rattle.homology.specs.declared.certificate.HomologyCert.TheVariants as certificates
-use Rattle.homology_commands.specs.Listings.{IsNamed, ListsFaces, IsAmong, ListsEdges, name_in}
 use Rattle.homology_commands.proofs.PieceChains.{chain_alike, chain_widened}
 use Rattle.homology_commands.proofs.PieceCocycles.{IsWidened, cocycle_alike, cocycle_widened, separates_widened}
 

@@ -1,4 +1,4 @@
--- What proofs of this crate cite of others, passed on from one place (by tools/imports). Declares nothing.
+-- What proofs of this crate cite of its definitions and of other crates, passed on from one place (by tools/imports). Declares nothing.
 pub use Rattle.closed_surfaces.proofs.Components.{walk_there}
 pub use Rattle.closed_surfaces.specs.SignedSurfaces.{IsComponentOf, IsPart, surface_of}
 pub use Rattle.commands.proofs.Rows.{input_so, sound-pair}
@@ -18,6 +18,8 @@ pub use Rattle.homology.specs.declared.certificate.EdgeNumber.{EdgeNumber}
 pub use Rattle.homology.specs.declared.certificate.FaceNumber.{FaceNumber}
 pub use Rattle.homology.specs.declared.certificate.HomologyCert.{HomologyCert}
 pub use Rattle.homology.specs.declared.certificate.TheConstants.{MOST_NUMBER}
+pub use Rattle.homology_commands.specs.Homology.{IsHomologyAnswered, IsHomologyInput, IsHomologyPrinted, homology, homology_answer, homology_shown}
+pub use Rattle.homology_commands.specs.Listings.{IsAmong, IsNamed, ListsEdges, ListsFaces, name_in}
 pub use Rattle.homology_deciding.specs.Proofs.{IsChainFor, IsCocycleFor, IsProofFor}
 pub use Rattle.homology_files.specs.WrittenTexts.{EdgeFits, FaceFits, cert_text, kind_in}
 pub use Rattle.manifold_check.proofs.PartPieces.{IsOfComponent, face_same_place, piece_of_parts}

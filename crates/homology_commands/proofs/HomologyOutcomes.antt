@@ -1,6 +1,5 @@
 -- `homology` in the words of the mesh, and `verify-homology` of what it prints.
-use Rattle.homology_commands.proofs.Common.{AnswersTo, Status, ◌≡◌, ℕ, List, [], ◌∷◌, codes, Option, Files, FaceList, outcome_of_pair}
-use Rattle.homology_commands.specs.Homology.{homology, IsHomologyAnswered, IsHomologyInput}
+use Rattle.homology_commands.proofs.Common.{AnswersTo, Status, homology, IsHomologyAnswered, IsHomologyInput, ◌≡◌, ℕ, List, [], ◌∷◌, codes, Option, Files, FaceList, outcome_of_pair}
 use Rattle.homology_commands.proofs.HomologyAnswers.{IsRightAnswer, right_answer, after_pair}
 
 -- what `homology` is for, where the words are answered by its check

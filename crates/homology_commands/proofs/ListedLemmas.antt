@@ -1,8 +1,7 @@
 -- Listing the numbers that are not 0, one by one.
-use Rattle.homology_commands.proofs.Common.{listed_number, face_number, edge_number, AreWithin, number_at, EdgeNumber, FaceNumber, MOST_NUMBER, FaceFits, EdgeFits, ◌≡◌, ◌≢◌, ◌⊎◌, inl, inr, ℕ, zero, suc, ◌+◌, ◌<◌, Bool, true, false, List, [], ◌∷◌, ◌++◌, length-append, get_or, refl, ap, sym, ◌∙◌, subst, arith, ℤ, pos, negsuc, to_z, of_z, w64, ◌≤◌, cases_Bool, cases_lt, nat_tests, ints, All-nil, All-push, get_or_from_slice_get, All, Some, if◌then◌else◌, ◌==◌, ◌&&◌, slice_get, unsigned_abs, Edge, IsPairBefore, edge_in}
+use Rattle.homology_commands.proofs.Common.{listed_number, face_number, edge_number, AreWithin, number_at, EdgeNumber, FaceNumber, MOST_NUMBER, IsNamed, ListsFaces, IsAmong, ListsEdges, FaceFits, EdgeFits, ◌≡◌, ◌≢◌, ◌⊎◌, inl, inr, ℕ, zero, suc, ◌+◌, ◌<◌, Bool, true, false, List, [], ◌∷◌, ◌++◌, length-append, get_or, refl, ap, sym, ◌∙◌, subst, arith, ℤ, pos, negsuc, to_z, of_z, w64, ◌≤◌, cases_Bool, cases_lt, nat_tests, ints, All-nil, All-push, get_or_from_slice_get, All, Some, if◌then◌else◌, ◌==◌, ◌&&◌, slice_get, unsigned_abs, Edge, IsPairBefore, edge_in}
 use Rattle.homology.proofs.NumbersLemmas.{listed_more}
 use Rattle.homology.proofs.SizeLemmas.{sent}
-use Rattle.homology_commands.specs.Listings.{IsNamed, ListsFaces, IsAmong, ListsEdges}
 
 -- ---- a number that is handed on
 

@@ -1,6 +1,7 @@
 -- What `homology` prints spells its certificate again, and `verify-homology` accepts it.
-use Rattle.homology_commands.proofs.Common.{input_so, ShowsHomology, answer_in, homology_line, homology_text, Status, HomologyCert, cert_text, kind_in, ◌≡◌, ℕ, List, refl, ap, ◌∙◌, Ok, Option, Files, FaceList}
+use Rattle.homology_commands.proofs.Common.{input_so, ShowsHomology, answer_in, homology_line, homology_text, Status, HomologyCert, IsHomologyPrinted, cert_text, kind_in, ◌≡◌, ℕ, List, refl, ap, ◌∙◌, Ok, Option, Files, FaceList}
 use Rattle.homology.specs.declared.verdict.HomologyVerdict.TheVariants.{Accepted}
+use Rattle.homology_commands.specs.PrintedHomology.{IsAccepted, IsVerifyOfText}
 use Rattle.homology_files.proofs.RoundTrip.{reads_back_answered}
 use Rattle.homology_files.specs.HomologyTexts.{answer_words, cert_of_text}
 use Rattle.std.specs.Prelude.{◌++◌, codes}
@@ -8,8 +9,6 @@ use Rattle.text_scan.specs.Plain.{line_of}
 use Rattle.verify_homology_commands.proofs.VerifyHomologyOutcomes.{homology_verified}
 use Rattle.verify_homology_commands.specs.VerifyHomology.{IsInput}
 use Rattle.homology.specs.declared.certificate.HomologyCert.TheVariants as certificates
-use Rattle.homology_commands.specs.Homology.{IsHomologyPrinted}
-use Rattle.homology_commands.specs.PrintedHomology.{IsAccepted, IsVerifyOfText}
 
 -- the line of an answer in the words of the format
 answer_line : (shown : HomologyCert) → homology_line (answer_in shown) ≡ line_of (answer_words (kind_in shown))

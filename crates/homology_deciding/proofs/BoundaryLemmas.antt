@@ -1,12 +1,10 @@
 -- The boundary of numbered faces at the edge of a dart: the number of its face less that of the face across.
-use Rattle.homology_deciding.proofs.Common.{dart_joins, darts_of, side_of, face_of, origin_of, target_of, twin_of, OrientedMesh, IsOrientedSurface, boundary, total, share, along as along_walk, round, ◌≡◌, ◌≢◌, inl, inr, ℕ, zero, suc, ◌<◌, true, false, List, [], ◌∷◌, length, get_or, refl, ap, sym, ◌∙◌, subst, arith, ℤ, pos, ◌+ℤ◌, ◌-ℤ◌, cases_Bool, nat_tests, ints, neg_ℤ, map, if◌then◌else◌, FaceSide, all_sides, joins, face_at, is_flipped}
+use Rattle.homology_deciding.proofs.Common.{dart_joins, darts_of, side_of, face_of, origin_of, target_of, twin_of, OrientedMesh, IsOrientedSurface, boundary, total, share, along as along_walk, round, face_across, dart_share, listed, ◌≡◌, ◌≢◌, inl, inr, ℕ, zero, suc, ◌<◌, true, false, List, [], ◌∷◌, length, get_or, refl, ap, sym, ◌∙◌, subst, arith, ℤ, pos, ◌+ℤ◌, ◌-ℤ◌, cases_Bool, nat_tests, ints, neg_ℤ, map, if◌then◌else◌, FaceSide, all_sides, joins, face_at, is_flipped}
 use Rattle.halfedge_map.proofs.TwinLemmas.{joins_both, along, two_darts, side_is, twin_within, twin_other, origin-twin, target-twin, no_loop}
 use Rattle.homology.proofs.BoundaryLemmas.{only_at, one_face, boundary_is}
 use Rattle.homology.proofs.EdgeSumLemmas.{total_one}
 use Rattle.homology.proofs.RingLemmas.{one-times}
 use Rattle.surf_model.proofs.NumberLemmas.{length-all_sides}
-use Rattle.homology_deciding.specs.FaceTrees.{face_across, dart_share}
-use Rattle.homology_deciding.specs.Heights.{listed}
 
 -- ---- sums of which two terms count
 

@@ -1,4 +1,4 @@
--- What proofs of this crate cite of others, passed on from one place (by tools/imports). Declares nothing.
+-- What proofs of this crate cite of its definitions and of other crates, passed on from one place (by tools/imports). Declares nothing.
 pub use Rattle.halfedge_map.proofs.DartLemmas.{face_at_number}
 pub use Rattle.halfedge_map.proofs.EdgeLemmas.{IsAtEdge, dart_joins, edge_has_ends, leads_back, leads_on}
 pub use Rattle.halfedge_map.proofs.NumberLemmas.{HasPlace, IsNumberOf, placed}
@@ -14,6 +14,11 @@ pub use Rattle.homology.specs.Cocycles.{IsCocycle, Separates, dart_number, separ
 pub use Rattle.homology.specs.Sums.{along, round, share, total}
 pub use Rattle.homology.specs.Tallies.{AreNumbersOf, AreWithin, GrewBy, number_at, turned}
 pub use Rattle.homology.specs.declared.certificate.TheConstants.{MOST_NUMBER}
+pub use Rattle.homology_deciding.specs.Cuts.{IsCutAt, cycle_share}
+pub use Rattle.homology_deciding.specs.FaceTrees.{IsTree, IsTreeOfFaces, IsUp, IsWayUp, dart_share, face_across, way_share}
+pub use Rattle.homology_deciding.specs.Heights.{AreForced, AreHeights, EndsAtHeight, dart_count, height_of, listed, way_count}
+pub use Rattle.homology_deciding.specs.Proofs.{IsChainFor, IsCocycleFor, IsProofFor, LeavesOf, is_chain}
+pub use Rattle.homology_deciding.specs.declared.face_tree.FaceTree.{FaceTree}
 pub use Rattle.std.proofs.Common.{List, ap, ap₂, arith, false, get_or, inl, inr, length, negsuc, of_z, pos, refl, rules, set, subst, suc, sym, to_z, true, w64, zero, ℕ, ℤ, [], ◌*◌, ◌++◌, ◌+ℤ◌, ◌+◌, ◌-ℤ◌, ◌<◌, ◌^◌, ◌↔◌, ◌∙◌, ◌∷◌, ◌≡◌, ◌≢◌, ◌≤◌, ◌⊎◌}
 pub use Rattle.std.proofs.lemmas.Bool.{both_ways, cases_Bool, cases_eq, cases_lt, cases_order, eq-eqb, eqb-true}
 pub use Rattle.std.proofs.lemmas.Bool.Decides.{nat_tests}

@@ -1,9 +1,6 @@
 -- A closed way across faces gives a cocycle.
-use Rattle.homology_deciding.proofs.Common.{edge_has_ends, rotation_system, darts_of, face_of, edge_of, origin_of, twin_of, OrientedMesh, size-sum, size-opposite, count_difference, IsCocycle, dart_number, separation, share, along, round, AreNumbersOf, ◌≡◌, ◌≢◌, inl, inr, ℕ, ◌+◌, ◌<◌, ◌≤◌, List, [], ◌∷◌, length, refl, ap, ap₂, sym, ◌∙◌, subst, arith, ℤ, pos, negsuc, ◌+ℤ◌, ◌-ℤ◌, cases_order, nat_tests, ints, neg_ℤ, unsigned_abs, face_at, darts, DartName, SplitView}
+use Rattle.homology_deciding.proofs.Common.{edge_has_ends, rotation_system, darts_of, face_of, edge_of, origin_of, twin_of, OrientedMesh, size-sum, size-opposite, count_difference, IsCocycle, dart_number, separation, share, along, round, AreNumbersOf, cycle_share, face_across, IsTreeOfFaces, IsWayUp, dart_share, way_share, dart_count, way_count, ◌≡◌, ◌≢◌, inl, inr, ℕ, ◌+◌, ◌<◌, ◌≤◌, List, [], ◌∷◌, length, refl, ap, ap₂, sym, ◌∙◌, subst, arith, ℤ, pos, negsuc, ◌+ℤ◌, ◌-ℤ◌, cases_order, nat_tests, ints, neg_ℤ, unsigned_abs, face_at, darts, DartName, SplitView}
 use Rattle.homology.proofs.CocycleVerdictLemmas.{dart_is}
-use Rattle.homology_deciding.specs.FaceTrees.{face_across, IsTreeOfFaces, IsWayUp, dart_share, way_share}
-use Rattle.homology_deciding.specs.Heights.{dart_count, way_count}
-use Rattle.homology_deciding.specs.Cuts.{cycle_share}
 use Rattle.homology_deciding.proofs.BoundaryLemmas.{sign_at, round_dart}
 use Rattle.homology_deciding.proofs.WayLemmas.{way_small}
 

@@ -1,15 +1,11 @@
 -- What the loops over ways and faces do, step by step.
-use Rattle.homology_deciding.proofs.Common.{edge_has_ends, darts_of, face_of, edge_of, origin_of, twin_of, OrientedMesh, IsOrientedSurface, size-sum, size-share, size-opposite, sent, share, number_at, turned, GrewBy, AreWithin, MOST_NUMBER, ◌≡◌, ◌≢◌, ◌⊎◌, inl, inr, ℕ, ◌+◌, ◌*◌, ◌^◌, ◌<◌, ◌≤◌, true, List, [], ◌∷◌, ◌++◌, length, get_or, set, refl, ap, ap₂, sym, ◌∙◌, subst, arith, ℤ, pos, ◌+ℤ◌, to_z, of_z, w64, negsuc, cases_lt, cases_eq, nat_tests, ints, fits_signed_from_abs, get_or-set_same, get_or-set_other, get_or_past, get_or_append_left, length-set, FitsSigned, Option, Some, None, is_some, unwrap_or, Result, Ok, Err, IfOk, neg_ℤ, unsigned_abs, All, sum_by, MatchOption, Edge, edge_in, HasEnds, HasFileSize, DartName}
+use Rattle.homology_deciding.proofs.Common.{edge_has_ends, darts_of, face_of, edge_of, origin_of, twin_of, OrientedMesh, IsOrientedSurface, size-sum, size-share, size-opposite, sent, share, number_at, turned, GrewBy, AreWithin, MOST_NUMBER, IsCutAt, face_across, IsUp, IsTree, IsWayUp, dart_share, way_share, height_of, dart_count, way_count, listed, AreHeights, EndsAtHeight, AreForced, FaceTree, ◌≡◌, ◌≢◌, ◌⊎◌, inl, inr, ℕ, ◌+◌, ◌*◌, ◌^◌, ◌<◌, ◌≤◌, true, List, [], ◌∷◌, ◌++◌, length, get_or, set, refl, ap, ap₂, sym, ◌∙◌, subst, arith, ℤ, pos, ◌+ℤ◌, to_z, of_z, w64, negsuc, cases_lt, cases_eq, nat_tests, ints, fits_signed_from_abs, get_or-set_same, get_or-set_other, get_or_past, get_or_append_left, length-set, FitsSigned, Option, Some, None, is_some, unwrap_or, Result, Ok, Err, IfOk, neg_ℤ, unsigned_abs, All, sum_by, MatchOption, Edge, edge_in, HasEnds, HasFileSize, DartName}
 use Rattle.homology.proofs.TallyLemmas.{grown, grown_size}
 use Rattle.std.proofs.Math.Nat.{mul-suc}
 use Rattle.std.proofs.Math.Seq.{get_or-append_seam}
 use Rattle.std.proofs.lemmas.List.Elements.{All-head, All-tail}
 use Rattle.std.proofs.lemmas.List.Sums.{sum_by-cons}
 use Rattle.surf_model.specs.declared.limits.TheConstants.{MOST_SIDES}
-use Rattle.homology_deciding.specs.FaceTrees.{face_across, IsUp, IsTree, IsWayUp, dart_share, way_share}
-use Rattle.homology_deciding.specs.Heights.{height_of, dart_count, way_count, listed, AreHeights, EndsAtHeight, AreForced}
-use Rattle.homology_deciding.specs.Cuts.{IsCutAt}
-use Rattle.homology_deciding.specs.declared.face_tree.FaceTree.{FaceTree}
 use Rattle.homology_deciding.proofs.WayLemmas.{IsTop, way_pop, way_rank, way_share-push}
 
 -- an entry written, and the others

@@ -1,11 +1,6 @@
 -- What the forced numbers prove.
-use Rattle.homology_deciding.proofs.Common.{IsAtEdge, leads_on, leads_back, rotation_system, names_all, darts_of, face_of, origin_of, twin_of, OrientedMesh, rotations_of, IsDartFrom, chain_holds, size-sum, size-share, size-opposite, AreHomologous, count_difference, boundary, Separates, share, along, number_at, AreWithin, AreNumbersOf, ◌≡◌, ◌≢◌, ◌↔◌, inl, inr, ℕ, ◌+◌, ◌<◌, ◌≤◌, true, false, List, length, refl, ap, ap₂, sym, ◌∙◌, subst, arith, ℤ, pos, ◌+ℤ◌, ◌-ℤ◌, cases_lt, cases_Bool, both_ways, eqb-true, eq-eqb, nat_tests, ints, get_or_past, ◌==◌, neg_ℤ, unsigned_abs, Edge, edge_in, is_flipped, IsWalk, darts, DartName}
+use Rattle.homology_deciding.proofs.Common.{IsAtEdge, leads_on, leads_back, rotation_system, names_all, darts_of, face_of, origin_of, twin_of, OrientedMesh, rotations_of, IsDartFrom, chain_holds, size-sum, size-share, size-opposite, AreHomologous, count_difference, boundary, Separates, share, along, number_at, AreWithin, AreNumbersOf, IsCutAt, cycle_share, IsTree, IsWayUp, face_across, dart_share, way_share, listed, way_count, AreForced, LeavesOf, IsChainFor, IsCocycleFor, IsProofFor, is_chain, FaceTree, ◌≡◌, ◌≢◌, ◌↔◌, inl, inr, ℕ, ◌+◌, ◌<◌, ◌≤◌, true, false, List, length, refl, ap, ap₂, sym, ◌∙◌, subst, arith, ℤ, pos, ◌+ℤ◌, ◌-ℤ◌, cases_lt, cases_Bool, both_ways, eqb-true, eq-eqb, nat_tests, ints, get_or_past, ◌==◌, neg_ℤ, unsigned_abs, Edge, edge_in, is_flipped, IsWalk, darts, DartName}
 use Rattle.homology.proofs.PairingLemmas.{refuted}
-use Rattle.homology_deciding.specs.FaceTrees.{IsTree, IsWayUp, face_across, dart_share, way_share}
-use Rattle.homology_deciding.specs.Heights.{listed, way_count, AreForced}
-use Rattle.homology_deciding.specs.Cuts.{IsCutAt, cycle_share}
-use Rattle.homology_deciding.specs.Proofs.{LeavesOf, IsChainFor, IsCocycleFor, IsProofFor, is_chain}
-use Rattle.homology_deciding.specs.declared.face_tree.FaceTree.{FaceTree}
 use Rattle.homology_deciding.specs.declared.deciding.HomologyProof.{HomologyProof}
 use Rattle.homology_deciding.specs.declared.deciding.HomologyProof.TheVariants.{Chain, Cocycle}
 use Rattle.homology_deciding.proofs.BoundaryLemmas.{boundary_at}

@@ -1,8 +1,7 @@
 -- The cotree of a split is a tree over the faces.
-use Rattle.homology_deciding.proofs.Common.{face_at_number, HasPlace, IsNumberOf, placed, rotation_system, edge_of, face_of, OrientedMesh, IsOrientedSurface, rotations_of, ◌≡◌, inl, inr, ℕ, ◌+◌, ◌<◌, List, [], ◌∷◌, length, ap, sym, ◌∙◌, subst, arith, cases_lt, Some, face_at, HasFileSize, FaceList, IsPath, DartName, SplitView, IsSplit, IsStepUp, StepsUp, below_edge}
+use Rattle.homology_deciding.proofs.Common.{face_at_number, HasPlace, IsNumberOf, placed, rotation_system, edge_of, face_of, OrientedMesh, IsOrientedSurface, rotations_of, face_across, IsUp, IsTreeOfFaces, ◌≡◌, inl, inr, ℕ, ◌+◌, ◌<◌, List, [], ◌∷◌, length, ap, sym, ◌∙◌, subst, arith, cases_lt, Some, face_at, HasFileSize, FaceList, IsPath, DartName, SplitView, IsSplit, IsStepUp, StepsUp, below_edge}
 use Rattle.surf_model.specs.Darts.{first_side}
 use Rattle.tree_cotree.proofs.SplitWayLemmas.{faces_upward, above, above_path, rank_step, not_itself, few_up}
-use Rattle.homology_deciding.specs.FaceTrees.{face_across, IsUp, IsTreeOfFaces}
 
 -- two darts that lead up from a face lie on one edge, and are not twins
 one_dart : (s : OrientedMesh) (split : SplitView) → IsOrientedSurface s → IsSplit s split → (f : ℕ) (dart other : DartName)

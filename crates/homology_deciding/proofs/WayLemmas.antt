@@ -1,6 +1,5 @@
 -- Ways up in a tree over the faces.
-use Rattle.homology_deciding.proofs.Common.{rotation_system, darts_of, face_of, origin_of, twin_of, OrientedMesh, rotations_of, IsRotationSystem, size-share, share, ◌≡◌, ◌⊎◌, inl, inr, ℕ, ◌+◌, ◌<◌, ◌≤◌, List, [], ◌∷◌, ◌++◌, length, refl, ap, sym, ◌∙◌, subst, arith, ℤ, pos, ◌+ℤ◌, cases_Bool, nat_tests, ints, unsigned_abs, nat_eq, ◌&&◌, DartName, SplitView}
-use Rattle.homology_deciding.specs.FaceTrees.{face_across, IsUp, IsTreeOfFaces, IsWayUp, dart_share, way_share}
+use Rattle.homology_deciding.proofs.Common.{rotation_system, darts_of, face_of, origin_of, twin_of, OrientedMesh, rotations_of, IsRotationSystem, size-share, share, face_across, IsUp, IsTreeOfFaces, IsWayUp, dart_share, way_share, ◌≡◌, ◌⊎◌, inl, inr, ℕ, ◌+◌, ◌<◌, ◌≤◌, List, [], ◌∷◌, ◌++◌, length, refl, ap, sym, ◌∙◌, subst, arith, ℤ, pos, ◌+ℤ◌, cases_Bool, nat_tests, ints, unsigned_abs, nat_eq, ◌&&◌, DartName, SplitView}
 
 module _ (s : OrientedMesh) (split : SplitView) (h : IsTreeOfFaces s split) where
   abbrev r : IsRotationSystem (rotations_of s)

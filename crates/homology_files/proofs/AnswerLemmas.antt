@@ -1,8 +1,5 @@
 -- The answer that a line is.
-use Rattle.homology_files.proofs.Common.{◌≡◌, ℕ, Bool, true, false, List, refl, sym, ap, ◌∙◌, Option, Some, None, if◌then◌else◌, codes, words, Unread, are_words, words_here}
-use Rattle.homology_files.specs.declared.head.Kind.{Kind}
-use Rattle.homology_files.specs.declared.head.Kind.TheVariants.{OfFaces, OfEdges}
-use Rattle.homology_files.specs.HomologyTexts.{answer_words, answer_of}
+use Rattle.homology_files.proofs.Common.{answer_words, answer_of, Kind, OfFaces, OfEdges, ◌≡◌, ℕ, Bool, true, false, List, refl, sym, ap, ◌∙◌, Option, Some, None, if◌then◌else◌, codes, words, Unread, are_words, words_here}
 
 yes_words : words_here (codes "homologous") ≡ answer_words OfFaces
 unfolding words_here words

@@ -1,7 +1,11 @@
--- What proofs of this crate cite of others, passed on from one place (by tools/imports). Declares nothing.
+-- What proofs of this crate cite of its definitions and of other crates, passed on from one place (by tools/imports). Declares nothing.
 pub use Rattle.homology.specs.Certificates.{AreEdgeNumbers, AreFaceNumbers}
 pub use Rattle.homology.specs.declared.certificate.EdgeNumber.{EdgeNumber}
 pub use Rattle.homology.specs.declared.certificate.FaceNumber.{FaceNumber}
+pub use Rattle.homology_files.specs.HomologyTexts.{answer_of, answer_words, behind_head, cert_in, cert_of_text, edge_number_of, face_number_of, head_among, is_edge_above, is_edge_before, is_face_above, numbers_in, ok_then, size_of}
+pub use Rattle.homology_files.specs.WrittenTexts.{EdgeFits, FaceFits, FitsFormat, cert_lines, cert_text, edge_words, face_words, kind_in}
+pub use Rattle.homology_files.specs.declared.head.Kind.{Kind}
+pub use Rattle.homology_files.specs.declared.head.Kind.TheVariants.{OfEdges, OfFaces}
 pub use Rattle.std.proofs.Common.{Bool, List, ap, append_assoc, arith, eqb, false, get_or, inl, inr, length, length-append, map, negsuc, pos, refl, subst, sym, take, true, ℕ, ℤ, [], ◌++◌, ◌+◌, ◌-◌, ◌<◌, ◌^◌, ◌∙◌, ◌∷◌, ◌≡◌, ◌≤◌}
 pub use Rattle.std.proofs.lemmas.Bool.{cases_Bool, cases_lt, le-leb, lt-ltb, ltb-true, ne_eqb}
 pub use Rattle.std.proofs.lemmas.List.{append-nil, take_all}

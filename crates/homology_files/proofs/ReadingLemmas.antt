@@ -1,6 +1,5 @@
 -- The lines of a certificate, one by one.
-use Rattle.homology_files.proofs.Common.{◌≡◌, ℕ, ◌-◌, ◌<◌, eqb, Bool, true, false, List, [], ◌∷◌, ◌++◌, refl, arith, ne_eqb, Option, Some, Line}
-use Rattle.homology_files.specs.HomologyTexts.{numbers_in}
+use Rattle.homology_files.proofs.Common.{numbers_in, ◌≡◌, ℕ, ◌-◌, ◌<◌, eqb, Bool, true, false, List, [], ◌∷◌, ◌++◌, refl, arith, ne_eqb, Option, Some, Line}
 
 module _ {X : Type 0} (read : List (List ℕ) → Option X) (is_above : List X → X → Bool) where
   -- some are still to come

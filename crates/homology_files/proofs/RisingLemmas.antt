@@ -1,9 +1,8 @@
 -- Lines whose keys rise: what is above the last one is above all.
-use Rattle.homology_files.proofs.Common.{AreFaceNumbers, AreEdgeNumbers, EdgeNumber, FaceNumber, ◌≡◌, inl, inr, ℕ, ◌-◌, ◌<◌, Bool, true, List, length, get_or, sym, ap, ◌∙◌, subst, arith, cases_Bool, cases_lt, lt-ltb, ltb-true, list_all_at, list_all-from_AllPass, get_or_from_slice_get, slice_get_within, list_all, Some, slice_get, nat_lt}
+use Rattle.homology_files.proofs.Common.{AreFaceNumbers, AreEdgeNumbers, EdgeNumber, FaceNumber, is_face_above, is_edge_before, is_edge_above, ◌≡◌, inl, inr, ℕ, ◌-◌, ◌<◌, Bool, true, List, length, get_or, sym, ap, ◌∙◌, subst, arith, cases_Bool, cases_lt, lt-ltb, ltb-true, list_all_at, list_all-from_AllPass, get_or_from_slice_get, slice_get_within, list_all, Some, slice_get, nat_lt}
 use Rattle.std.proofs.lemmas.Bool.Decides.{nat_tests}
 use Rattle.surf_model.proofs.SearchLemmas.{pair_trans}
 use Rattle.surf_model.specs.Edges.{IsPairBefore}
-use Rattle.homology_files.specs.HomologyTexts.{is_face_above, is_edge_before, is_edge_above}
 
 -- a test that each line passes if the last one does
 all_by_last : {X : Type 0} (test : X → Bool) (xs : List X) (last : X) → slice_get xs (length xs - 1) ≡ Some last

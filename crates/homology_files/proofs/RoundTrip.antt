@@ -1,19 +1,15 @@
 -- A certificate that was written is read again.
-use Rattle.homology_files.proofs.Common.{AreFaceNumbers, AreEdgeNumbers, EdgeNumber, FaceNumber, ◌≡◌, ℕ, ℤ, ◌+◌, ◌-◌, ◌^◌, ◌<◌, ◌≤◌, Bool, true, List, [], ◌∷◌, ◌++◌, length, map, refl, ap, sym, ◌∙◌, subst, arith, pos, negsuc, append_assoc, length-append, le-leb, lt-ltb, append-nil, All-head, All-tail, All-cons, All-map, list_all-from_AllPass, list_all, Option, Some, Result, Ok, decimal, codes, All, AllPairs, nat_lt, unsigned_abs, Line, unmarked, lines_from, full_lines, end_line, line_of}
+use Rattle.homology_files.proofs.Common.{AreFaceNumbers, AreEdgeNumbers, EdgeNumber, FaceNumber, answer_words, head_among, behind_head, size_of, face_number_of, edge_number_of, is_face_above, is_edge_before, is_edge_above, numbers_in, ok_then, cert_in, cert_of_text, kind_in, face_words, edge_words, cert_lines, cert_text, FaceFits, EdgeFits, FitsFormat, Kind, OfFaces, OfEdges, ◌≡◌, ℕ, ℤ, ◌+◌, ◌-◌, ◌^◌, ◌<◌, ◌≤◌, Bool, true, List, [], ◌∷◌, ◌++◌, length, map, refl, ap, sym, ◌∙◌, subst, arith, pos, negsuc, append_assoc, length-append, le-leb, lt-ltb, append-nil, All-head, All-tail, All-cons, All-map, list_all-from_AllPass, list_all, Option, Some, Result, Ok, decimal, codes, All, AllPairs, nat_lt, unsigned_abs, Line, unmarked, lines_from, full_lines, end_line, line_of}
 use Rattle.homology.specs.declared.certificate.HomologyCert.{HomologyCert}
 use Rattle.homology.specs.declared.certificate.HomologyCert.TheVariants.{Chain, Cocycle}
 use Rattle.homology.specs.declared.certificate.TheConstants.{MOST_NUMBER}
+use Rattle.homology_files.specs.declared.fault.HomologyFault.{HomologyFault}
+use Rattle.homology_files.specs.declared.head.Head.{Head}
 use Rattle.std.proofs.lemmas.Grind.{common_steps}
 use Rattle.std.specs.Fmt.{signed_decimal}
 use Rattle.std.specs.Prelude.{get_or}
 use Rattle.text_scan.proofs.WrittenLemmas.{IsWritable, IsLine, numbered, lines_from-written, all_writable, number-read, number-writable, integer-writable, integer-read}
 use Rattle.text_scan.specs.Numbers.{fits_i64}
-use Rattle.homology_files.specs.declared.fault.HomologyFault.{HomologyFault}
-use Rattle.homology_files.specs.declared.head.Kind.{Kind}
-use Rattle.homology_files.specs.declared.head.Kind.TheVariants.{OfFaces, OfEdges}
-use Rattle.homology_files.specs.declared.head.Head.{Head}
-use Rattle.homology_files.specs.HomologyTexts.{answer_words, head_among, behind_head, size_of, face_number_of, edge_number_of, is_face_above, is_edge_before, is_edge_above, numbers_in, ok_then, cert_in, cert_of_text}
-use Rattle.homology_files.specs.WrittenTexts.{kind_in, face_words, edge_words, cert_lines, cert_text, FaceFits, EdgeFits, FitsFormat}
 use Rattle.homology_files.proofs.RisingLemmas.{before_passes}
 use Rattle.homology_files.proofs.ReadingLemmas.{good_line}
 

@@ -1,5 +1,5 @@
 -- What is told of the classes of walks, and what it means.
-use Rattle.homotopy_c.proofs.Common.{IsCompactSurface, walk_at, ◌≡◌, ◌≢◌, ◌↔◌, inl, inr, ℕ, ◌<◌, ◌≤◌, List, [], ◌++◌, length, get_or, take, sym, ap, ◌∙◌, subst, arith, cases_lt, get_or_append_left, take_at, Vec, MatchResult, Option, Some, None, Result, Ok, Err, FaceList}
+use Rattle.homotopy_c.proofs.Common.{IsCompactSurface, walk_at, IsMeshClassesCall, done, told_no_classes, AreClassesTold, IsClassesCall, IsPut, TellsClasses, in_front, Outcome, ◌≡◌, ◌≢◌, ◌↔◌, inl, inr, ℕ, ◌<◌, ◌≤◌, List, [], ◌++◌, length, get_or, take, sym, ap, ◌∙◌, subst, arith, cases_lt, get_or_append_left, take_at, Vec, MatchResult, Option, Some, None, Result, Ok, Err, FaceList}
 use Rattle.homotopy_arrays.specs.Classes.{AreClassed, IsNoClassesIn, walks_in}
 use Rattle.homotopy_arrays.specs.declared.classes.NoClasses.{NoClasses}
 use Rattle.std.proofs.Common.{drop}
@@ -7,11 +7,7 @@ use Rattle.std.proofs.lemmas.List.FromFn.{get_or-map-range_with_len, length-map-
 use Rattle.walk_classes.proofs.ClassLemmas.{told_by_numbers}
 use Rattle.walk_classes.specs.WalkClasses.{AreClasses, AreInOneClass}
 use Rattle.homotopy_arrays.specs.declared.classes.NoClasses.TheVariants as none
-use Rattle.homotopy_c.specs.Kept.{IsMeshClassesCall}
-use Rattle.homotopy_c.specs.Outcomes.{done, told_no_classes}
-use Rattle.homotopy_c.specs.Told.{AreClassesTold, IsClassesCall, IsPut, TellsClasses, in_front}
 use Rattle.homotopy_c.specs.declared.codes.TheConstants as codes
-use Rattle.homotopy_c.specs.declared.outcome.Outcome.{Outcome}
 use Rattle.homotopy_c.proofs.CodeLemmas.{walks_code}
 use Rattle.homotopy_c.proofs.TellingLemmas.{code_is}
 

@@ -1,5 +1,5 @@
 -- What is told of a fault is no answer.
-use Rattle.homotopy_c.proofs.Common.{CertifyFault, Fault, WalkFault, Empty, Long, Pair, Loops, VerifyFault, ◌<◌, true, false, arith, NotTwo, NoVertex, NoEdge, EndsDiffer}
+use Rattle.homotopy_c.proofs.Common.{CertifyFault, Fault, WalkFault, Empty, Long, Pair, Loops, VerifyFault, told_certify, told_certificate, told_verify, told, told_walks, walk_code, ◌<◌, true, false, arith, NotTwo, NoVertex, NoEdge, EndsDiffer}
 use Rattle.walk_files.specs.declared.fault.CertFault.{CertFault}
 use Rattle.walk_files.specs.declared.fault.CertFault.TheVariants as certificates
 use Rattle.walk_files.specs.declared.loops.LoopFault.TheVariants as loops
@@ -7,9 +7,6 @@ use Rattle.commands.specs.declared.limits.OverLimit.TheVariants as limits
 use Rattle.homotopy_arrays.specs.declared.certify.CertifyFault.TheVariants as certify
 use Rattle.homotopy_arrays.specs.declared.fault.Fault.TheVariants as faults
 use Rattle.homotopy_arrays.specs.declared.verify.VerifyFault.TheVariants as verify
-use Rattle.homotopy_c.specs.Certified.{told_certify}
-use Rattle.homotopy_c.specs.Judged.{told_certificate, told_verify}
-use Rattle.homotopy_c.specs.Outcomes.{told, told_walks, walk_code}
 use Rattle.homotopy_c.specs.declared.codes.TheConstants as codes
 
 -- the codes of answers that stand in an outcome are at most that of acceptance, and those of faults are greater

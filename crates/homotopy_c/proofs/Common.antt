@@ -1,4 +1,4 @@
--- What proofs of this crate cite of others, passed on from one place (by tools/imports). Declares nothing.
+-- What proofs of this crate cite of its definitions and of other crates, passed on from one place (by tools/imports). Declares nothing.
 pub use Rattle.compact_surfaces.specs.CompactSurfaces.{IsCompactSurface, IsOrientableCompactSurface}
 pub use Rattle.core.proofs.alloc.Calls.{Al, Goes-blank, handle_tells}
 pub use Rattle.core.proofs.atomic.Steps.{fm}
@@ -16,6 +16,14 @@ pub use Rattle.homotopy_arrays.specs.declared.fault.Fault.{Fault}
 pub use Rattle.homotopy_arrays.specs.declared.pair.WalkFault.{WalkFault}
 pub use Rattle.homotopy_arrays.specs.declared.pair.WalkFault.TheVariants.{Empty, Long, Loops, Pair}
 pub use Rattle.homotopy_arrays.specs.declared.verify.VerifyFault.{VerifyFault}
+pub use Rattle.homotopy_c.specs.Certified.{IsCertifyCall, TellsCertificate, code_of, told_certify}
+pub use Rattle.homotopy_c.specs.Handles.{holds_at}
+pub use Rattle.homotopy_c.specs.Judged.{IsVerifyCall, ended, judged, judged_denial, judged_labels, judged_moves, move_code, told_certificate, told_verify}
+pub use Rattle.homotopy_c.specs.Kept.{IsMeshAnswersCall, IsMeshClassesCall, IsMeshDecideCall, IsMeshNewAnyCall, IsMeshNewCall, TellsHeld, TellsKept}
+pub use Rattle.homotopy_c.specs.Meanings.{DoesAnswer, DoesAnswerLoops, DoesMeasure, IsAccepted, Shows, ShowsDifferent, ShowsHomologous, ShowsHomotopic, ShowsNotHomologous, StandCounted}
+pub use Rattle.homotopy_c.specs.Outcomes.{byte_of, done, loop_byte, told, told_no_classes, told_walks, walk_code}
+pub use Rattle.homotopy_c.specs.Told.{AreClassesTold, IsBytesCall, IsClassesCall, IsDecideAnyCall, IsDecideCall, IsPut, IsSurfaceTold, TellsBytes, TellsClasses, TellsSurface, in_front}
+pub use Rattle.homotopy_c.specs.declared.outcome.Outcome.{Outcome}
 pub use Rattle.std.proofs.Common.{List, ap, append_assoc, arith, false, get_or, inl, inr, length, length-take-le, lit<, refl, set, subst, sym, take, true, ℕ, [], ◌*◌, ◌++◌, ◌+◌, ◌/◌, ◌<◌, ◌↔◌, ◌∙◌, ◌∷◌, ◌≡◌, ◌≢◌, ◌≤◌, ◌⊎◌}
 pub use Rattle.std.proofs.lemmas.Bool.{cases_lt}
 pub use Rattle.std.proofs.lemmas.List.{drop_more, get_or-map, get_or_append_left, length-map, map-append, set_at, take_at, take_more}

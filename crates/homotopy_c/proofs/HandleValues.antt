@@ -1,11 +1,10 @@
 -- The machine value of a handle, and what lies where it points. Assumes `Logic`.
-use Rattle.homotopy_c.proofs.Common.{Good, the_row as Kept, ◌≡◌, ℕ, List, [], ◌∷◌, ◌++◌, refl, ◌∙◌, lit<, Option, Some, None, ghosts, Global, box_owns, Fml, SProp, ent, emp, guard, guard_i, snd∗, via, fact_use, lone, Ptr, block_ptr, null_ptr, ptr_val, lies_at, Testable, Struct, ty_ptr, ty_struct, tcons, tnil, Val, vstruct, vcons, vnil, of_list, Ura, Item, Goal, Seq, ‵, given, ◌$◌, move, drop, fsplit, fpick, use1, learn, Logic, sem}
+use Rattle.homotopy_c.proofs.Common.{Good, the_row as Kept, holds_at, ◌≡◌, ℕ, List, [], ◌∷◌, ◌++◌, refl, ◌∙◌, lit<, Option, Some, None, ghosts, Global, box_owns, Fml, SProp, ent, emp, guard, guard_i, snd∗, via, fact_use, lone, Ptr, block_ptr, null_ptr, ptr_val, lies_at, Testable, Struct, ty_ptr, ty_struct, tcons, tnil, Val, vstruct, vcons, vnil, of_list, Ura, Item, Goal, Seq, ‵, given, ◌$◌, move, drop, fsplit, fpick, use1, learn, Logic, sem}
 use Rattle.std.proofs.GlobalToken.{dealloc_token-Testable}
 use base.Fraction.{full_share}
 use denote.RawPtr.{RawPtr}
 use denote.Shadow.{shadow, makes_shadow}
 use mir.Raw.{raw as bare}
-use Rattle.homotopy_c.specs.Handles.{holds_at}
 
 pub ptr_typed : (p : Ptr) → Good ty_ptr (ptr_val p)
 ptr_typed (block_ptr b o) = (tt, tt)

@@ -1,17 +1,14 @@
 -- What is told of homology, and what it means.
-use Rattle.homotopy_c.proofs.Common.{Fault, WalkFault, Empty, Long, Pair, Loops, ◌≡◌, ◌≢◌, ◌⊎◌, inl, inr, ℕ, true, false, List, length, get_or, refl, sym, ap, ◌∙◌, arith, cases_lt, Result, Ok, Err, MatchResult, Bool, ℤ, ◌==◌, ◌||◌, FaceList, IsOrientableSurface, NotTwo, NoVertex, NoEdge, EndsDiffer}
+use Rattle.homotopy_c.proofs.Common.{Fault, WalkFault, Empty, Long, Pair, Loops, ShowsHomologous, ShowsNotHomologous, StandCounted, told, told_walks, Outcome, ◌≡◌, ◌≢◌, ◌⊎◌, inl, inr, ℕ, true, false, List, length, get_or, refl, sym, ap, ◌∙◌, arith, cases_lt, Result, Ok, Err, MatchResult, Bool, ℤ, ◌==◌, ◌||◌, FaceList, IsOrientableSurface, NotTwo, NoVertex, NoEdge, EndsDiffer}
 use Rattle.homology.specs.declared.array.HomologyNumbers.{HomologyNumbers}
 use Rattle.homology.specs.declared.array.HomologyNumbers.TheVariants.{Chain, Cocycle}
 use Rattle.homotopy_arrays.specs.Homologies.{AreShown, IsHomologyFault, ShowsWalks}
 use Rattle.homotopy_arrays.specs.declared.homologies.HomologyFault.{HomologyFault}
+use Rattle.homotopy_c.specs.Homologous.{IsHomologyCall, TellsHomology, answer_code, numbers_of, told_homology}
 use Rattle.homotopy_arrays.specs.declared.fault.Fault.TheVariants as faults
 use Rattle.homotopy_arrays.specs.declared.homologies.HomologyFault.TheVariants as homologies
 use Rattle.walk_files.specs.declared.loops.LoopFault.TheVariants as loops
-use Rattle.homotopy_c.specs.Homologous.{IsHomologyCall, TellsHomology, answer_code, numbers_of, told_homology}
-use Rattle.homotopy_c.specs.Meanings.{ShowsHomologous, ShowsNotHomologous, StandCounted}
-use Rattle.homotopy_c.specs.Outcomes.{told, told_walks}
 use Rattle.homotopy_c.specs.declared.codes.TheConstants as codes
-use Rattle.homotopy_c.specs.declared.outcome.Outcome.{Outcome}
 use Rattle.homotopy_c.proofs.TellingLemmas.{of_one}
 
 -- ---- the codes of the two answers

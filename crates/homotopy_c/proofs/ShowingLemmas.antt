@@ -1,5 +1,5 @@
 -- What is told of certificates, that are written and that are judged, and what it means.
-use Rattle.homotopy_c.proofs.Common.{AreWalks, CertifyFault, VerifyFault, ◌≡◌, ◌≢◌, ◌⊎◌, inl, inr, ℕ, ◌<◌, ◌≤◌, List, length, get_or, take, refl, sym, ap, ◌∙◌, subst, arith, cases_lt, Result, Ok, Err, MatchResult, FaceList, IsFaceList, HasFileSize, IsOrientableSurface}
+use Rattle.homotopy_c.proofs.Common.{AreWalks, CertifyFault, VerifyFault, IsCertifyCall, TellsCertificate, code_of, IsVerifyCall, ended, judged, judged_denial, judged_labels, judged_moves, move_code, told_verify, IsAccepted, Shows, ShowsDifferent, ShowsHomotopic, in_front, Outcome, ◌≡◌, ◌≢◌, ◌⊎◌, inl, inr, ℕ, ◌<◌, ◌≤◌, List, length, get_or, take, refl, sym, ap, ◌∙◌, subst, arith, cases_lt, Result, Ok, Err, MatchResult, FaceList, IsFaceList, HasFileSize, IsOrientableSurface}
 use Rattle.commands.specs.Certificates.{Convinces, certificate_text, decision_of}
 use Rattle.commands.specs.Inputs.{SpellsCertificate}
 use Rattle.commands.specs.declared.certificate.Certificate.{Certificate}
@@ -25,12 +25,7 @@ use Rattle.labellings.specs.declared.verdict.DenialVerdict.TheVariants as denial
 use Rattle.move_checker.specs.declared.judge.Verdict.TheVariants as verdicts
 use Rattle.surf_model.specs.declared.decisions.Answer.TheVariants as decisions
 use Rattle.homotopy_arrays.specs.declared.verify.Judgement.TheVariants as judgements
-use Rattle.homotopy_c.specs.Certified.{IsCertifyCall, TellsCertificate, code_of}
-use Rattle.homotopy_c.specs.Judged.{IsVerifyCall, ended, judged, judged_denial, judged_labels, judged_moves, move_code, told_verify}
-use Rattle.homotopy_c.specs.Meanings.{IsAccepted, Shows, ShowsDifferent, ShowsHomotopic}
-use Rattle.homotopy_c.specs.Told.{in_front}
 use Rattle.homotopy_c.specs.declared.codes.TheConstants as codes
-use Rattle.homotopy_c.specs.declared.outcome.Outcome.{Outcome}
 use Rattle.homotopy_c.proofs.CodeLemmas.{certify_code, verify_code}
 use Rattle.homotopy_c.proofs.TellingLemmas.{of_one}
 

@@ -1,20 +1,15 @@
 -- What is told of surfaces and of pairs, and what it means.
-use Rattle.homotopy_c.proofs.Common.{IsCompactSurface, IsCompactFault, IsCompactKept, IsDecideAnyFault, AreAnsweredOn, IsKept, IsAskedFault, IsDecideFault, IsLoopAnswer, IsAnswer, walk_at, are_pairs, EndsOn, IsMeasured, IsSurfaceFault, OfMesh, Homotopic, Different, Faulty, Fault, ◌≡◌, ◌≢◌, inl, inr, ℕ, ◌+◌, ◌*◌, ◌/◌, ◌<◌, List, length, get_or, refl, sym, ap, ◌∙◌, subst, arith, false, cases_lt, get_or_append_left, get_or-map, length-map, Vec, Box, Option, Some, None, Result, Ok, Err, FaceList, IsOrientableSurface}
+use Rattle.homotopy_c.proofs.Common.{IsCompactSurface, IsCompactFault, IsCompactKept, IsDecideAnyFault, AreAnsweredOn, IsKept, IsAskedFault, IsDecideFault, IsLoopAnswer, IsAnswer, walk_at, are_pairs, EndsOn, IsMeasured, IsSurfaceFault, OfMesh, Homotopic, Different, Faulty, Fault, IsMeshAnswersCall, IsMeshDecideCall, IsMeshNewAnyCall, IsMeshNewCall, TellsHeld, TellsKept, DoesAnswer, DoesAnswerLoops, DoesMeasure, byte_of, done, loop_byte, told, IsBytesCall, IsDecideAnyCall, IsDecideCall, IsSurfaceTold, TellsBytes, TellsSurface, Outcome, ◌≡◌, ◌≢◌, inl, inr, ℕ, ◌+◌, ◌*◌, ◌/◌, ◌<◌, List, length, get_or, refl, sym, ap, ◌∙◌, subst, arith, false, cases_lt, get_or_append_left, get_or-map, length-map, Vec, Box, Option, Some, None, Result, Ok, Err, FaceList, IsOrientableSurface}
 use Rattle.compact_surfaces.proofs.ClosedLemmas.{compact_surface}
 use Rattle.homotopy_arrays.proofs.EndLemmas.{on_kind}
 use Rattle.homotopy_arrays.specs.declared.decide.PairAnswer.{PairAnswer}
 use Rattle.homotopy_arrays.specs.declared.fault.Fault.TheVariants.{OutOfMemory, WalkCount}
 use Rattle.homotopy_arrays.specs.declared.loops.LoopAnswer.{LoopAnswer}
 use Rattle.homotopy_arrays.specs.declared.surface.Measured.{Measured}
+use Rattle.homotopy_c.specs.declared.surface.SurfaceNumbers.{SurfaceNumbers}
 use Rattle.std.proofs.Common.{drop, map}
 use Rattle.homotopy_arrays.specs.declared.loops.LoopAnswer.TheVariants as free
-use Rattle.homotopy_c.specs.Kept.{IsMeshAnswersCall, IsMeshDecideCall, IsMeshNewAnyCall, IsMeshNewCall, TellsHeld, TellsKept}
-use Rattle.homotopy_c.specs.Meanings.{DoesAnswer, DoesAnswerLoops, DoesMeasure}
-use Rattle.homotopy_c.specs.Outcomes.{byte_of, done, loop_byte, told}
-use Rattle.homotopy_c.specs.Told.{IsBytesCall, IsDecideAnyCall, IsDecideCall, IsSurfaceTold, TellsBytes, TellsSurface}
 use Rattle.homotopy_c.specs.declared.codes.TheConstants as codes
-use Rattle.homotopy_c.specs.declared.outcome.Outcome.{Outcome}
-use Rattle.homotopy_c.specs.declared.surface.SurfaceNumbers.{SurfaceNumbers}
 use Rattle.homotopy_c.proofs.CodeLemmas.{byte_code, fault_code}
 
 -- the mesh that arrays are is one

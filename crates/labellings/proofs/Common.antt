@@ -1,6 +1,20 @@
--- What proofs of this crate cite of others, passed on from one place (by tools/imports). Declares nothing.
+-- What proofs of this crate cite of its definitions and of other crates, passed on from one place (by tools/imports). Declares nothing.
 pub use Rattle.flat_forms.specs.FlatStates.{IsFlatWheel, flat_next}
 pub use Rattle.flat_forms.specs.Vectors.{Vector, origin}
+pub use Rattle.labellings.specs.DenialVerdicts.{FirstIsRight, IsFirstWrong, IsVerdict, SecondIsRight}
+pub use Rattle.labellings.specs.GoodLabellings.{EdgeMeetsRule, HasDegree, HasPlaces, HasShape, IsGood, MeetsSomeRule, SidesMeetRule}
+pub use Rattle.labellings.specs.LabelFaults.{FitsFace, IsFirstFault, IsLeastAgainstRules}
+pub use Rattle.labellings.specs.Labellings.{FaceLabels, LabellingView, head_label, label_at, labels_at, signs_of, tail_label}
+pub use Rattle.labellings.specs.QuadPaths.{quad_path, spokes, spokes_by_labels, spokes_of_sides}
+unfoldable pub use Rattle.labellings.specs.QuadPaths.{side_from}
+pub use Rattle.labellings.specs.Spokes.{spoke_list}
+pub use Rattle.labellings.specs.TableRules.{EntryMeetsRule, IsFirstAgainst}
+pub use Rattle.labellings.specs.WalkWords.{IsWordOf, in_pairs}
+pub use Rattle.labellings.specs.declared.denial.Denial.{Denial}
+pub use Rattle.labellings.specs.declared.fault.LabelFault.{LabelFault}
+pub use Rattle.labellings.specs.declared.fault.LabelFault.TheVariants.{Degree, EdgeRule, OutOfMemory, PlaceTwice, Shape}
+pub use Rattle.labellings.specs.declared.verdict.DenialVerdict.{DenialVerdict}
+pub use Rattle.labellings.specs.declared.verdict.DenialVerdict.TheVariants.{Accepted, Equal, Label, WordWrong}
 pub use Rattle.std.proofs.Common.{All, Bool, List, ap, append_assoc, ap₂, arith, below_more, drop, eqb, false, get_or, inl, inr, length, map, of_z, refl, rules, slice_index, subst, suc, sym, take, to_z, true, w64, zero, ℕ, [], ◌&&◌, ◌*◌, ◌++◌, ◌+◌, ◌-◌, ◌<◌, ◌^◌, ◌∙◌, ◌∷◌, ◌≡◌, ◌≢◌, ◌≤◌, ◌⊎◌}
 pub use Rattle.std.proofs.lemmas.Bool.{and_parts, cases_Bool, cases_eq, cases_lt, eq-eqb, eqb-true, or_cases}
 pub use Rattle.std.proofs.lemmas.Bool.Decides.{nat_tests}

@@ -1,9 +1,5 @@
 -- An edge meets a rule exactly where its entry in the table of the mesh has two sides that do.
-use Rattle.labellings.proofs.Common.{◌≡◌, ◌≢◌, ◌⊎◌, inl, inr, ℕ, zero, suc, ◌<◌, List, [], ◌∷◌, length, get_or, sym, ◌∙◌, subst, arith, Contains, IsTrue, HasSideEnds, side_of_edge, edge_has_side, partners_of_edge, ends_agree, IsEdgeBetween, edge_between, table_pair, sides_of_edge, sides_between_swap, same_pair, place_before, Edge, IsTableOf, IsEdgeOf, IsPairBefore, edge_in, FaceList, is_edge, ArePartners, Side}
-use Rattle.labellings.specs.Labellings.{LabellingView}
-use Rattle.labellings.specs.GoodLabellings.{MeetsSomeRule, SidesMeetRule, EdgeMeetsRule}
-use Rattle.labellings.specs.LabelFaults.{IsLeastAgainstRules}
-use Rattle.labellings.specs.TableRules.{EntryMeetsRule, IsFirstAgainst}
+use Rattle.labellings.proofs.Common.{MeetsSomeRule, SidesMeetRule, EdgeMeetsRule, IsLeastAgainstRules, LabellingView, EntryMeetsRule, IsFirstAgainst, ◌≡◌, ◌≢◌, ◌⊎◌, inl, inr, ℕ, zero, suc, ◌<◌, List, [], ◌∷◌, length, get_or, sym, ◌∙◌, subst, arith, Contains, IsTrue, HasSideEnds, side_of_edge, edge_has_side, partners_of_edge, ends_agree, IsEdgeBetween, edge_between, table_pair, sides_of_edge, sides_between_swap, same_pair, place_before, Edge, IsTableOf, IsEdgeOf, IsPairBefore, edge_in, FaceList, is_edge, ArePartners, Side}
 
 -- the rules may be read from either side
 rule-swap : (places : List ℕ) (a b c d : ℕ) → MeetsSomeRule places a b c d → MeetsSomeRule places c d a b

@@ -1,12 +1,9 @@
 -- The spokes of a dart act on the states of a form that meets the laws of puts, and once round a face they change nothing: a side puts the
 -- label at its tail and then the one at its head, so round a face the labels telescope.
-use Rattle.labellings.proofs.Common.{◌≡◌, inl, inr, ℕ, zero, suc, ◌<◌, Bool, true, false, ◌&&◌, eqb, List, [], ◌∷◌, ◌++◌, length, get_or, refl, ap, sym, ◌∙◌, subst, arith, append_assoc, cases_Bool, eqb-true, and_parts, cond, step_within, IsSide, side_after, tail_of, head_of, FaceList, IsFaceList, face_at, next_corner, corners_from, start_under, end_under, is_flipped, Side, IsQuad, led, add, walked, run as run_from, beyond}
+use Rattle.labellings.proofs.Common.{IsGood, MeetsSomeRule, LabellingView, signs_of, labels_at, label_at, tail_label, head_label, spokes, spokes_by_labels, quad_path, ◌≡◌, inl, inr, ℕ, zero, suc, ◌<◌, Bool, true, false, ◌&&◌, eqb, List, [], ◌∷◌, ◌++◌, length, get_or, refl, ap, sym, ◌∙◌, subst, arith, append_assoc, cases_Bool, eqb-true, and_parts, cond, step_within, IsSide, side_after, tail_of, head_of, FaceList, IsFaceList, face_at, next_corner, corners_from, start_under, end_under, is_flipped, Side, IsQuad, led, add, walked, run as run_from, beyond}
 use Rattle.surf_model.proofs.RoundLemmas.{corner_after}
 use Rattle.walk_actions.proofs.Corners.{once_round}
 use Rattle.walk_actions.proofs.Runs.{walked-round}
-use Rattle.labellings.specs.Labellings.{LabellingView, signs_of, labels_at, label_at, tail_label, head_label}
-use Rattle.labellings.specs.GoodLabellings.{IsGood, MeetsSomeRule}
-use Rattle.labellings.specs.QuadPaths.{spokes, spokes_by_labels, quad_path}
 use Rattle.labellings.proofs.SideLemmas.{SpokesOfSide, spokes_of_side}
 
 -- Puts on one wheel: the two laws, over the states of a form that belong to it.

@@ -1,10 +1,7 @@
 -- Moves keep the state: a walk and the walk after moves lead each state at the vertex to one state. The spokes of darts act on such states.
-use Rattle.labellings.proofs.Common.{◌≡◌, ◌⊎◌, inl, inr, ℕ, suc, ◌<◌, Bool, true, false, ◌&&◌, eqb, List, [], ◌∷◌, length, refl, ap, sym, ◌∙◌, subst, arith, cases_Bool, or_cases, eqb-true, and_parts, Any-from_list_any, IsTrue, Contains, Option, Some, None, find, IsListed, all_listed, IsSide, tail_of, head_of, side_name, FaceList, FaceSide, IsFaceList, all_sides, joins, is_edge, apply_all, start_under, end_under, is_flipped, IsWalk, Side, led, IsEdge}
+use Rattle.labellings.proofs.Common.{IsGood, LabellingView, signs_of, tail_label, head_label, side_from, spokes, spokes_of_sides, quad_path, ◌≡◌, ◌⊎◌, inl, inr, ℕ, suc, ◌<◌, Bool, true, false, ◌&&◌, eqb, List, [], ◌∷◌, length, refl, ap, sym, ◌∙◌, subst, arith, cases_Bool, or_cases, eqb-true, and_parts, Any-from_list_any, IsTrue, Contains, Option, Some, None, find, IsListed, all_listed, IsSide, tail_of, head_of, side_name, FaceList, FaceSide, IsFaceList, all_sides, joins, is_edge, apply_all, start_under, end_under, is_flipped, IsWalk, Side, led, IsEdge}
 use Rattle.surf_model.specs.declared.moves.Move.{Move}
 use Rattle.walk_actions.proofs.Actions.{acts_exactly, moves_act, crosses_any}
-use Rattle.labellings.specs.Labellings.{LabellingView, signs_of, tail_label, head_label}
-use Rattle.labellings.specs.GoodLabellings.{IsGood}
-use Rattle.labellings.specs.QuadPaths.{side_from, spokes, spokes_of_sides, quad_path}
 use Rattle.labellings.proofs.FoldLemmas.{PutLaws, pair, pair_belongs, there, run, spoked, run_walked, Darts, darts_of, once_round_face, tail_within, head_within, led-append}
 
 -- what is found is in the list

@@ -1,11 +1,7 @@
 -- The quad path of a walk, dart after dart.
-use Rattle.labellings.proofs.Common.{◌≡◌, ℕ, zero, suc, ◌+◌, ◌<◌, List, [], ◌∷◌, ◌++◌, All, length, get_or, take, ap, sym, ◌∙◌, subst, arith, append_assoc, append-nil, Option, Some, None, IfSome, MatchOption, FaceList}
+use Rattle.labellings.proofs.Common.{IsGood, LabellingView, spokes, quad_path, spoke_list, ◌≡◌, ℕ, zero, suc, ◌+◌, ◌<◌, List, [], ◌∷◌, ◌++◌, All, length, get_or, take, ap, sym, ◌∙◌, subst, arith, append_assoc, append-nil, Option, Some, None, IfSome, MatchOption, FaceList}
 use Rattle.surf_model.specs.declared.names.Spoke.{Spoke}
-use Rattle.labellings.specs.Labellings.{LabellingView}
-use Rattle.labellings.specs.GoodLabellings.{IsGood}
-use Rattle.labellings.specs.QuadPaths.{spokes, quad_path}
 use Rattle.labellings.proofs.WalkWordLemmas.{quad_path_below}
-use Rattle.labellings.specs.Spokes.{spoke_list}
 
 -- one dart more
 pub path-next : (mesh : FaceList) (labelling : LabellingView) (walk : List ℕ) (k : ℕ) → k + 1 < length walk

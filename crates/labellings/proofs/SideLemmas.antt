@@ -1,10 +1,7 @@
 -- Under a good labelling each dart of the mesh runs along one side, and its edge's other side runs against it.
-use Rattle.labellings.proofs.Common.{◌≡◌, ◌≢◌, ◌⊎◌, inl, inr, ℕ, zero, suc, Bool, true, false, ◌&&◌, eqb, List, [], ◌∷◌, length, refl, ap, sym, ◌∙◌, subst, arith, cases_Bool, cases_eq, eqb-true, eq-eqb, and_parts, nat_tests, list_any-from_Any, IsTrue, Contains, Some, find, filter, ends_differ, IsListed, all_listed, partners_listed, IsSide, tail_of, head_of, side_name, FaceList, FaceSide, IsFaceList, face_at, all_sides, joins, is_edge, ArePartners, start_under, end_under, is_flipped, Side}
+use Rattle.labellings.proofs.Common.{IsGood, EdgeMeetsRule, SidesMeetRule, LabellingView, signs_of, tail_label, head_label, side_from, spokes, spokes_of_sides, spokes_by_labels, ◌≡◌, ◌≢◌, ◌⊎◌, inl, inr, ℕ, zero, suc, Bool, true, false, ◌&&◌, eqb, List, [], ◌∷◌, length, refl, ap, sym, ◌∙◌, subst, arith, cases_Bool, cases_eq, eqb-true, eq-eqb, and_parts, nat_tests, list_any-from_Any, IsTrue, Contains, Some, find, filter, ends_differ, IsListed, all_listed, partners_listed, IsSide, tail_of, head_of, side_name, FaceList, FaceSide, IsFaceList, face_at, all_sides, joins, is_edge, ArePartners, start_under, end_under, is_flipped, Side}
 use Rattle.surf_model.proofs.NumberLemmas.{face_side}
 use Rattle.surf_model.proofs.TableLemmas.{Contains-filter, face_side_in}
-use Rattle.labellings.specs.Labellings.{LabellingView, signs_of, tail_label, head_label}
-use Rattle.labellings.specs.GoodLabellings.{IsGood, EdgeMeetsRule, SidesMeetRule}
-use Rattle.labellings.specs.QuadPaths.{side_from, spokes, spokes_of_sides, spokes_by_labels}
 
 -- the first element that passes, where one alone does
 find_only : {A : Type 0} (p : A → Bool) (xs : List A) (x : A) → Contains xs x → p x ≡ true → ((y : A) → Contains xs y → p y ≡ true → y ≡ x)

@@ -1,8 +1,5 @@
 -- The spokes of a dart, by the two sides of its edge in the table of the mesh.
-use Rattle.labellings.proofs.Common.{◌≡◌, ◌≢◌, ◌⊎◌, inl, inr, ℕ, ◌<◌, Bool, true, false, List, length, get_or, refl, ap, sym, ◌∙◌, subst, arith, get_or_from_slice_get, Contains, Some, slice_get, HasSideEnds, side_of_edge, edge_has_side, partners_of_edge, ends_agree, table_pair, IsSide, tail_of, head_of, Edge, IsTableOf, IsEdgeOf, HasEnds, edge_in, FaceList, IsFaceList, ArePartners, is_flipped, start_under, end_under, Side}
-use Rattle.labellings.specs.Labellings.{LabellingView, signs_of, tail_label, head_label}
-use Rattle.labellings.specs.GoodLabellings.{IsGood}
-use Rattle.labellings.specs.QuadPaths.{spokes, spokes_by_labels}
+use Rattle.labellings.proofs.Common.{IsGood, LabellingView, signs_of, tail_label, head_label, spokes, spokes_by_labels, ◌≡◌, ◌≢◌, ◌⊎◌, inl, inr, ℕ, ◌<◌, Bool, true, false, List, length, get_or, refl, ap, sym, ◌∙◌, subst, arith, get_or_from_slice_get, Contains, Some, slice_get, HasSideEnds, side_of_edge, edge_has_side, partners_of_edge, ends_agree, table_pair, IsSide, tail_of, head_of, Edge, IsTableOf, IsEdgeOf, HasEnds, edge_in, FaceList, IsFaceList, ArePartners, is_flipped, start_under, end_under, Side}
 use Rattle.labellings.proofs.SideLemmas.{SpokesOfSide, spokes_of_side}
 use Rattle.labellings.proofs.EdgeRuleLemmas.{two-of, two-from-rule}
 

@@ -1,9 +1,8 @@
 -- A labelling as it lies in memory.
-use Rattle.labellings.proofs.Common.{◌≡◌, ℕ, zero, suc, ◌+◌, ◌-◌, ◌^◌, ◌<◌, ◌≤◌, Bool, false, List, [], ◌∷◌, ◌++◌, length, map, get_or, take, drop, refl, ap, sym, subst, ◌∙◌, inl, inr, arith, cases_lt, length-take-le, length-drop, length-append, length_push, get_or-take, get_or-drop, get_or_append_left, get_or_push}
+use Rattle.labellings.proofs.Common.{FaceLabels, LabellingView, labels_at, signs_of, ◌≡◌, ℕ, zero, suc, ◌+◌, ◌-◌, ◌^◌, ◌<◌, ◌≤◌, Bool, false, List, [], ◌∷◌, ◌++◌, length, map, get_or, take, drop, refl, ap, sym, subst, ◌∙◌, inl, inr, arith, cases_lt, length-take-le, length-drop, length-append, length_push, get_or-take, get_or-drop, get_or_append_left, get_or_push}
+use Rattle.labellings.specs.StoredLabellings.{with_signs, stored_labelling, IsStoredLabelling}
 use Rattle.surf_model.proofs.PartsLemmas.{length-parts, get_or-parts, part_within, parts-push, EndsRise-push, EndsRise-last}
 use Rattle.surf_model.specs.Parts.{parts, EndsRise}
-use Rattle.labellings.specs.Labellings.{FaceLabels, LabellingView, labels_at, signs_of}
-use Rattle.labellings.specs.StoredLabellings.{with_signs, stored_labelling, IsStoredLabelling}
 
 abbrev face_labels : Bool → List ℕ → FaceLabels
 face_labels flipped labels = record { flipped = flipped; labels = labels }

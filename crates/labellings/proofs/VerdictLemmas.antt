@@ -1,15 +1,5 @@
 -- The word of a walk is one, and what a denial that holds excludes.
-use Rattle.labellings.proofs.Common.{◌≡◌, ◌⊎◌, inl, inr, ℕ, ◌<◌, Bool, List, [], length, refl, sym, ap, ap₂, subst, ◌∙◌, arith, ◌↔◌, IsTrue, IsPairBefore, FaceList, IsFaceList, IsWalk, IsFirstTwice, Word}
-use Rattle.labellings.specs.Labellings.{LabellingView}
-use Rattle.labellings.specs.GoodLabellings.{IsGood, HasPlaces}
-use Rattle.labellings.specs.LabelFaults.{IsFirstFault, IsLeastAgainstRules}
-use Rattle.labellings.specs.declared.fault.LabelFault.{LabelFault}
-use Rattle.labellings.specs.declared.fault.LabelFault.TheVariants.{Shape, Degree, PlaceTwice, EdgeRule, OutOfMemory}
-use Rattle.labellings.specs.declared.denial.Denial.{Denial}
-use Rattle.labellings.specs.DenialVerdicts.{FirstIsRight, SecondIsRight, IsFirstWrong, IsVerdict}
-use Rattle.labellings.specs.declared.verdict.DenialVerdict.{DenialVerdict}
-use Rattle.labellings.specs.declared.verdict.DenialVerdict.TheVariants.{Label, WordWrong, Equal, Accepted}
-use Rattle.labellings.specs.WalkWords.{IsWordOf}
+use Rattle.labellings.proofs.Common.{FirstIsRight, SecondIsRight, IsFirstWrong, IsVerdict, IsGood, HasPlaces, IsFirstFault, IsLeastAgainstRules, LabellingView, IsWordOf, Denial, LabelFault, Shape, Degree, PlaceTwice, EdgeRule, OutOfMemory, DenialVerdict, Label, WordWrong, Equal, Accepted, ◌≡◌, ◌⊎◌, inl, inr, ℕ, ◌<◌, Bool, List, [], length, refl, sym, ap, ap₂, subst, ◌∙◌, arith, ◌↔◌, IsTrue, IsPairBefore, FaceList, IsFaceList, IsWalk, IsFirstTwice, Word}
 use Rattle.labellings.proofs.WalkWordLemmas.{one_word_of_homotopic}
 
 -- a walk has one word

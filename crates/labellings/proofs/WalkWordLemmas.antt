@@ -1,19 +1,14 @@
 -- Under a good labelling, homotopic walks have one word: moves keep the state to which the spokes lead, and the word is that of the state.
-use Rattle.labellings.proofs.Common.{IsFlatWheel, flat_next, Vector, origin, ◌≡◌, inl, inr, ℕ, ◌<◌, ◌≤◌, ◌&&◌, eqb, List, [], ◌∷◌, ◌++◌, length, refl, ap, sym, ◌∙◌, subst, arith, cases_Bool, Option, Some, None, IsSide, side_name, FaceList, FaceSide, IsFaceList, Homotopic, IsWalk, turns, canonical, IsCanonicalOf, led, HyperState, IsHyperWheel, BelongsTo, IsEven, empty_state, hyper_next, turn_word_of, IsWheel, Word, Turns, Flat}
+use Rattle.labellings.proofs.Common.{IsFlatWheel, flat_next, Vector, origin, IsGood, LabellingView, tail_label, head_label, side_from, spokes, spokes_of_sides, spokes_by_labels, quad_path, in_pairs, IsWordOf, Denial, ◌≡◌, inl, inr, ℕ, ◌<◌, ◌≤◌, ◌&&◌, eqb, List, [], ◌∷◌, ◌++◌, length, refl, ap, sym, ◌∙◌, subst, arith, cases_Bool, Option, Some, None, IsSide, side_name, FaceList, FaceSide, IsFaceList, Homotopic, IsWalk, turns, canonical, IsCanonicalOf, led, HyperState, IsHyperWheel, BelongsTo, IsEven, empty_state, hyper_next, turn_word_of, IsWheel, Word, Turns, Flat}
 use Rattle.flat_forms.proofs.SumsOfPairs.{leads-to-sum}
 use Rattle.flat_forms.specs.Lemmas.FlatLaws.{flat_starts, flat_stays, flat_there_and_back, flat_across}
 use Rattle.flat_forms.specs.Pairs.{spokes_of, sum_of_pairs}
+use Rattle.labellings.specs.Denials.{DenialHolds}
 use Rattle.std.proofs.lemmas.List.Elements.{All-append, All-nil, All-cons}
 use Rattle.std.specs.Prelude.{All}
 use Rattle.turn_words.proofs.Unique.{unique}
 use Rattle.turn_words.specs.Lemmas.HyperLaws.{hyper_starts, hyper_stays, hyper_there_and_back, hyper_across}
 use Rattle.flat_forms.specs.FlatStates as flat
-use Rattle.labellings.specs.Labellings.{LabellingView, tail_label, head_label}
-use Rattle.labellings.specs.GoodLabellings.{IsGood}
-use Rattle.labellings.specs.QuadPaths.{side_from, spokes, spokes_of_sides, spokes_by_labels, quad_path}
-use Rattle.labellings.specs.WalkWords.{in_pairs, IsWordOf}
-use Rattle.labellings.specs.Denials.{DenialHolds}
-use Rattle.labellings.specs.declared.denial.Denial.{Denial}
 use Rattle.labellings.proofs.FoldLemmas.{PutLaws, tail_within, head_within}
 use Rattle.labellings.proofs.KeepingLemmas.{found_side, moves_keep}
 

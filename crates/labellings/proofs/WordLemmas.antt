@@ -1,9 +1,5 @@
 -- The word of a walk, from the state to which the spokes of the walk lead.
-use Rattle.labellings.proofs.Common.{flat_next, Vector, origin, ◌≡◌, ℕ, ◌≤◌, List, sym, ◌∙◌, subst, ℤ, FaceList, canonical, IsCanonicalOf, led, empty_state, hyper_next, turn_word_of, Turns, Flat}
-use Rattle.labellings.specs.Labellings.{LabellingView}
-use Rattle.labellings.specs.GoodLabellings.{IsGood}
-use Rattle.labellings.specs.QuadPaths.{quad_path}
-use Rattle.labellings.specs.WalkWords.{IsWordOf}
+use Rattle.labellings.proofs.Common.{flat_next, Vector, origin, IsGood, LabellingView, quad_path, IsWordOf, ◌≡◌, ℕ, ◌≤◌, List, sym, ◌∙◌, subst, ℤ, FaceList, canonical, IsCanonicalOf, led, empty_state, hyper_next, turn_word_of, Turns, Flat}
 use Rattle.labellings.proofs.WalkWordLemmas.{quad_path_below, quad_path_leads_to_sum, hyper_wheel_of_good}
 
 -- for five spokes or more, the state to which the spokes lead has the word

@@ -1,12 +1,7 @@
 -- The verdict, move by move, and what it says of the walks.
-use Rattle.move_checker.proofs.Common.{◌≡◌, ℕ, ◌+◌, ◌<◌, ◌≤◌, ◌≢◌, max, true, false, List, [], ◌∷◌, refl, ap, sym, ◌∙◌, arith, inl, inr, le-leb, lt-leb, cases_lt, cases_Bool, both_ways, ◌↔◌, nat_le, None, Ok, Err, FaceList, PeakedMoves, apply, apply_all, Leads, greatest_darts, same_walk, darts, Move}
-use Rattle.std.specs.Prelude.{Some}
-use Rattle.move_checker.specs.Refusals.{step_of}
-use Rattle.move_checker.specs.Verdicts.{verdict_from, verdict_of}
-use Rattle.move_checker.specs.declared.fault.MoveFault.{MoveFault}
-use Rattle.move_checker.specs.declared.fault.MoveFault.TheVariants.{OverPeak}
+use Rattle.move_checker.proofs.Common.{step_of, verdict_from, verdict_of, MoveFault, OverPeak, Accepted, Peak, AtMove, End, ◌≡◌, ℕ, ◌+◌, ◌<◌, ◌≤◌, ◌≢◌, max, true, false, List, [], ◌∷◌, refl, ap, sym, ◌∙◌, arith, inl, inr, le-leb, lt-leb, cases_lt, cases_Bool, both_ways, ◌↔◌, nat_le, None, Ok, Err, FaceList, PeakedMoves, apply, apply_all, Leads, greatest_darts, same_walk, darts, Move}
 use Rattle.move_checker.specs.declared.judge.Verdict.{Verdict}
-use Rattle.move_checker.specs.declared.judge.Verdict.TheVariants.{Accepted, Peak, AtMove, End}
+use Rattle.std.specs.Prelude.{Some}
 use Rattle.move_checker.proofs.SameWalks.{same_walk_true, same_walk_false, same_walk_means}
 use Rattle.move_checker.proofs.Steps.{is_not_allowed, is_over_peak, is_done, outcome}
 

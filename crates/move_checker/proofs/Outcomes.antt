@@ -1,9 +1,6 @@
 -- What the answer of a step says in terms of the table of moves.
-use Rattle.move_checker.proofs.Common.{◌≡◌, ℕ, ◌<◌, ◌≤◌, List, subst, refl, ap, arith, ◌↔◌, Result, Ok, Err, IsOk, OnOk, MatchResult, FaceList, apply, darts, Move}
+use Rattle.move_checker.proofs.Common.{step_of, MoveFault, OverPeak, ◌≡◌, ℕ, ◌<◌, ◌≤◌, List, subst, refl, ap, arith, ◌↔◌, Result, Ok, Err, IsOk, OnOk, MatchResult, FaceList, apply, darts, Move}
 use Rattle.std.specs.Prelude.{Some}
-use Rattle.move_checker.specs.Refusals.{step_of}
-use Rattle.move_checker.specs.declared.fault.MoveFault.{MoveFault}
-use Rattle.move_checker.specs.declared.fault.MoveFault.TheVariants.{OverPeak}
 use Rattle.move_checker.proofs.Steps.{Outcome, is_not_allowed, is_over_peak, is_done, outcome}
 
 -- the answer and the walk afterwards are those of the step

@@ -1,11 +1,8 @@
 -- What a step gives, case by case.
-use Rattle.move_checker.proofs.Common.{◌≡◌, ℕ, ◌+◌, ◌-◌, ◌<◌, ◌≤◌, ◌≢◌, Bool, true, false, not, List, [], ◌∷◌, length, take, drop, get_or, refl, inl, inr, le-leb, lt-leb, cases_lt, cond, ◌==◌, ◌&&◌, nat_lt, nat_le, Option, None, Ok, Err, FaceList, face_at, corners_from, is_edge, apply, replaced, same_walk, darts, Move, Insert, Remove, Across}
+use Rattle.move_checker.proofs.Common.{need, refusal, step_of, MoveFault, Place, NoEdge, NotSpur, NotOnFace, OverPeak, ◌≡◌, ℕ, ◌+◌, ◌-◌, ◌<◌, ◌≤◌, ◌≢◌, Bool, true, false, not, List, [], ◌∷◌, length, take, drop, get_or, refl, inl, inr, le-leb, lt-leb, cases_lt, cond, ◌==◌, ◌&&◌, nat_lt, nat_le, Option, None, Ok, Err, FaceList, face_at, corners_from, is_edge, apply, replaced, same_walk, darts, Move, Insert, Remove, Across}
 use Rattle.std.specs.Prelude.{Some}
 use Rattle.surf_model.specs.declared.names.FaceName.{FaceName}
 use Rattle.surf_model.specs.declared.names.VertexName.{VertexName}
-use Rattle.move_checker.specs.Refusals.{need, refusal, step_of}
-use Rattle.move_checker.specs.declared.fault.MoveFault.{MoveFault}
-use Rattle.move_checker.specs.declared.fault.MoveFault.TheVariants.{Place, NoEdge, NotSpur, NotOnFace, OverPeak}
 
 pub refused : (mesh : FaceList) (peak : ℕ) (walk : List ℕ) (move : Move) (fault : MoveFault) → refusal mesh walk move ≡ Some fault
     → step_of mesh peak walk move ≡ Err fault

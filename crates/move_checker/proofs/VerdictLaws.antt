@@ -1,11 +1,6 @@
 -- When each verdict comes, in the words of the mesh.
-use Rattle.move_checker.proofs.Common.{◌≡◌, ◌≢◌, ℕ, zero, suc, ◌+◌, ◌-◌, ◌<◌, ◌≤◌, List, [], ◌∷◌, take, refl, ap, sym, ◌∙◌, subst, arith, inl, inr, cases_lt, cases_Bool, both_ways, ◌↔◌, Err, slice_get, FaceList, PeakedMoves, apply, same_walk, darts, Move}
+use Rattle.move_checker.proofs.Common.{step_of, verdict_from, verdict_of, LeadsWithin, IsRefusedAt, EndsElsewhere, MoveFault, OverPeak, Peak, AtMove, End, ◌≡◌, ◌≢◌, ℕ, zero, suc, ◌+◌, ◌-◌, ◌<◌, ◌≤◌, List, [], ◌∷◌, take, refl, ap, sym, ◌∙◌, subst, arith, inl, inr, cases_lt, cases_Bool, both_ways, ◌↔◌, Err, slice_get, FaceList, PeakedMoves, apply, same_walk, darts, Move}
 use Rattle.std.specs.Prelude.{Some}
-use Rattle.move_checker.specs.Refusals.{step_of}
-use Rattle.move_checker.specs.Verdicts.{verdict_from, verdict_of, LeadsWithin, IsRefusedAt, EndsElsewhere}
-use Rattle.move_checker.specs.declared.fault.MoveFault.{MoveFault}
-use Rattle.move_checker.specs.declared.fault.MoveFault.TheVariants.{OverPeak}
-use Rattle.move_checker.specs.declared.judge.Verdict.TheVariants.{Peak, AtMove, End}
 use Rattle.move_checker.proofs.Judgement.{verdict_over_peak, verdict_start, verdict_more, verdict_refused, verdict_accepted, verdict_end, greatest_darts-more, greatest_darts-first, greatest_darts-none, Leads-more, Leads-none}
 use Rattle.move_checker.proofs.SameWalks.{same_walk_true, same_walk_means}
 use Rattle.move_checker.proofs.Steps.{is_not_allowed, is_over_peak, is_done, outcome}

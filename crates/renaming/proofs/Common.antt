@@ -1,4 +1,5 @@
--- What proofs of this crate cite of others, passed on from one place (by tools/imports). Declares nothing.
+-- What proofs of this crate cite of its definitions and of other crates, passed on from one place (by tools/imports). Declares nothing.
+pub use Rattle.renaming.specs.Renamings.{IsRenamed, renamed_move}
 pub use Rattle.std.proofs.Common.{Bool, List, ap, arith, cond, eqb, false, get_or, inl, inr, length, map, refl, subst, suc, sym, true, zero, ℕ, [], ◌+◌, ◌-◌, ◌<◌, ◌↔◌, ◌∙◌, ◌∷◌, ◌≡◌, ◌≤◌}
 pub use Rattle.std.proofs.lemmas.Bool.{eqb-true, false≢true}
 pub use Rattle.std.proofs.lemmas.Bool.Decides.{nat_tests}

@@ -1,12 +1,11 @@
 -- Moves on walks of a renamed mesh, and homotopy there.
-use Rattle.renaming.proofs.Common.{◌≡◌, ◌↔◌, ℕ, zero, suc, ◌-◌, ◌<◌, Bool, List, [], ◌∷◌, length, map, refl, ap, sym, ◌∙◌, subst, arith, length-map, map-append, max, not, Some, step_within, FaceList, IsFaceList, face_at, corners_from, next_corner, IsWalk, darts}
+use Rattle.renaming.proofs.Common.{IsRenamed, renamed_move, ◌≡◌, ◌↔◌, ℕ, zero, suc, ◌-◌, ◌<◌, Bool, List, [], ◌∷◌, length, map, refl, ap, sym, ◌∙◌, subst, arith, length-map, map-append, max, not, Some, step_within, FaceList, IsFaceList, face_at, corners_from, next_corner, IsWalk, darts}
 use Rattle.surf_model.proofs.ContextLemmas.{first_answer, stays_walk}
 use Rattle.surf_model.proofs.ReplacementLemmas.{by_replacing}
 use Rattle.surf_model.specs.Moves.{apply, apply_all, Leads, Homotopic, greatest_darts}
 use Rattle.surf_model.specs.Replacements.{Replaces, place_of}
 use Rattle.surf_model.specs.declared.moves.Move.{Move}
 use Rattle.surf_model.specs.declared.moves.Move.TheVariants.{Insert, Remove, Across}
-use Rattle.renaming.specs.Renamings.{IsRenamed, renamed_move}
 use Rattle.renaming.proofs.RenamedSides.{length_renamed, size_renamed, corner_renamed, edge_renamed, led_back}
 use Rattle.renaming.proofs.RenamedWalks.{darts_renamed, restored}
 

@@ -1,10 +1,9 @@
 -- Faces, sides, used vertices and edges of a renamed mesh, and the renaming back.
-use Rattle.renaming.proofs.Common.{◌≡◌, ℕ, zero, suc, ◌+◌, ◌<◌, Bool, true, eqb, List, [], ◌∷◌, length, map, get_or, refl, ap, sym, ◌∙◌, subst, arith, eqb-true, nat_tests, length-map, get_or-map, get_or_default, map-append, same_lists, All-from_get_or, All, IsTrue, flat_map, corner_used, used_below, names, names_mesh, next_within, FaceList, FaceSide, IsFace, IsFaceList, face_at, all_sides, sides_of_face, next_corner, total_sides, joins, is_edge, is_used}
+use Rattle.renaming.proofs.Common.{IsRenamed, ◌≡◌, ℕ, zero, suc, ◌+◌, ◌<◌, Bool, true, eqb, List, [], ◌∷◌, length, map, get_or, refl, ap, sym, ◌∙◌, subst, arith, eqb-true, nat_tests, length-map, get_or-map, get_or_default, map-append, same_lists, All-from_get_or, All, IsTrue, flat_map, corner_used, used_below, names, names_mesh, next_within, FaceList, FaceSide, IsFace, IsFaceList, face_at, all_sides, sides_of_face, next_corner, total_sides, joins, is_edge, is_used}
 use Rattle.std.proofs.lemmas.List.Folds.{Any-from_list_any, list_any_at}
 use Rattle.std.specs.List.{list_any, enumerate_from}
 use Rattle.surf_model.proofs.FilterLemmas.{map-map, map_agree, map_itself}
 use Rattle.surf_model.proofs.NumberLemmas.{face_side, sides_at, length-sides_of_face, get_or-sides_of_face, length-all_sides}
-use Rattle.renaming.specs.Renamings.{IsRenamed}
 
 -- a side with its two vertices renamed
 abbrev pub renamed_side : (ℕ → ℕ) → FaceSide → FaceSide

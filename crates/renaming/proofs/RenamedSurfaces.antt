@@ -1,8 +1,7 @@
 -- A renamed mesh keeps the conditions of a closed surface, and coherent signs.
-use Rattle.renaming.proofs.Common.{◌≡◌, inl, inr, ℕ, ◌≤◌, Bool, true, false, cond, List, [], ◌∷◌, length, map, refl, ap, sym, ◌∙◌, subst, arith, false≢true, IsTrue, filter, tail_used, head_used, next_within, FaceList, FaceSide, IsFaceList, face_at, all_sides, joins, is_used, IsPath, AreJoined, sides_between, EachEdgeHasTwoSides, ArePartners, IsCornerAt, IsCornerOfSide, IsStepAround, HasOneRing, IsClosedManifold, IsClosed, IsCoherent, RunOppositely, is_flipped, start_under, end_under}
+use Rattle.renaming.proofs.Common.{IsRenamed, ◌≡◌, inl, inr, ℕ, ◌≤◌, Bool, true, false, cond, List, [], ◌∷◌, length, map, refl, ap, sym, ◌∙◌, subst, arith, false≢true, IsTrue, filter, tail_used, head_used, next_within, FaceList, FaceSide, IsFaceList, face_at, all_sides, joins, is_used, IsPath, AreJoined, sides_between, EachEdgeHasTwoSides, ArePartners, IsCornerAt, IsCornerOfSide, IsStepAround, HasOneRing, IsClosedManifold, IsClosed, IsCoherent, RunOppositely, is_flipped, start_under, end_under}
 use Rattle.surf_model.specs.Darts.{IsSide, side_after, tail_of, head_of}
 use Rattle.surf_model.specs.declared.edges.Side.{Side}
-use Rattle.renaming.specs.Renamings.{IsRenamed}
 use Rattle.renaming.proofs.RenamedSides.{renamed_side, length_renamed, size_renamed, corner_renamed, sides_renamed, joins_renamed, used_renamed, edge_renamed, led_back}
 use Rattle.renaming.proofs.RenamedWalks.{joined_renamed}
 

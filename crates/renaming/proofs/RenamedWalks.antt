@@ -1,7 +1,6 @@
 -- Walks of a renamed mesh.
-use Rattle.renaming.proofs.Common.{◌≡◌, ℕ, ◌+◌, ◌-◌, ◌<◌, List, length, map, get_or, ap, sym, ◌∙◌, subst, arith, length-map, get_or-map, All-weaker, All-map, IsTrue, FaceList, IsFaceList, is_used, IsWalkBetween, AreJoinedByWalk, IsWalk, HaveCommonEnds, darts}
+use Rattle.renaming.proofs.Common.{IsRenamed, ◌≡◌, ℕ, ◌+◌, ◌-◌, ◌<◌, List, length, map, get_or, ap, sym, ◌∙◌, subst, arith, length-map, get_or-map, All-weaker, All-map, IsTrue, FaceList, IsFaceList, is_used, IsWalkBetween, AreJoinedByWalk, IsWalk, HaveCommonEnds, darts}
 use Rattle.surf_model.specs.Components.{EachTwoAreJoined}
-use Rattle.renaming.specs.Renamings.{IsRenamed}
 use Rattle.renaming.proofs.RenamedSides.{used_renamed, edge_renamed, list_restored, led_back}
 
 pub darts_renamed : (there : ℕ → ℕ) (walk : List ℕ) → darts (map there walk) ≡ darts walk

@@ -1,8 +1,7 @@
 -- A mesh that is renamed.
-use Rattle.renaming.proofs.Common.{◌≡◌, ℕ, ◌<◌, true, refl, arith, nat_tests, is_used}
-use Rattle.surf_model.specs.Meshes.{tetrahedron}
-use Rattle.renaming.specs.Renamings.{IsRenamed}
+use Rattle.renaming.proofs.Common.{IsRenamed, ◌≡◌, ℕ, ◌<◌, true, refl, arith, nat_tests, is_used}
 use Rattle.renaming.specs.Examples.{odd_tetrahedron, there, back}
+use Rattle.surf_model.specs.Meshes.{tetrahedron}
 
 below_four : (v : ℕ) → is_used tetrahedron v ≡ true → v < 4
 unfolding is_used

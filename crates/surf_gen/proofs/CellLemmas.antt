@@ -1,8 +1,5 @@
 -- How many cells of a chain are left.
-use Rattle.surf_gen.proofs.Common.{◌≡◌, ◌≢◌, ℕ, zero, suc, ◌+◌, ◌-◌, ◌*◌, ◌<◌, ◌≤◌, Bool, true, false, not, cond, List, [], ◌∷◌, length, map, arith, ap, ◌∙◌, refl, and-false, or-false, lt-ltb, le-ltb, ne_eqb, length-map-range_with_len, range_with_len, filter, nat_lt, ◌==◌, ◌&&◌, ◌||◌, if◌then◌else◌}
-use Rattle.surf_gen.specs.declared.points.Point.{Point}
-use Rattle.surf_gen.specs.Chains.{point, is_cut_out, cells}
-use Rattle.surf_gen.specs.Parts.{points_of_row, points_of_torus}
+use Rattle.surf_gen.proofs.Common.{◌≡◌, ◌≢◌, ℕ, zero, suc, ◌+◌, ◌-◌, ◌*◌, ◌<◌, ◌≤◌, Bool, true, false, not, cond, List, [], ◌∷◌, length, map, arith, ap, ◌∙◌, refl, and-false, or-false, lt-ltb, le-ltb, ne_eqb, length-map-range_with_len, range_with_len, filter, nat_lt, ◌==◌, ◌&&◌, ◌||◌, if◌then◌else◌, point, is_cut_out, cells, points_of_row, points_of_torus, Point}
 use Rattle.surf_gen.proofs.StretchLemmas.{stretch_kept, count_but_one, count_along}
 
 abbrev one_if : Bool → ℕ

@@ -1,4 +1,4 @@
--- What proofs of this crate cite of others, passed on from one place (by tools/imports). Declares nothing.
+-- What proofs of this crate cite of its definitions and of other crates, passed on from one place (by tools/imports). Declares nothing.
 pub use Rattle.std.proofs.Common.{Bool, List, ap, arith, cond, drop, false, get_or, inl, inr, length, map, not, refl, subst, suc, sym, true, zero, ℕ, [], ◌%◌, ◌*◌, ◌++◌, ◌+◌, ◌-◌, ◌/◌, ◌<◌, ◌^◌, ◌∙◌, ◌∷◌, ◌≡◌, ◌≢◌, ◌≤◌}
 pub use Rattle.std.proofs.Math.Bool.{and-false, or-false}
 pub use Rattle.std.proofs.Math.ListN.{length-append, length-map}
@@ -12,4 +12,8 @@ pub use Rattle.std.proofs.lemmas.List.FromFn.{length-map-range_with_len, length-
 pub use Rattle.std.specs.Fmt.{decimal}
 pub use Rattle.std.specs.List.{filter, flat_map, join_with_byte, range_with_len}
 pub use Rattle.std.specs.Prelude.{All, Err, Ok, OnOk, Result, codes, if◌then◌else◌, is_ok, nat_lt, ◌&&◌, ◌==◌, ◌||◌, ◌⊎◌}
+pub use Rattle.surf_gen.specs.ChainTexts.{chain_text, coordinates, line_of}
+pub use Rattle.surf_gen.specs.Chains.{behind, cells, face, glued_before, is_cut_out, is_glued, number, partner, point, points, vertex_number, vertices}
+pub use Rattle.surf_gen.specs.Parts.{part_text, points_of_row, points_of_torus}
+pub use Rattle.surf_gen.specs.declared.points.Point.{Point}
 pub use mathlib.Core.List.{append-nil, append_assoc}

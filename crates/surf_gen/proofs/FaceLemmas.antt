@@ -1,9 +1,6 @@
 -- The faces of a chain are quads of its vertices: their corners are in range, and neighbours differ.
-use Rattle.surf_gen.proofs.Common.{◌≡◌, ◌≢◌, ℕ, zero, suc, ◌+◌, ◌-◌, ◌*◌, ◌%◌, ◌<◌, ◌≤◌, Bool, true, false, not, cond, List, [], ◌∷◌, ◌++◌, length, map, arith, sym, subst, ap, ◌∙◌, refl, inl, inr, mul-le-mul_left, mod-eq_of_lt, mod_self, ltb-true, and_parts, cases_lt, All-nil, All-cons, All-append, All-filter, range_with_len, filter, flat_map, ◌⊎◌, nat_lt, ◌&&◌, if◌then◌else◌, All}
-use Rattle.surf_gen.specs.declared.points.Point.{Point}
-use Rattle.surf_gen.specs.Chains.{point, points, is_glued, is_cut_out, partner, vertices, cells, vertex_number, number, behind}
+use Rattle.surf_gen.proofs.Common.{◌≡◌, ◌≢◌, ℕ, zero, suc, ◌+◌, ◌-◌, ◌*◌, ◌%◌, ◌<◌, ◌≤◌, Bool, true, false, not, cond, List, [], ◌∷◌, ◌++◌, length, map, arith, sym, subst, ap, ◌∙◌, refl, inl, inr, mul-le-mul_left, mod-eq_of_lt, mod_self, ltb-true, and_parts, cases_lt, All-nil, All-cons, All-append, All-filter, range_with_len, filter, flat_map, ◌⊎◌, nat_lt, ◌&&◌, if◌then◌else◌, All, point, points, is_glued, is_cut_out, partner, vertices, cells, vertex_number, number, behind, points_of_row, points_of_torus, Point}
 use Rattle.surf_gen.specs.Places.{IsPoint}
-use Rattle.surf_gen.specs.Parts.{points_of_row, points_of_torus}
 use Rattle.surf_gen.proofs.NumberLemmas.{is_vertex, first_number, number_own, far_row, numbers_rise, vertex_total}
 
 -- ---- elements of lists

@@ -1,6 +1,5 @@
 -- Lines of numbers, written from their last byte on.
-use Rattle.surf_gen.proofs.Common.{◌≡◌, ℕ, suc, ◌-◌, ◌<◌, ◌≤◌, List, [], ◌∷◌, ◌++◌, length, map, drop, get_or, arith, sym, ap, ◌∙◌, refl, drop-cons, decimal, join_with_byte, append_assoc}
-use Rattle.surf_gen.specs.ChainTexts.{line_of}
+use Rattle.surf_gen.proofs.Common.{◌≡◌, ℕ, suc, ◌-◌, ◌<◌, ◌≤◌, List, [], ◌∷◌, ◌++◌, length, map, drop, get_or, arith, sym, ap, ◌∙◌, refl, drop-cons, decimal, join_with_byte, line_of, append_assoc}
 
 -- what stands in a line behind a number, where these numbers follow
 abbrev pub behind_number : List ℕ → List ℕ

@@ -1,8 +1,5 @@
 -- The numbers of the vertices of a chain: row for row, and torus for torus, they rise by one.
-use Rattle.surf_gen.proofs.Common.{◌≡◌, ℕ, zero, suc, ◌+◌, ◌-◌, ◌*◌, ◌<◌, ◌≤◌, Bool, true, false, not, ◌++◌, length, map, arith, sym, subst, ap, ◌∙◌, refl, and-false, length-map, mul-le-mul_left, lt-ltb, le-ltb, ne_eqb, length-range_with_len, range_with_len, filter, nat_lt, ◌==◌, ◌&&◌, if◌then◌else◌}
-use Rattle.surf_gen.specs.declared.points.Point.{Point}
-use Rattle.surf_gen.specs.Chains.{point, is_glued, partner, glued_before, vertices, vertex_number, number}
-use Rattle.surf_gen.specs.Parts.{points_of_row, points_of_torus}
+use Rattle.surf_gen.proofs.Common.{◌≡◌, ℕ, zero, suc, ◌+◌, ◌-◌, ◌*◌, ◌<◌, ◌≤◌, Bool, true, false, not, ◌++◌, length, map, arith, sym, subst, ap, ◌∙◌, refl, and-false, length-map, mul-le-mul_left, lt-ltb, le-ltb, ne_eqb, length-range_with_len, range_with_len, filter, nat_lt, ◌==◌, ◌&&◌, if◌then◌else◌, point, is_glued, partner, glued_before, vertices, vertex_number, number, points_of_row, points_of_torus, Point}
 use Rattle.surf_gen.proofs.StretchLemmas.{same_range, stretch_kept, stretch_gone, stretch_numbers, row_split, Rises, rises_along}
 
 -- whether a point is a vertex of its own

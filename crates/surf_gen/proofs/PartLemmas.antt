@@ -1,8 +1,6 @@
 -- A part of the text grows by the points of a column, a row or a torus.
-use Rattle.surf_gen.proofs.Common.{◌≡◌, ℕ, ◌+◌, List, [], ◌∷◌, ◌++◌, map, arith, sym, ap, ◌∙◌, map-id, flat_map-append, map-range_with_len_more, range_with_len, flat_map, append_assoc, append-nil}
-use Rattle.surf_gen.specs.declared.points.Point.{Point}
+use Rattle.surf_gen.proofs.Common.{◌≡◌, ℕ, ◌+◌, List, [], ◌∷◌, ◌++◌, map, arith, sym, ap, ◌∙◌, map-id, flat_map-append, map-range_with_len_more, range_with_len, flat_map, part_text, Point, append_assoc, append-nil}
 use Rattle.surf_gen.specs.declared.text.Part.{Part}
-use Rattle.surf_gen.specs.Parts.{part_text}
 
 -- the text of some points and of others
 part_text-append : (genus grid : ℕ) (part : Part) (ps qs : List Point)

@@ -1,7 +1,6 @@
 -- What a test keeps of points in a row, and how such lists join.
-use Rattle.surf_gen.proofs.Common.{◌≡◌, ◌≢◌, ℕ, zero, suc, ◌+◌, ◌-◌, ◌*◌, ◌<◌, ◌≤◌, Bool, true, false, cond, List, [], ◌∷◌, ◌++◌, length, map, arith, sym, ap, ◌∙◌, refl, length-append, map-append, filter-append, length-map-range_with_len, range_with_len, filter, flat_map}
+use Rattle.surf_gen.proofs.Common.{◌≡◌, ◌≢◌, ℕ, zero, suc, ◌+◌, ◌-◌, ◌*◌, ◌<◌, ◌≤◌, Bool, true, false, cond, List, [], ◌∷◌, ◌++◌, length, map, arith, sym, ap, ◌∙◌, refl, length-append, map-append, filter-append, length-map-range_with_len, range_with_len, filter, flat_map, Point}
 use Rattle.surf_gen.proofs.PartLemmas.{rows_more}
-use Rattle.surf_gen.specs.declared.points.Point.{Point}
 
 -- the numbers from a up to b, without b
 abbrev pub upto : ℕ → ℕ → List ℕ

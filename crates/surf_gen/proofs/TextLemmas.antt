@@ -1,10 +1,6 @@
 -- The text of a chain of tori, in its parts.
-use Rattle.surf_gen.proofs.Common.{◌≡◌, ℕ, Bool, true, false, not, cond, List, [], ◌∷◌, ◌++◌, length, map, sym, ap, ◌∙◌, refl, length-map, map-append, flat_map-append, decimal, filter, flat_map, codes, if◌then◌else◌, append_assoc, append-nil}
-use Rattle.surf_gen.specs.declared.points.Point.{Point}
+use Rattle.surf_gen.proofs.Common.{◌≡◌, ℕ, Bool, true, false, not, cond, List, [], ◌∷◌, ◌++◌, length, map, sym, ap, ◌∙◌, refl, length-map, map-append, flat_map-append, decimal, filter, flat_map, codes, if◌then◌else◌, line_of, coordinates, chain_text, points, is_glued, is_cut_out, vertices, cells, face, part_text, Point, append_assoc, append-nil}
 use Rattle.surf_gen.specs.declared.text.Part.TheVariants.{Vertices, Faces}
-use Rattle.surf_gen.specs.Chains.{points, is_glued, is_cut_out, vertices, cells, face}
-use Rattle.surf_gen.specs.ChainTexts.{line_of, coordinates, chain_text}
-use Rattle.surf_gen.specs.Parts.{part_text}
 
 -- lines of numbers
 abbrev pub lines_text : List (List ℕ) → List ℕ

@@ -1,7 +1,5 @@
 -- Walks that go on through points of the first torus, one after the other.
-use Rattle.surf_gen.proofs.Common.{◌≡◌, ℕ, ◌+◌, List, [], ◌∷◌, ◌++◌, map, arith, sym, ap, ◌∙◌, map-append, map-range_with_len_more, range_with_len, append_assoc}
-use Rattle.surf_gen.specs.declared.points.Point.{Point}
-use Rattle.surf_gen.specs.Chains.{number}
+use Rattle.surf_gen.proofs.Common.{◌≡◌, ℕ, ◌+◌, List, [], ◌∷◌, ◌++◌, map, arith, sym, ap, ◌∙◌, map-append, map-range_with_len_more, range_with_len, number, Point, append_assoc}
 
 -- one point more
 pub passed_more : (grid : ℕ) (f : ℕ → Point) (start now next : List ℕ) (n vertex : ℕ) → next ≡ now ++ vertex ∷ []

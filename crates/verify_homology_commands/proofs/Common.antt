@@ -1,4 +1,4 @@
--- What proofs of this crate cite of others, passed on from one place (by tools/imports). Declares nothing.
+-- What proofs of this crate cite of its definitions and of other crates, passed on from one place (by tools/imports). Declares nothing.
 pub use Rattle.commands.proofs.Checking.{next_end, read_passes, read_stops, stops_first, stops_next, stops_second}
 pub use Rattle.commands.proofs.Judgements.{IsJudgedBy, first_failing, judged_by, judgement_answered}
 pub use Rattle.commands.proofs.Running.{judged_no_fault, only_then, reads_ended, runs_judged, runs_stopped, tells_no_fault}
@@ -16,3 +16,4 @@ pub use Rattle.std.proofs.Common.{Err, List, MatchResult, Ok, Result, arith, cod
 pub use Rattle.std.specs.Prelude.{All, Option}
 pub use Rattle.surf_io.specs.Files.{Files}
 pub use Rattle.surf_model.specs.FaceLists.{FaceList, IsFaceList}
+pub use Rattle.verify_homology_commands.specs.VerifyHomology.{IsHomologyVerified, IsInput, ShownBy, certificate_in, fault_line, judgement, verdict_answer, verdict_line, verdict_status, verify_homology}

@@ -1,5 +1,5 @@
 -- Each certificate of homology has a verdict, and one.
-use Rattle.verify_homology_commands.proofs.Common.{first_failing, one_made, IsSound, Pass, face_number, edge_number, HasEdge, HasFace, IsFirstAgainst, IsVerdict, HomologyCert, HomologyVerdict, ◌≡◌, ℕ, List, [], ◌∷◌, length, get_or, map, refl, subst, arith, ℤ, pos, ◌-ℤ◌, All, Option, Files, FaceList, IsFaceList}
+use Rattle.verify_homology_commands.proofs.Common.{first_failing, one_made, IsSound, Pass, face_number, edge_number, HasEdge, HasFace, IsFirstAgainst, IsVerdict, HomologyCert, HomologyVerdict, ◌≡◌, ℕ, List, [], ◌∷◌, length, get_or, map, refl, subst, arith, ℤ, pos, ◌-ℤ◌, All, Option, Files, FaceList, IsFaceList, judgement, verdict_answer}
 use Rattle.homology.proofs.ChainVerdictLemmas.{chain_fails, chain_holds}
 use Rattle.homology.proofs.VerdictLemmas.{one_verdict}
 use Rattle.homology.specs.Chains.{boundary, count_difference}
@@ -13,7 +13,6 @@ use Rattle.std.proofs.lemmas.List.Elements.{All-nil, All-from_get_or}
 use Rattle.surf_model.proofs.EdgeTables.{some_table}
 use Rattle.surf_model.specs.Edges.{Edge, edge_in}
 use Rattle.homology.specs.declared.verdict.HomologyVerdict.TheVariants as verdicts
-use Rattle.verify_homology_commands.specs.VerifyHomology.{judgement, verdict_answer}
 
 -- the same of the elements of a list
 first_against : {X : Type 0} (P : X → Type 0) (xs : List X) → ((x : X) → IsFirstAgainst P xs x → ⊥) → (All P xs → ⊥) → ⊥

@@ -1,5 +1,5 @@
 -- `verify-homology` in the words of the mesh.
-use Rattle.verify_homology_commands.proofs.Common.{IsJudgedBy, judged_by, judgement_answered, IsSound, sound-then, sound-meant, sound-file, held, meant_told, Answer, Refuse, Pass, walk_at, SpellsPair, face_number, edge_number, IsVerdict, HomologyCert, HomologyVerdict, cert_of_text, ◌≡◌, inr, ℕ, List, [], ◌∷◌, codes, refl, sym, ◌∙◌, subst, Option, Files, FaceList}
+use Rattle.verify_homology_commands.proofs.Common.{IsJudgedBy, judged_by, judgement_answered, IsSound, sound-then, sound-meant, sound-file, held, meant_told, Answer, Refuse, Pass, walk_at, SpellsPair, face_number, edge_number, IsVerdict, HomologyCert, HomologyVerdict, cert_of_text, ◌≡◌, inr, ℕ, List, [], ◌∷◌, codes, refl, sym, ◌∙◌, subst, Option, Files, FaceList, verify_homology, verdict_status, verdict_line, verdict_answer, fault_line, judgement, certificate_in, ShownBy, IsInput, IsHomologyVerified}
 use Rattle.commands.proofs.MeshTexts.{mesh_valid}
 use Rattle.commands.proofs.Rows.{sound-mesh, sound-pair}
 use Rattle.commands.specs.Outcomes.{Outcome, AnswersTo, IsAnswerOf}
@@ -10,7 +10,6 @@ use Rattle.homology.specs.declared.verdict.HomologyVerdict.TheVariants.{Face, Ed
 use Rattle.std.specs.Prelude.{Ok}
 use Rattle.homology.specs.declared.certificate.HomologyCert.TheVariants as certificates
 use Rattle.commands.specs.declared.refusal.Input.TheVariants as inputs
-use Rattle.verify_homology_commands.specs.VerifyHomology.{verify_homology, verdict_status, verdict_line, verdict_answer, fault_line, judgement, certificate_in, ShownBy, IsInput, IsHomologyVerified}
 use Rattle.verify_homology_commands.proofs.SomeVerdicts.{sound-judgement}
 
 pub sound-certificate : (files : Option Files) (name : List ℕ) → IsSound files (certificate_in files name)

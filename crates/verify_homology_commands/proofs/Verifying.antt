@@ -1,10 +1,9 @@
 -- How the checks of `verify-homology` end, by the place where the reading ends.
-use Rattle.verify_homology_commands.proofs.Common.{stops_first, stops_next, stops_second, Answer, Check, Passes, ◌>>=◌, mesh_in, pair_in, walk_at, Stops, IsVerdict, HomologyCert, HomologyVerdict, inr, ℕ, List, refl, sym, subst, Ok, Err, Result, MatchResult, ◌≡◌, Option, Files, FaceList}
+use Rattle.verify_homology_commands.proofs.Common.{stops_first, stops_next, stops_second, Answer, Check, Passes, ◌>>=◌, mesh_in, pair_in, walk_at, Stops, IsVerdict, HomologyCert, HomologyVerdict, inr, ℕ, List, refl, sym, subst, Ok, Err, Result, MatchResult, ◌≡◌, Option, Files, FaceList, certificate_in, judgement, verdict_answer, verify_homology}
 use Rattle.commands.specs.Replies.{IsReplyTo, Replies}
 use Rattle.commands.specs.declared.reply.Reply.{Reply}
 use Rattle.commands.specs.declared.stop.Stop.{Stop}
 use Rattle.commands.specs.declared.stop.Stop.TheVariants.{OutOfMemory}
-use Rattle.verify_homology_commands.specs.VerifyHomology.{certificate_in, judgement, verdict_answer, verify_homology}
 
 -- what is looked at behind the walks, and behind the mesh
 abbrev pub after_pair : Option Files → List ℕ → FaceList → List (List ℕ) → Check Answer

@@ -1,10 +1,9 @@
 -- The definitions at work, on the tetrahedron: of four walks the first, the second and the fourth are in one class.
-use Rattle.walk_classes.proofs.Common.{◌≡◌, ℕ, zero, suc, ◌+◌, ◌<◌, true, List, [], ◌∷◌, get_or, refl, arith, all_sides, is_edge, is_used, IsWalk}
+use Rattle.walk_classes.proofs.Common.{◌≡◌, ℕ, zero, suc, ◌+◌, ◌<◌, true, List, [], ◌∷◌, get_or, refl, arith, all_sides, is_edge, is_used, IsWalk, AreInOneClass, IsLeastInClass, AreClasses, walk_at}
 use Rattle.surf_model.specs.Meshes.{tetrahedron}
 use Rattle.surf_model.specs.Moves.{apply}
 use Rattle.surf_model.specs.declared.moves.Move.TheVariants.{Across}
 use Rattle.walk_translate.proofs.SpokedLemmas.{walk_of_edges}
-use Rattle.walk_classes.specs.WalkClasses.{AreInOneClass, IsLeastInClass, AreClasses, walk_at}
 use Rattle.walk_classes.proofs.ClassLemmas.{alike_itself}
 
 -- along the edge of 0 and 1; round the face 0 1 2 the other way; back along that edge; and along it once more

@@ -1,10 +1,9 @@
 -- To be in one class is an equivalence, so the least places tell classes apart.
-use Rattle.walk_classes.proofs.Common.{◌≡◌, ◌↔◌, inl, inr, ℕ, ◌<◌, List, [], length, get_or, refl, sym, ◌∙◌, ◌++◌, subst, arith, same_lists, get_or_default, FaceList, IsWalk}
+use Rattle.walk_classes.proofs.Common.{◌≡◌, ◌↔◌, inl, inr, ℕ, ◌<◌, List, [], length, get_or, refl, sym, ◌∙◌, ◌++◌, subst, arith, same_lists, get_or_default, FaceList, IsWalk, AreInOneClass, IsLeastInClass, AreClasses, walk_at}
 use Rattle.std.proofs.lemmas.Bool.{cases_lt}
 use Rattle.surf_model.proofs.ContextLemmas.{one_after_another}
 use Rattle.surf_model.proofs.WayBackLemmas.{list_undone}
 use Rattle.surf_model.specs.Rewriting.{way_back}
-use Rattle.walk_classes.specs.WalkClasses.{AreInOneClass, IsLeastInClass, AreClasses, walk_at}
 
 -- ---- an equivalence
 

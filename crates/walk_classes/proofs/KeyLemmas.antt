@@ -1,13 +1,11 @@
 -- Two keys are one for a map exactly where they tell the same.
-use Rattle.walk_classes.proofs.Common.{◌≡◌, ℕ, List, refl, ap, sym, ◌∙◌, subst, ordering_then, nat_cmp, int_cmp, ℤ, Ordering, Less, Equal, Greater}
+use Rattle.walk_classes.proofs.Common.{◌≡◌, ℕ, List, refl, ap, sym, ◌∙◌, subst, ordering_then, nat_cmp, int_cmp, ℤ, Ordering, Less, Equal, Greater, key_order, word_of_key, AreSameKeys, Key}
 use Rattle.std.proofs.lemmas.Cmp.{tied_itself, nat_cmp_total, int_cmp_total, nat_list_cmp_total}
 use Rattle.std.proofs.lemmas.Map.Lookups.{exact_bytes, exact_unsigned, exact_signed}
 use Rattle.std.specs.Cmp.Lexicographic.{slice_cmp}
-use Rattle.turn_words.specs.declared.word.Word.TheVariants as words
-use Rattle.walk_classes.specs.Keys.{key_order, word_of_key, AreSameKeys}
-use Rattle.walk_classes.specs.declared.key.Key.{Key}
 use Rattle.walk_classes.specs.declared.key.WordKey.{WordKey}
 use Rattle.walk_classes.specs.declared.key.WordKey.TheVariants.{Turns, Flat}
+use Rattle.turn_words.specs.declared.word.Word.TheVariants as words
 use Rattle.walk_classes.specs.contracts.key.WordKeyOrd.TheImpl as word_ord
 
 abbrev word_order : WordKey → WordKey → Ordering

@@ -1,4 +1,4 @@
--- What proofs of this crate cite of others, passed on from one place (by tools/imports). Declares nothing.
+-- What proofs of this crate cite of its definitions and of other crates, passed on from one place (by tools/imports). Declares nothing.
 pub use Rattle.labellings.specs.GoodLabellings.{HasShape, IsGood, MeetsSomeRule, SidesMeetRule}
 pub use Rattle.labellings.specs.Labellings.{FaceLabels, LabellingView, head_label, label_at, labels_at, signs_of, tail_label}
 pub use Rattle.manifold_check.proofs.PartPieces.{IsOfComponent, face_same_place, piece_of_parts, walk_alone}
@@ -14,3 +14,4 @@ pub use Rattle.surf_model.specs.FaceLists.{FaceList, FaceSide, IsFaceList, face_
 pub use Rattle.surf_model.specs.Submeshes.{signs_among, submesh}
 pub use Rattle.surf_model.specs.Surfaces.{ArePartners, IsClosedManifold, IsCoherent, RunOppositely, end_under, is_flipped, start_under}
 pub use Rattle.surf_model.specs.declared.edges.Side.{Side}
+pub use Rattle.widening.specs.Widened.{IsWidened}

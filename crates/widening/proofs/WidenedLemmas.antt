@@ -1,9 +1,8 @@
 -- A widened labelling is good: at the component it is the narrow one, elsewhere each edge meets the tree rule.
-use Rattle.widening.proofs.Common.{HasShape, MeetsSomeRule, SidesMeetRule, IsGood, LabellingView, labels_at, label_at, signs_of, tail_label, head_label, IsOfComponent, face_same_place, IsPiece, IsRenamed, ComesFrom, HasPlaceAmong, renamed_side, renamed, comes_from, edge_of_side, face-submesh, length-submesh, partners_down, flipped_alike, ◌≡◌, ◌⊎◌, inl, inr, ℕ, ◌<◌, ◌≤◌, Bool, true, false, cond, List, [], length, get_or, replicate, refl, ap, sym, ◌∙◌, subst, arith, cases_eq, cases_lt, get_or-replicate, get_or_past, get_or_default, length-replicate, All, Contains, PartsView, AreParts, component_at, component_mesh, IsSide, side_after, tail_of, head_of, FaceList, IsFaceList, face_at, submesh, signs_among, ArePartners, IsClosedManifold, IsCoherent, RunOppositely, is_flipped, Side}
+use Rattle.widening.proofs.Common.{HasShape, MeetsSomeRule, SidesMeetRule, IsGood, LabellingView, labels_at, label_at, signs_of, tail_label, head_label, IsOfComponent, face_same_place, IsPiece, IsRenamed, ComesFrom, HasPlaceAmong, renamed_side, renamed, comes_from, edge_of_side, face-submesh, length-submesh, partners_down, flipped_alike, ◌≡◌, ◌⊎◌, inl, inr, ℕ, ◌<◌, ◌≤◌, Bool, true, false, cond, List, [], length, get_or, replicate, refl, ap, sym, ◌∙◌, subst, arith, cases_eq, cases_lt, get_or-replicate, get_or_past, get_or_default, length-replicate, All, Contains, PartsView, AreParts, component_at, component_mesh, IsSide, side_after, tail_of, head_of, FaceList, IsFaceList, face_at, submesh, signs_among, ArePartners, IsClosedManifold, IsCoherent, RunOppositely, is_flipped, Side, IsWidened}
 use Rattle.connectivity.proofs.CornerLemmas.{after_in_mesh}
 use Rattle.surf_model.specs.Components.{place_of_face}
 use Rattle.turn_words.specs.Modulo.{add}
-use Rattle.widening.specs.Widened.{IsWidened}
 
 -- a labelling of component `part` with the signs of the mesh, and the one that is widened from it
 pub record Widening (mesh : FaceList) (parts : PartsView) (part : ℕ) (signs : List Bool) (narrow wide : LabellingView) : Type 0 where

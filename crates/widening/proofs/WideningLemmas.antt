@@ -1,6 +1,5 @@
 -- A labelling is widened face by face, in the order of the mesh.
-use Rattle.widening.proofs.Common.{FaceLabels, LabellingView, labels_at, signs_of, IsPiece, ◌≡◌, inl, inr, ℕ, ◌+◌, ◌<◌, ◌≤◌, Bool, false, List, [], ◌∷◌, ◌++◌, length, get_or, take, replicate, refl, ap, sym, ◌∙◌, subst, arith, cases_eq, cases_lt, get_or_append_left, get_or_push, get_or_default, length_push, map-append, take_more, take_all, Contains, FaceList, face_at, is_flipped}
-use Rattle.widening.specs.Widened.{IsWidened}
+use Rattle.widening.proofs.Common.{FaceLabels, LabellingView, labels_at, signs_of, IsPiece, ◌≡◌, inl, inr, ℕ, ◌+◌, ◌<◌, ◌≤◌, Bool, false, List, [], ◌∷◌, ◌++◌, length, get_or, take, replicate, refl, ap, sym, ◌∙◌, subst, arith, cases_eq, cases_lt, get_or_append_left, get_or_push, get_or_default, length_push, map-append, take_more, take_all, Contains, FaceList, face_at, is_flipped, IsWidened}
 
 -- the faces below n are widened, and `next` of those with names are among them
 pub record IsWidenedUpTo (mesh : FaceList) (signs : List Bool) (names : List ℕ) (narrow : LabellingView) (n next : ℕ)

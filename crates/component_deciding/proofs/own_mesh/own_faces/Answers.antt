@@ -1,6 +1,4 @@
-use Rattle.component_deciding.proofs.Common.{count_at_most, ◌≡◌, ◌<◌, ℕ, List, length, ap, sym, ◌∙◌, subst, arith, get_or_read, length-map, take_all, All, PartsView, AreParts, component_at, component_mesh, FaceList, face_at, is_used, total_sides, numbers, VertexName}
-use Rattle.component_deciding.specs.OwnVertices.{AreOwnNumbers, own_mesh}
-use Rattle.component_deciding.specs.declared.own_numbers.OwnNumbers.{OwnNumbers}
+use Rattle.component_deciding.proofs.Common.{AreOwnNumbers, own_mesh, OwnNumbers, count_at_most, ◌≡◌, ◌<◌, ℕ, List, length, ap, sym, ◌∙◌, subst, arith, get_or_read, length-map, take_all, All, PartsView, AreParts, component_at, component_mesh, FaceList, face_at, is_used, total_sides, numbers, VertexName}
 use Rattle.component_deciding.proofs.ComponentLemmas.{IsNumbered, named_within, own_count, own_face_valid, own_faces_more, own_ring, own_room}
 use Rattle.component_deciding.proofs.own_mesh.own_faces.Goals as goal
 

@@ -1,5 +1,4 @@
-use Rattle.component_deciding.proofs.Common.{◌≡◌, take, component_mesh}
-use Rattle.component_deciding.specs.OwnVertices.{own_mesh}
+use Rattle.component_deciding.proofs.Common.{own_mesh, ◌≡◌, take, component_mesh}
 use Rattle.component_deciding.proofs.own_mesh.own_faces.Given as goal
 
 abbrev pub invariant-loop-face : goal.invariant-loop-face

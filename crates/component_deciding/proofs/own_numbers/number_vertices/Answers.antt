@@ -1,7 +1,6 @@
-use Rattle.component_deciding.proofs.Common.{place_of_used, used_counted, unused_counted, vertices_counted, Vec, Global, ◌≡◌, ◌+◌, ◌<◌, ℕ, true, false, List, get_or, set, length, sym, ◌∙◌, subst, ap, arith, both_ways, get_or_read, length_push, used_below, IsCounted, component_mesh, is_used}
+use Rattle.component_deciding.proofs.Common.{own_number, place_of_used, used_counted, unused_counted, vertices_counted, Vec, Global, ◌≡◌, ◌+◌, ◌<◌, ℕ, true, false, List, get_or, set, length, sym, ◌∙◌, subst, ap, arith, both_ways, get_or_read, length_push, used_below, IsCounted, component_mesh, is_used}
 use Rattle.std.proofs.lemmas.List.{length-set}
 use Rattle.surf_model.proofs.TallyLemmas.{group_of_within}
-use Rattle.component_deciding.specs.OwnVertices.{own_number}
 use Rattle.component_deciding.proofs.ComponentLemmas.{count_is_number, numbered_more}
 use Rattle.component_deciding.proofs.own_numbers.number_vertices.Goals as goal
 use Rattle.component_deciding.proofs.own_numbers.number_vertices.Goals.{then-used, else-used}

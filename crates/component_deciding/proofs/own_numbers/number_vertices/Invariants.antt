@@ -1,5 +1,4 @@
-use Rattle.component_deciding.proofs.Common.{place_of_used, ◌≡◌, ◌<◌, ℕ, true, length, get_or, IsCounted, component_mesh, is_used}
-use Rattle.component_deciding.specs.OwnVertices.{own_number}
+use Rattle.component_deciding.proofs.Common.{own_number, place_of_used, ◌≡◌, ◌<◌, ℕ, true, length, get_or, IsCounted, component_mesh, is_used}
 use Rattle.component_deciding.proofs.own_numbers.number_vertices.Given as goal
 
 abbrev pub invariant-loop-vertex : goal.invariant-loop-vertex

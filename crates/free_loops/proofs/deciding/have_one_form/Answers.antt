@@ -1,6 +1,5 @@
-use Rattle.free_loops.proofs.Common.{IsRotation, subst, IsTrue, FaceList, cut_is_good}
+use Rattle.free_loops.proofs.Common.{IsCyclicFormOf, IsRotation, subst, IsTrue, FaceList, cut_is_good}
 use Rattle.std.specs.Prelude.{◌↔◌}
-use Rattle.free_loops.specs.CyclicForms.{IsCyclicFormOf}
 use Rattle.free_loops.proofs.DecidingLemmas.{labelled_wheel, forms_decide}
 use Rattle.free_loops.proofs.deciding.have_one_form.Goals as goal
 

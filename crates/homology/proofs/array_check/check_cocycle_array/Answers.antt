@@ -1,5 +1,4 @@
-use Rattle.homology.proofs.Common.{List, ℤ, sym, subst, arith, rules, IsTrue}
-use Rattle.homology.specs.Tallies.{AreNumbersOf}
+use Rattle.homology.proofs.Common.{AreNumbersOf, List, ℤ, sym, subst, arith, rules, IsTrue}
 use Rattle.homology.proofs.SideNumberLemmas.{are_numbers_in, number_in}
 use Rattle.homology.proofs.array_check.check_cocycle_array.Goals as goal
 

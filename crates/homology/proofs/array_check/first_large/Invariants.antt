@@ -1,6 +1,4 @@
-use Rattle.homology.proofs.Common.{ℕ, ◌<◌, ◌≤◌, unsigned_abs}
-use Rattle.homology.specs.Tallies.{number_at}
-use Rattle.homology.specs.declared.certificate.TheConstants.{MOST_NUMBER}
+use Rattle.homology.proofs.Common.{number_at, MOST_NUMBER, ℕ, ◌<◌, ◌≤◌, unsigned_abs}
 use Rattle.homology.proofs.array_check.first_large.Given as goal
 
 -- the numbers so far are small

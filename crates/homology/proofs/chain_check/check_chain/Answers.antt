@@ -1,5 +1,4 @@
-use Rattle.homology.proofs.Common.{List, ap, ◌∙◌, ℤ}
-use Rattle.homology.specs.Tallies.{number_at}
+use Rattle.homology.proofs.Common.{number_at, List, ap, ◌∙◌, ℤ}
 use Rattle.homology.proofs.VerdictLemmas.{chain_listed}
 use Rattle.homology.proofs.chain_check.check_chain.Goals as goal
 

@@ -1,6 +1,4 @@
-use Rattle.homology.proofs.Common.{ℕ, sym, subst, edge_in}
-use Rattle.homology.specs.Tallies.{number_at, IsLeft}
-use Rattle.homology.specs.Verdicts.{IsLeastUnbalanced}
+use Rattle.homology.proofs.Common.{number_at, IsLeft, IsLeastUnbalanced, ℕ, sym, subst, edge_in}
 use Rattle.homology.proofs.ChainVerdictLemmas.{chain_holds, chain_fails}
 use Rattle.homology.proofs.chain_check.judge_faces.Goals as goal
 use Rattle.homology.proofs.chain_check.judge_faces.Goals.{After-deref}

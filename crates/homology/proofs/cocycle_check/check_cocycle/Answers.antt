@@ -1,6 +1,4 @@
-use Rattle.homology.proofs.Common.{List, sym, subst, ℤ}
-use Rattle.homology.specs.Certificates.{edge_number}
-use Rattle.homology.specs.Tallies.{AreNumbersOf}
+use Rattle.homology.proofs.Common.{edge_number, AreNumbersOf, List, sym, subst, ℤ}
 use Rattle.homology.proofs.VerdictLemmas.{cocycle_listed}
 use Rattle.homology.proofs.cocycle_check.check_cocycle.Goals as goal
 

@@ -1,5 +1,4 @@
-use Rattle.homology.proofs.Common.{◌≡◌, inl, inr, ap, sym, ◌∙◌, arith, to_z, of_z, w64, cases_lt, ints}
-use Rattle.homology.specs.Cocycles.{face_sum}
+use Rattle.homology.proofs.Common.{face_sum, ◌≡◌, inl, inr, ap, sym, ◌∙◌, arith, to_z, of_z, w64, cases_lt, ints}
 use Rattle.homology.proofs.cocycle_check.first_open.Goals as goal
 
 pub returns-then-sum_round-ne0 : goal.returns-then-sum_round-ne0

@@ -1,6 +1,4 @@
-use Rattle.homology.proofs.Common.{◌≡◌, ℕ, ◌<◌, ℤ, pos}
-use Rattle.homology.specs.Cocycles.{face_sum}
-use Rattle.homology.specs.Tallies.{AreNumbersOf}
+use Rattle.homology.proofs.Common.{face_sum, AreNumbersOf, ◌≡◌, ℕ, ◌<◌, ℤ, pos}
 use Rattle.homology.proofs.cocycle_check.first_open.Given as goal
 
 -- round the faces so far the numbers add up to 0

@@ -1,7 +1,4 @@
-use Rattle.homology.proofs.Common.{◌≡◌, suc, ◌+◌, ◌*◌, ◌≤◌, ap, sym, ◌∙◌, subst, arith, ℤ, to_z, of_z, w64, ◌+ℤ◌, take_all, unsigned_abs}
-use Rattle.homology.specs.Sums.{along}
-use Rattle.homology.specs.Cocycles.{dart_number}
-use Rattle.homology.specs.declared.certificate.TheConstants.{MOST_NUMBER}
+use Rattle.homology.proofs.Common.{dart_number, along, MOST_NUMBER, ◌≡◌, suc, ◌+◌, ◌*◌, ◌≤◌, ap, sym, ◌∙◌, subst, arith, ℤ, to_z, of_z, w64, ◌+ℤ◌, take_all, unsigned_abs}
 use Rattle.homology.proofs.TallyLemmas.{walk_edge}
 use Rattle.homology.proofs.CocycleVerdictLemmas.{added, added_fits, added_size, along_step, along_start}
 use Rattle.homology.proofs.cocycle_check.sum_along.Goals as goal

@@ -1,8 +1,4 @@
-use Rattle.homology.proofs.Common.{◌≡◌, ℕ, suc, ◌*◌, ◌≤◌, take, ℤ, unsigned_abs}
-use Rattle.homology.specs.Sums.{along}
-use Rattle.homology.specs.Cocycles.{dart_number}
-use Rattle.homology.specs.Tallies.{AreNumbersOf}
-use Rattle.homology.specs.declared.certificate.TheConstants.{MOST_NUMBER}
+use Rattle.homology.proofs.Common.{dart_number, along, AreNumbersOf, MOST_NUMBER, ◌≡◌, ℕ, suc, ◌*◌, ◌≤◌, take, ℤ, unsigned_abs}
 use Rattle.homology.proofs.cocycle_check.sum_along.Given as goal
 
 -- the darts so far

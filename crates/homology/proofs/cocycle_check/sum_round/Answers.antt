@@ -1,6 +1,4 @@
-use Rattle.homology.proofs.Common.{◌≡◌, ℕ, ◌+◌, ◌*◌, ◌≤◌, List, length, refl, ap, sym, ◌∙◌, subst, arith, ℤ, to_z, of_z, w64, ◌+ℤ◌, unsigned_abs, sides_in_table, face_at}
-use Rattle.homology.specs.Cocycles.{dart_number}
-use Rattle.homology.specs.declared.certificate.TheConstants.{MOST_NUMBER}
+use Rattle.homology.proofs.Common.{dart_number, MOST_NUMBER, ◌≡◌, ℕ, ◌+◌, ◌*◌, ◌≤◌, List, length, refl, ap, sym, ◌∙◌, subst, arith, ℤ, to_z, of_z, w64, ◌+ℤ◌, unsigned_abs, sides_in_table, face_at}
 use Rattle.homology.proofs.AlongLemmas.{first_sides, round-sides}
 use Rattle.homology.proofs.CocycleVerdictLemmas.{added, added_fits, added_size, round_step}
 use Rattle.homology.proofs.cocycle_check.sum_round.Goals as goal

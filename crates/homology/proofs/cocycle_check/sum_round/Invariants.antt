@@ -1,7 +1,4 @@
-use Rattle.homology.proofs.Common.{◌≡◌, ℕ, ◌*◌, ◌≤◌, ℤ, unsigned_abs, face_at}
-use Rattle.homology.specs.Cocycles.{dart_number}
-use Rattle.homology.specs.Tallies.{AreNumbersOf}
-use Rattle.homology.specs.declared.certificate.TheConstants.{MOST_NUMBER}
+use Rattle.homology.proofs.Common.{dart_number, AreNumbersOf, MOST_NUMBER, ◌≡◌, ℕ, ◌*◌, ◌≤◌, ℤ, unsigned_abs, face_at}
 use Rattle.homology.proofs.AlongLemmas.{first_sides}
 use Rattle.homology.proofs.cocycle_check.sum_round.Given as goal
 

@@ -1,4 +1,4 @@
-use Rattle.homology.specs.Tallies.{number_at}
+use Rattle.homology.proofs.Common.{number_at}
 use Rattle.homology.proofs.PairingLemmas.{refuted}
 use Rattle.homology.proofs.laws.arrays_show_what_holds.Goals as goal
 

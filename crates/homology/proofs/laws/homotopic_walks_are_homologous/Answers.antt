@@ -1,4 +1,4 @@
-use Rattle.homology.specs.Chains.{net_crossings}
+use Rattle.homology.proofs.Common.{net_crossings}
 use Rattle.homology.proofs.MoveLemmas.{chain_of_moves}
 use Rattle.homology.proofs.laws.homotopic_walks_are_homologous.Goals as goal
 

@@ -1,5 +1,4 @@
-use Rattle.homology.proofs.Common.{refl, arith, get_or_from_slice_get}
-use Rattle.homology.specs.Verdicts.{HasFace}
+use Rattle.homology.proofs.Common.{HasFace, refl, arith, get_or_from_slice_get}
 use Rattle.homology.proofs.NumbersLemmas.{all_more}
 use Rattle.homology.proofs.numbers.first_missing.Goals as goal
 

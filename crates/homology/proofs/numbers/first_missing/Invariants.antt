@@ -1,6 +1,4 @@
-use Rattle.homology.proofs.Common.{ℕ, ◌<◌, get_or}
-use Rattle.homology.specs.Verdicts.{HasFace}
-use Rattle.homology.specs.declared.certificate.FaceNumber.{FaceNumber}
+use Rattle.homology.proofs.Common.{HasFace, FaceNumber, ℕ, ◌<◌, get_or}
 use Rattle.homology.proofs.numbers.first_missing.Given as goal
 
 -- the faces so far are there

@@ -1,5 +1,4 @@
-use Rattle.homology.proofs.Common.{◌≡◌, true, false, sym, ◌∙◌, arith, get_or_from_slice_get}
-use Rattle.homology.specs.Verdicts.{HasEdge}
+use Rattle.homology.proofs.Common.{HasEdge, ◌≡◌, true, false, sym, ◌∙◌, arith, get_or_from_slice_get}
 use Rattle.homology.proofs.NumbersLemmas.{all_more}
 use Rattle.homology.proofs.numbers.first_stray.Goals as goal
 

@@ -1,6 +1,4 @@
-use Rattle.homology.proofs.Common.{ℕ, ◌<◌, get_or}
-use Rattle.homology.specs.Verdicts.{HasEdge}
-use Rattle.homology.specs.declared.certificate.EdgeNumber.{EdgeNumber}
+use Rattle.homology.proofs.Common.{HasEdge, EdgeNumber, ℕ, ◌<◌, get_or}
 use Rattle.homology.proofs.numbers.first_stray.Given as goal
 
 -- the pairs so far are edges

@@ -1,8 +1,4 @@
-use Rattle.homology.proofs.Common.{◌≡◌, true, ℕ, ◌<◌, ◌≤◌, List, length, set, ap, ◌∙◌, subst, arith, ℤ, pos, get_or, length-replicate, length-set, take_all, get_or_default, get_or_from_slice_get, replicate, unsigned_abs, IsEdgeBetween, edge_between, edge_in, is_edge}
-use Rattle.homology.specs.Certificates.{edge_number}
-use Rattle.homology.specs.Tallies.{number_at, AreNumbersOf}
-use Rattle.homology.specs.declared.certificate.EdgeNumber.{EdgeNumber}
-use Rattle.homology.specs.declared.certificate.TheConstants.{MOST_NUMBER}
+use Rattle.homology.proofs.Common.{edge_number, number_at, AreNumbersOf, EdgeNumber, MOST_NUMBER, ◌≡◌, true, ℕ, ◌<◌, ◌≤◌, List, length, set, ap, ◌∙◌, subst, arith, ℤ, pos, get_or, length-replicate, length-set, take_all, get_or_default, get_or_from_slice_get, replicate, unsigned_abs, IsEdgeBetween, edge_between, edge_in, is_edge}
 use Rattle.homology.proofs.SizeLemmas.{sent}
 use Rattle.homology.proofs.ChainVerdictLemmas.{number_at-zeros}
 use Rattle.homology.proofs.NumbersLemmas.{edge_written, edges_small}

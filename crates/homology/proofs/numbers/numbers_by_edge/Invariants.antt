@@ -1,6 +1,4 @@
-use Rattle.homology.proofs.Common.{take}
-use Rattle.homology.specs.Certificates.{edge_number}
-use Rattle.homology.specs.Tallies.{AreNumbersOf}
+use Rattle.homology.proofs.Common.{edge_number, AreNumbersOf, take}
 use Rattle.homology.proofs.numbers.numbers_by_edge.Given as goal
 
 -- an entry for each edge, with the numbers of the lines so far

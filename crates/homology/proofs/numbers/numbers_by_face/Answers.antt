@@ -1,8 +1,4 @@
-use Rattle.homology.proofs.Common.{◌≡◌, ℕ, ◌<◌, ◌≤◌, List, length, set, ap, ◌∙◌, subst, arith, ℤ, pos, get_or, length-replicate, length-set, take_all, get_or_from_slice_get, replicate, unsigned_abs}
-use Rattle.homology.specs.Certificates.{face_number}
-use Rattle.homology.specs.Tallies.{number_at}
-use Rattle.homology.specs.declared.certificate.FaceNumber.{FaceNumber}
-use Rattle.homology.specs.declared.certificate.TheConstants.{MOST_NUMBER}
+use Rattle.homology.proofs.Common.{face_number, number_at, FaceNumber, MOST_NUMBER, ◌≡◌, ℕ, ◌<◌, ◌≤◌, List, length, set, ap, ◌∙◌, subst, arith, ℤ, pos, get_or, length-replicate, length-set, take_all, get_or_from_slice_get, replicate, unsigned_abs}
 use Rattle.homology.proofs.SizeLemmas.{sent}
 use Rattle.homology.proofs.ChainVerdictLemmas.{number_at-zeros}
 use Rattle.homology.proofs.NumbersLemmas.{face_written, faces_small}

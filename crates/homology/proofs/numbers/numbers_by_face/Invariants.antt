@@ -1,6 +1,4 @@
-use Rattle.homology.proofs.Common.{◌≡◌, ℕ, length, take}
-use Rattle.homology.specs.Certificates.{face_number}
-use Rattle.homology.specs.Tallies.{number_at}
+use Rattle.homology.proofs.Common.{face_number, number_at, ◌≡◌, ℕ, length, take}
 use Rattle.homology.proofs.numbers.numbers_by_face.Given as goal
 
 -- an entry for each face, with the numbers of the lines so far

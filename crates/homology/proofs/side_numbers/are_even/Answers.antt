@@ -1,7 +1,4 @@
-use Rattle.homology.proofs.Common.{◌≡◌, ◌<◌, ◌≤◌, ℕ, true, false, List, length, get_or, refl, sym, ap, ◌∙◌, subst, arith, ℤ, pos, to_z, of_z, w64, take, take_all, take_more, get_or_default, unsigned_abs}
-use Rattle.homology.specs.ArrayCertificates.{side_numbers}
-use Rattle.homology.specs.Tallies.{AreNumbersOf, number_at}
-use Rattle.homology.specs.declared.certificate.TheConstants.{MOST_NUMBER}
+use Rattle.homology.proofs.Common.{side_numbers, AreNumbersOf, number_at, MOST_NUMBER, ◌≡◌, ◌<◌, ◌≤◌, ℕ, true, false, List, length, get_or, refl, sym, ap, ◌∙◌, subst, arith, ℤ, pos, to_z, of_z, w64, take, take_all, take_more, get_or_default, unsigned_abs}
 use Rattle.homology.proofs.SizeLemmas.{sent}
 use Rattle.homology.proofs.SideNumberLemmas.{length-side_numbers, side_is, side_more}
 use Rattle.homology.proofs.side_numbers.are_even.Goals as goal

@@ -1,6 +1,4 @@
-use Rattle.homology.proofs.Common.{◌≡◌, ℕ, ℤ, take}
-use Rattle.homology.specs.ArrayCertificates.{side_numbers}
-use Rattle.homology.specs.Tallies.{AreNumbersOf}
+use Rattle.homology.proofs.Common.{side_numbers, AreNumbersOf, ◌≡◌, ℕ, ℤ, take}
 use Rattle.homology.proofs.side_numbers.are_even.Given as goal
 
 -- the sides so far have the numbers that the edges give them

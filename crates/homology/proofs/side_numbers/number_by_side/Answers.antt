@@ -1,6 +1,4 @@
-use Rattle.homology.proofs.Common.{◌≤◌, ℕ, sym, ap, ◌∙◌, subst, arith, ℤ, eqb-false, eqb-true, ints, get_or_from_slice_get, neg_ℤ, unsigned_abs, IsSideOfEdge, side_of_edge, table_edge, Edge, edge_in, Side}
-use Rattle.homology.specs.Tallies.{number_at}
-use Rattle.homology.specs.declared.certificate.TheConstants.{MOST_NUMBER}
+use Rattle.homology.proofs.Common.{number_at, MOST_NUMBER, ◌≤◌, ℕ, sym, ap, ◌∙◌, subst, arith, ℤ, eqb-false, eqb-true, ints, get_or_from_slice_get, neg_ℤ, unsigned_abs, IsSideOfEdge, side_of_edge, table_edge, Edge, edge_in, Side}
 use Rattle.homology.proofs.SizeLemmas.{sent, sent_back}
 use Rattle.homology.proofs.SideNumberLemmas.{against_side, along_side}
 use Rattle.homology.proofs.side_numbers.number_by_side.Goals as goal

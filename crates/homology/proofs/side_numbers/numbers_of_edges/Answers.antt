@@ -1,5 +1,4 @@
-use Rattle.homology.proofs.Common.{◌≡◌, ◌∙◌, ◌≤◌, ◌∷◌, [], List, length, length-append, arith, ap, subst, sym, ℤ, to_z, of_z, w64, unsigned_abs}
-use Rattle.homology.specs.declared.certificate.TheConstants.{MOST_NUMBER}
+use Rattle.homology.proofs.Common.{MOST_NUMBER, ◌≡◌, ◌∙◌, ◌≤◌, ◌∷◌, [], List, length, length-append, arith, ap, subst, sym, ℤ, to_z, of_z, w64, unsigned_abs}
 use Rattle.homology.proofs.SizeLemmas.{sent}
 use Rattle.homology.proofs.SideNumberLemmas.{number_pushed, within_pushed}
 use Rattle.homology.proofs.side_numbers.numbers_of_edges.Goals as goal

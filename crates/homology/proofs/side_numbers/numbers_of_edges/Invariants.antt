@@ -1,7 +1,4 @@
-use Rattle.homology.proofs.Common.{◌≡◌, ℕ, ◌<◌, ℤ, length, edge_in}
-use Rattle.homology.specs.ArrayCertificates.{side_numbers}
-use Rattle.homology.specs.Tallies.{AreWithin, number_at}
-use Rattle.homology.specs.declared.certificate.TheConstants.{MOST_NUMBER}
+use Rattle.homology.proofs.Common.{side_numbers, AreWithin, number_at, MOST_NUMBER, ◌≡◌, ℕ, ◌<◌, ℤ, length, edge_in}
 use Rattle.homology.proofs.side_numbers.numbers_of_edges.Given as goal
 
 -- the edges so far

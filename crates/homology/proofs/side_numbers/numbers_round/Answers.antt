@@ -1,6 +1,4 @@
-use Rattle.homology.proofs.Common.{◌≡◌, ℤ, to_z, of_z, w64, ◌∙◌, arith, subst, sym, ◌≤◌, take_all, unsigned_abs}
-use Rattle.homology.specs.ArrayCertificates.{side_numbers}
-use Rattle.homology.specs.declared.certificate.TheConstants.{MOST_NUMBER}
+use Rattle.homology.proofs.Common.{side_numbers, MOST_NUMBER, ◌≡◌, ℤ, to_z, of_z, w64, ◌∙◌, arith, subst, sym, ◌≤◌, take_all, unsigned_abs}
 use Rattle.homology.proofs.SizeLemmas.{sent}
 use Rattle.homology.proofs.SideNumberLemmas.{length-side_numbers, side_is, side_more, within_pushed}
 use Rattle.homology.proofs.side_numbers.numbers_round.Goals as goal

@@ -1,7 +1,4 @@
-use Rattle.homology.proofs.Common.{◌≡◌, ℕ, ℤ, take}
-use Rattle.homology.specs.ArrayCertificates.{side_numbers}
-use Rattle.homology.specs.Tallies.{AreNumbersOf, AreWithin}
-use Rattle.homology.specs.declared.certificate.TheConstants.{MOST_NUMBER}
+use Rattle.homology.proofs.Common.{side_numbers, AreNumbersOf, AreWithin, MOST_NUMBER, ◌≡◌, ℕ, ℤ, take}
 use Rattle.homology.proofs.side_numbers.numbers_round.Given as goal
 
 -- the sides so far

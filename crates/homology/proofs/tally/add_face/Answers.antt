@@ -1,6 +1,4 @@
-use Rattle.homology.proofs.Common.{◌≡◌, ◌≤◌, List, length, refl, subst, sym, ◌∙◌, arith, ℤ, to_z, of_z, w64, to_z-of_z, take_all, unsigned_abs, length-sides_of_face, sides_in_table, FaceSide, face_at, sides_of_face}
-use Rattle.homology.specs.Tallies.{GrewBy}
-use Rattle.homology.specs.declared.certificate.TheConstants.{MOST_NUMBER}
+use Rattle.homology.proofs.Common.{GrewBy, MOST_NUMBER, ◌≡◌, ◌≤◌, List, length, refl, subst, sym, ◌∙◌, arith, ℤ, to_z, of_z, w64, to_z-of_z, take_all, unsigned_abs, length-sides_of_face, sides_in_table, FaceSide, face_at, sides_of_face}
 use Rattle.homology.proofs.TallyLemmas.{shares_of, face_few, face_room, face_start, face_step}
 use Rattle.homology.proofs.tally.add_face.Goals as goal
 

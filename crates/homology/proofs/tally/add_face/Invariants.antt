@@ -1,6 +1,4 @@
-use Rattle.homology.proofs.Common.{take, map, FaceSide, face_at, sides_of_face}
-use Rattle.homology.specs.Sums.{total, share}
-use Rattle.homology.specs.Tallies.{GrewBy}
+use Rattle.homology.proofs.Common.{total, share, GrewBy, take, map, FaceSide, face_at, sides_of_face}
 use Rattle.homology.proofs.tally.add_face.Given as goal
 
 -- the sides so far

@@ -1,6 +1,4 @@
-use Rattle.homology.proofs.Common.{◌≡◌, ℕ, suc, ◌≤◌, List, take, refl, subst, sym, ◌∙◌, arith, ℤ, to_z, of_z, w64, to_z-of_z, take_all, unsigned_abs}
-use Rattle.homology.specs.Sums.{along, share}
-use Rattle.homology.specs.Tallies.{GrewBy}
+use Rattle.homology.proofs.Common.{along, share, GrewBy, ◌≡◌, ℕ, suc, ◌≤◌, List, take, refl, subst, sym, ◌∙◌, arith, ℤ, to_z, of_z, w64, to_z-of_z, take_all, unsigned_abs}
 use Rattle.homology.proofs.TallyLemmas.{walk_edge, walk_room, walk_size, walk_start, walk_step}
 use Rattle.homology.proofs.tally.add_walk.Goals as goal
 

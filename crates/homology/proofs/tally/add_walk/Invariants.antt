@@ -1,6 +1,4 @@
-use Rattle.homology.proofs.Common.{suc, take}
-use Rattle.homology.specs.Sums.{along, share}
-use Rattle.homology.specs.Tallies.{GrewBy}
+use Rattle.homology.proofs.Common.{along, share, GrewBy, suc, take}
 use Rattle.homology.proofs.tally.add_walk.Given as goal
 
 -- the darts so far

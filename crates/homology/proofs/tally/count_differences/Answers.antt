@@ -1,6 +1,4 @@
-use Rattle.homology.proofs.Common.{◌≡◌, ◌^◌, ◌++◌, List, length, take, drop, ap, sym, ◌∙◌, subst, arith, ℤ, pos, take-append_seam, length-replicate, replicate}
-use Rattle.homology.specs.Chains.{count_difference}
-use Rattle.homology.specs.Tallies.{number_at, AreWithin, AreNumbersOf}
+use Rattle.homology.proofs.Common.{count_difference, number_at, AreWithin, AreNumbersOf, ◌≡◌, ◌^◌, ◌++◌, List, length, take, drop, ap, sym, ◌∙◌, subst, arith, ℤ, pos, take-append_seam, length-replicate, replicate}
 use Rattle.homology.proofs.ChainVerdictLemmas.{number_at-zeros}
 use Rattle.homology.proofs.tally.count_differences.Goals as goal
 use Rattle.homology.proofs.tally.count_differences.Goals.{After-give_walks}

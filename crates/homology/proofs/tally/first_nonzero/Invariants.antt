@@ -1,5 +1,4 @@
-use Rattle.homology.proofs.Common.{◌≡◌, ℕ, ◌<◌, pos}
-use Rattle.homology.specs.Tallies.{number_at}
+use Rattle.homology.proofs.Common.{number_at, ◌≡◌, ℕ, ◌<◌, pos}
 use Rattle.homology.proofs.tally.first_nonzero.Given as goal
 
 -- the entries so far are 0

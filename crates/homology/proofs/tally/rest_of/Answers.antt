@@ -1,6 +1,4 @@
-use Rattle.homology.proofs.Common.{◌≡◌, ℕ, ◌^◌, ◌++◌, List, length, take, drop, ap, sym, ◌∙◌, subst, arith, ℤ, take-append_seam}
-use Rattle.homology.specs.Chains.{count_difference}
-use Rattle.homology.specs.Tallies.{number_at, AreWithin, AreNumbersOf, IsLeft}
+use Rattle.homology.proofs.Common.{count_difference, number_at, AreWithin, AreNumbersOf, IsLeft, ◌≡◌, ℕ, ◌^◌, ◌++◌, List, length, take, drop, ap, sym, ◌∙◌, subst, arith, ℤ, take-append_seam}
 use Rattle.homology.proofs.ChainVerdictLemmas.{left_over, within_more}
 use Rattle.homology.proofs.tally.rest_of.Goals as goal
 

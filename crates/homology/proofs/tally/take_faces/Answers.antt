@@ -1,5 +1,4 @@
-use Rattle.homology.proofs.Common.{◌≤◌, sym, subst, arith, ℤ, get_or, pos, unsigned_abs}
-use Rattle.homology.specs.declared.certificate.TheConstants.{MOST_NUMBER}
+use Rattle.homology.proofs.Common.{MOST_NUMBER, ◌≤◌, sym, subst, arith, ℤ, get_or, pos, unsigned_abs}
 use Rattle.homology.proofs.SizeLemmas.{sent_back, size-opposite}
 use Rattle.homology.proofs.TallyLemmas.{faces_room, faces_start, faces_step, faces_all}
 use Rattle.homology.proofs.tally.take_faces.Goals as goal

@@ -1,6 +1,4 @@
-use Rattle.homology.proofs.Common.{map, neg_ℤ, sides_up_to, FaceSide}
-use Rattle.homology.specs.Sums.{total, share}
-use Rattle.homology.specs.Tallies.{GrewBy, number_at}
+use Rattle.homology.proofs.Common.{total, share, GrewBy, number_at, map, neg_ℤ, sides_up_to, FaceSide}
 use Rattle.homology.proofs.tally.take_faces.Given as goal
 
 -- the faces so far

@@ -1,7 +1,4 @@
-use Rattle.homology.proofs.Common.{subst}
-use Rattle.homology.specs.Verdicts.{IsVerdict}
-use Rattle.homology.specs.declared.certificate.HomologyCert.{HomologyCert}
-use Rattle.homology.specs.declared.certificate.HomologyCert.TheVariants.{Chain, Cocycle}
+use Rattle.homology.proofs.Common.{IsVerdict, HomologyCert, Chain, Cocycle, subst}
 use Rattle.homology.proofs.VerdictLemmas.{exactly}
 use Rattle.homology.proofs.verdict.check_homology.Goals as goal
 

@@ -1,5 +1,4 @@
-use Rattle.homology_commands.proofs.Common.{surface_of, OrientedMesh, within_more, number_at, MOST_NUMBER, IsChainFor, IsCocycleFor, IsProofFor, length, sym, ap, ◌∙◌, subst, arith, IsTableOf}
-use Rattle.homology_commands.specs.Listings.{ListsEdges}
+use Rattle.homology_commands.proofs.Common.{surface_of, OrientedMesh, within_more, number_at, MOST_NUMBER, ListsEdges, IsChainFor, IsCocycleFor, IsProofFor, length, sym, ap, ◌∙◌, subst, arith, IsTableOf}
 use Rattle.homology_commands.proofs.CertificateLemmas.{shows_chain, shows_cocycle}
 use Rattle.homology_commands.proofs.listing.certificate_of.Goals as goal
 

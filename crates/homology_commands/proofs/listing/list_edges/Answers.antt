@@ -1,5 +1,4 @@
-use Rattle.homology_commands.proofs.Common.{number_at, EdgeNumber, ◌≡◌, ℕ, ◌<◌, List, length, sym, ap, ◌∙◌, subst, arith, ℤ, All, Edge, IsPairBefore, edge_in}
-use Rattle.homology_commands.specs.Listings.{ListsEdges}
+use Rattle.homology_commands.proofs.Common.{number_at, EdgeNumber, ListsEdges, ◌≡◌, ℕ, ◌<◌, List, length, sym, ap, ◌∙◌, subst, arith, ℤ, All, Edge, IsPairBefore, edge_in}
 use Rattle.homology_commands.proofs.ListedLemmas.{edge_more, edges_before, no_edges, number_sent}
 use Rattle.homology_commands.proofs.listing.list_edges.Goals as goal
 use Rattle.homology_commands.proofs.listing.list_edges.Goals.{After-ends}

@@ -1,5 +1,4 @@
-use Rattle.homology_commands.proofs.Common.{number_at}
-use Rattle.homology_commands.specs.Listings.{ListsEdges}
+use Rattle.homology_commands.proofs.Common.{number_at, ListsEdges}
 use Rattle.homology_commands.proofs.listing.list_edges.Given as goal
 
 -- the numbers of the edges so far are listed

@@ -1,5 +1,4 @@
-use Rattle.homology_commands.proofs.Common.{number_at, FaceNumber, ◌≡◌, ℕ, ◌<◌, ◌≤◌, List, sym, ◌∙◌, subst, arith, ℤ, All}
-use Rattle.homology_commands.specs.Listings.{ListsFaces, name_in}
+use Rattle.homology_commands.proofs.Common.{number_at, FaceNumber, ListsFaces, name_in, ◌≡◌, ℕ, ◌<◌, ◌≤◌, List, sym, ◌∙◌, subst, arith, ℤ, All}
 use Rattle.homology_commands.proofs.CertificateLemmas.{names_rise}
 use Rattle.homology_commands.proofs.ListedLemmas.{face_more, faces_before, no_faces, number_sent}
 use Rattle.homology_commands.proofs.listing.list_faces.Goals as goal

@@ -1,5 +1,4 @@
-use Rattle.homology_commands.proofs.Common.{number_at}
-use Rattle.homology_commands.specs.Listings.{ListsFaces, name_in}
+use Rattle.homology_commands.proofs.Common.{number_at, ListsFaces, name_in}
 use Rattle.homology_commands.proofs.listing.list_faces.Given as goal
 
 -- the numbers of the faces so far are listed

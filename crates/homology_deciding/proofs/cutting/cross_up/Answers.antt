@@ -1,5 +1,4 @@
-use Rattle.homology_deciding.proofs.Common.{OrientedMesh, within_more, sent, GrewBy, AreWithin, ◌+◌, ◌<◌, ℕ, [], ◌∷◌, ◌++◌, length, ap, sym, subst, arith, to_z, of_z, w64, length_push, FaceList, DartName}
-use Rattle.homology_deciding.specs.FaceTrees.{IsWayUp, way_share}
+use Rattle.homology_deciding.proofs.Common.{OrientedMesh, within_more, sent, GrewBy, AreWithin, IsWayUp, way_share, ◌+◌, ◌<◌, ℕ, [], ◌∷◌, ◌++◌, length, ap, sym, subst, arith, to_z, of_z, w64, length_push, FaceList, DartName}
 use Rattle.homology_deciding.proofs.LoopLemmas.{within_grown, way_grown, way_short, at_root, leads_up}
 use Rattle.homology_deciding.proofs.WayLemmas.{way_push, way_small}
 use Rattle.homology_deciding.proofs.cutting.cross_up.Goals as goal

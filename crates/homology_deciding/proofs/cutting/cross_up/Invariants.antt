@@ -1,5 +1,4 @@
-use Rattle.homology_deciding.proofs.Common.{GrewBy, ◌≡◌, ◌<◌, List, length, DartName}
-use Rattle.homology_deciding.specs.FaceTrees.{IsWayUp, way_share}
+use Rattle.homology_deciding.proofs.Common.{GrewBy, IsWayUp, way_share, ◌≡◌, ◌<◌, List, length, DartName}
 use Rattle.homology_deciding.proofs.cutting.cross_up.Given as goal
 
 -- the way so far, and what it gave

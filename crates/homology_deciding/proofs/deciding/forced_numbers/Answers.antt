@@ -1,5 +1,4 @@
-use Rattle.homology_deciding.proofs.Common.{ℤ, List, ap, sym, ◌∙◌, arith, Option}
-use Rattle.homology_deciding.specs.Heights.{height_of}
+use Rattle.homology_deciding.proofs.Common.{height_of, ℤ, List, ap, sym, ◌∙◌, arith, Option}
 use Rattle.homology_deciding.proofs.LoopLemmas.{height_small, forced_from, if_ok}
 use Rattle.homology_deciding.proofs.deciding.forced_numbers.Goals as goal
 

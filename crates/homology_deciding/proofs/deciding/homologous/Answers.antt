@@ -1,5 +1,4 @@
-use Rattle.homology_deciding.proofs.Common.{count_difference, AreNumbersOf, ℤ, List, sym, subst, IfOk, Edge}
-use Rattle.homology_deciding.specs.Proofs.{IsProofFor}
+use Rattle.homology_deciding.proofs.Common.{count_difference, AreNumbersOf, IsProofFor, ℤ, List, sym, subst, IfOk, Edge}
 use Rattle.homology_deciding.proofs.TreeLemmas.{tree_of}
 use Rattle.homology_deciding.proofs.LoopLemmas.{if_ok}
 use Rattle.homology_deciding.proofs.ProofLemmas.{exact_proof}

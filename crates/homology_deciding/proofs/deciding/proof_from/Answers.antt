@@ -1,5 +1,4 @@
-use Rattle.homology_deciding.proofs.Common.{OrientedMesh, ◌<◌, ℕ, List, length, sym, subst, arith, Edge}
-use Rattle.homology_deciding.specs.Proofs.{IsChainFor, IsCocycleFor}
+use Rattle.homology_deciding.proofs.Common.{OrientedMesh, IsChainFor, IsCocycleFor, ◌<◌, ℕ, List, length, sym, subst, arith, Edge}
 use Rattle.homology_deciding.proofs.LoopLemmas.{few_faces}
 use Rattle.homology_deciding.proofs.ProofLemmas.{chain_proof, cocycle_proof}
 use Rattle.homology_deciding.proofs.deciding.proof_from.Goals as goal

@@ -1,5 +1,4 @@
-use Rattle.homology_deciding.proofs.Common.{OrientedMesh, sent, ◌≡◌, ◌^◌, ◌<◌, ℕ, ℤ, List, length, ap, sym, ◌∙◌, subst, arith, pos, to_z, of_z, w64, length_push, unwrap_or, unsigned_abs, FaceList}
-use Rattle.homology_deciding.specs.Heights.{height_of, listed}
+use Rattle.homology_deciding.proofs.Common.{OrientedMesh, sent, height_of, listed, ◌≡◌, ◌^◌, ◌<◌, ℕ, ℤ, List, length, ap, sym, ◌∙◌, subst, arith, pos, to_z, of_z, w64, length_push, unwrap_or, unsigned_abs, FaceList}
 use Rattle.homology_deciding.proofs.LoopLemmas.{unwrapped_small, listed_more}
 use Rattle.homology_deciding.proofs.ProofLemmas.{listed_size}
 use Rattle.homology_deciding.proofs.heights.as_listed.Goals as goal

@@ -1,5 +1,4 @@
-use Rattle.homology_deciding.proofs.Common.{number_at, ◌≡◌, ◌<◌, ℕ, ℤ, length, Some}
-use Rattle.homology_deciding.specs.Heights.{height_of, listed}
+use Rattle.homology_deciding.proofs.Common.{number_at, height_of, listed, ◌≡◌, ◌<◌, ℕ, ℤ, length, Some}
 use Rattle.homology_deciding.proofs.heights.as_listed.Given as goal
 
 -- the faces so far

@@ -1,6 +1,4 @@
-use Rattle.homology_deciding.proofs.Common.{OrientedMesh, List, length, ap, sym, ◌∙◌, subst, arith, length_push, is_some, FaceList, DartName}
-use Rattle.homology_deciding.specs.FaceTrees.{IsWayUp, face_across}
-use Rattle.homology_deciding.specs.Heights.{height_of}
+use Rattle.homology_deciding.proofs.Common.{OrientedMesh, IsWayUp, face_across, height_of, List, length, ap, sym, ◌∙◌, subst, arith, length_push, is_some, FaceList, DartName}
 use Rattle.homology_deciding.proofs.LoopLemmas.{way_short, at_root, leads_up}
 use Rattle.homology_deciding.proofs.WayLemmas.{way_push}
 use Rattle.homology_deciding.proofs.heights.climb.Goals as goal

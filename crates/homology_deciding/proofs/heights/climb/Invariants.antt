@@ -1,5 +1,4 @@
-use Rattle.homology_deciding.proofs.Common.{◌≡◌, ◌<◌, length}
-use Rattle.homology_deciding.specs.FaceTrees.{IsWayUp}
+use Rattle.homology_deciding.proofs.Common.{IsWayUp, ◌≡◌, ◌<◌, length}
 use Rattle.homology_deciding.proofs.heights.climb.Given as goal
 
 -- the way so far

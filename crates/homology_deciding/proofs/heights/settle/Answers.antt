@@ -1,6 +1,4 @@
-use Rattle.homology_deciding.proofs.Common.{darts_of, face_of, OrientedMesh, ◌≡◌, ◌<◌, ℕ, ℤ, List, [], length, ap, refl, sym, ◌∙◌, subst, arith, rules, to_z, of_z, w64, ◌+ℤ◌, is_some, DartName}
-use Rattle.homology_deciding.specs.FaceTrees.{IsUp, IsWayUp}
-use Rattle.homology_deciding.specs.Heights.{height_of, dart_count, EndsAtHeight}
+use Rattle.homology_deciding.proofs.Common.{darts_of, face_of, OrientedMesh, IsUp, IsWayUp, height_of, dart_count, EndsAtHeight, ◌≡◌, ◌<◌, ℕ, ℤ, List, [], length, ap, refl, sym, ◌∙◌, subst, arith, rules, to_z, of_z, w64, ◌+ℤ◌, is_some, DartName}
 use Rattle.homology_deciding.proofs.LoopLemmas.{IsTopKnown, top_known, known, height_small, height_more, height_kept, height_there, added_fits, added_is}
 use Rattle.homology_deciding.proofs.heights.settle.Goals as goal
 use Rattle.homology_deciding.proofs.heights.settle.Goals.{In-Some}

@@ -1,5 +1,4 @@
-use Rattle.homology_deciding.proofs.Common.{◌≡◌, ℕ, true, length, is_some}
-use Rattle.homology_deciding.specs.Heights.{height_of, AreHeights, EndsAtHeight}
+use Rattle.homology_deciding.proofs.Common.{height_of, AreHeights, EndsAtHeight, ◌≡◌, ℕ, true, length, is_some}
 use Rattle.homology_deciding.proofs.heights.settle.Given as goal
 
 -- the heights so far, and the way that is left

@@ -1,5 +1,4 @@
-use Rattle.homology_deciding.proofs.Common.{◌≡◌, inl, inr, ap, ◌∙◌, arith, cases_lt, is_some}
-use Rattle.homology_deciding.specs.Heights.{height_of}
+use Rattle.homology_deciding.proofs.Common.{height_of, ◌≡◌, inl, inr, ap, ◌∙◌, arith, cases_lt, is_some}
 use Rattle.homology_deciding.proofs.heights.settle_all.Goals as goal
 
 pub loop-face-preserved : goal.loop-face-preserved

@@ -1,5 +1,4 @@
-use Rattle.homology_deciding.proofs.Common.{◌≡◌, ◌<◌, ℕ, true, [], is_some}
-use Rattle.homology_deciding.specs.Heights.{height_of, AreHeights}
+use Rattle.homology_deciding.proofs.Common.{height_of, AreHeights, ◌≡◌, ◌<◌, ℕ, true, [], is_some}
 use Rattle.homology_deciding.proofs.heights.settle_all.Given as goal
 
 -- the faces so far have heights

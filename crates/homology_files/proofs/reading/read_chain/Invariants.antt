@@ -1,5 +1,4 @@
-use Rattle.homology_files.proofs.Common.{◌≡◌, ◌-◌, [], length, lines_left}
-use Rattle.homology_files.specs.HomologyTexts.{face_number_of, is_face_above, numbers_in}
+use Rattle.homology_files.proofs.Common.{face_number_of, is_face_above, numbers_in, ◌≡◌, ◌-◌, [], length, lines_left}
 use Rattle.homology_files.proofs.reading.read_chain.Given as goal
 
 -- the lines left, behind the numbers so far, mean what all lines do

@@ -1,5 +1,4 @@
-use Rattle.homology_files.proofs.Common.{◌≡◌, ◌-◌, [], length, lines_left}
-use Rattle.homology_files.specs.HomologyTexts.{edge_number_of, is_edge_above, numbers_in}
+use Rattle.homology_files.proofs.Common.{edge_number_of, is_edge_above, numbers_in, ◌≡◌, ◌-◌, [], length, lines_left}
 use Rattle.homology_files.proofs.reading.read_cocycle.Given as goal
 
 -- the lines left, behind the numbers so far, mean what all lines do

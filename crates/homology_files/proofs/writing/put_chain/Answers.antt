@@ -1,5 +1,4 @@
-use Rattle.homology_files.proofs.Common.{subst, arith, take_all, All-nil, err_from_is_err_and, All, codes, gathers-put, each-none, each-more, each-stops, each-all}
-use Rattle.homology_files.specs.WrittenTexts.{face_words, FaceFits}
+use Rattle.homology_files.proofs.Common.{face_words, FaceFits, subst, arith, take_all, All-nil, err_from_is_err_and, All, codes, gathers-put, each-none, each-more, each-stops, each-all}
 use Rattle.homology_files.proofs.WritingLemmas.{face_line, puts_behind_head, all-next}
 use Rattle.homology_files.proofs.writing.put_chain.Goals as goal
 

@@ -1,5 +1,4 @@
-use Rattle.homology_files.proofs.Common.{take, All, EachPut}
-use Rattle.homology_files.specs.WrittenTexts.{FaceFits}
+use Rattle.homology_files.proofs.Common.{FaceFits, take, All, EachPut}
 use Rattle.homology_files.proofs.WritingLemmas.{face_line}
 use Rattle.homology_files.proofs.writing.put_chain.Given as goal
 

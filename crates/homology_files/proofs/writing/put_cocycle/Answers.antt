@@ -1,5 +1,4 @@
-use Rattle.homology_files.proofs.Common.{subst, arith, take_all, All-nil, err_from_is_err_and, All, codes, gathers-put, each-none, each-more, each-stops, each-all}
-use Rattle.homology_files.specs.WrittenTexts.{edge_words, EdgeFits}
+use Rattle.homology_files.proofs.Common.{edge_words, EdgeFits, subst, arith, take_all, All-nil, err_from_is_err_and, All, codes, gathers-put, each-none, each-more, each-stops, each-all}
 use Rattle.homology_files.proofs.WritingLemmas.{edge_line, puts_behind_head, all-next}
 use Rattle.homology_files.proofs.writing.put_cocycle.Goals as goal
 

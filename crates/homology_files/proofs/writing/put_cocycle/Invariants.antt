@@ -1,5 +1,4 @@
-use Rattle.homology_files.proofs.Common.{take, All, EachPut}
-use Rattle.homology_files.specs.WrittenTexts.{EdgeFits}
+use Rattle.homology_files.proofs.Common.{EdgeFits, take, All, EachPut}
 use Rattle.homology_files.proofs.WritingLemmas.{edge_line}
 use Rattle.homology_files.proofs.writing.put_cocycle.Given as goal
 

@@ -1,6 +1,4 @@
-use Rattle.homotopy_c.proofs.Common.{IsCompactSurface, IsDecideAnyFault, IsAnswer, Different}
-use Rattle.homotopy_c.specs.Meanings.{DoesAnswer}
-use Rattle.homotopy_c.specs.Outcomes.{byte_of}
+use Rattle.homotopy_c.proofs.Common.{IsCompactSurface, IsDecideAnyFault, IsAnswer, Different, DoesAnswer, byte_of}
 use Rattle.homotopy_c.proofs.TellingLemmas.{answers_mean, byte_means, else_same}
 use Rattle.homotopy_c.proofs.laws.decide_any_tells_what_is_homotopic.Goals as goal
 

@@ -1,7 +1,5 @@
-use Rattle.homotopy_c.proofs.Common.{IsOrientableCompactSurface, IsAskedFault, IsLoopAnswer}
+use Rattle.homotopy_c.proofs.Common.{IsOrientableCompactSurface, IsAskedFault, IsLoopAnswer, DoesAnswerLoops, loop_byte}
 use Rattle.homotopy_arrays.specs.declared.loops.LoopAnswer.TheVariants.{Freely}
-use Rattle.homotopy_c.specs.Meanings.{DoesAnswerLoops}
-use Rattle.homotopy_c.specs.Outcomes.{loop_byte}
 use Rattle.homotopy_c.proofs.TellingLemmas.{answers_mean, held_else_same, loop_means, told_not_orientable}
 use Rattle.homotopy_c.proofs.laws.loops_tell_what_is_freely_homotopic.Goals as goal
 

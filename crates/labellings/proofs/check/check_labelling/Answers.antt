@@ -1,6 +1,4 @@
-use Rattle.labellings.proofs.Common.{ℕ, ◌<◌, length, inr, rules}
-use Rattle.labellings.specs.GoodLabellings.{HasShape, HasDegree}
-use Rattle.labellings.specs.TableRules.{EntryMeetsRule}
+use Rattle.labellings.proofs.Common.{HasShape, HasDegree, EntryMeetsRule, ℕ, ◌<◌, length, inr, rules}
 use Rattle.labellings.proofs.EdgeRuleLemmas.{each-edge, least-against}
 use Rattle.labellings.proofs.check.check_labelling.Goals as goal
 

@@ -1,5 +1,4 @@
-use Rattle.labellings.proofs.Common.{rules, below_more}
-use Rattle.labellings.specs.TableRules.{EntryMeetsRule}
+use Rattle.labellings.proofs.Common.{EntryMeetsRule, rules, below_more}
 use Rattle.labellings.proofs.check.first_against.Goals as goal
 
 pub loop-edge-preserved : goal.loop-edge-preserved

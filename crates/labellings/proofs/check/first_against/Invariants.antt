@@ -1,5 +1,4 @@
-use Rattle.labellings.proofs.Common.{ℕ, ◌<◌}
-use Rattle.labellings.specs.TableRules.{EntryMeetsRule}
+use Rattle.labellings.proofs.Common.{EntryMeetsRule, ℕ, ◌<◌}
 use Rattle.labellings.proofs.check.first_against.Given as goal
 
 abbrev pub invariant-loop-edge : goal.invariant-loop-edge

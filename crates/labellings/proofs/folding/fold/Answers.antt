@@ -1,7 +1,5 @@
-use Rattle.labellings.proofs.Common.{◌≡◌, ℕ, suc, ◌+◌, ◌<◌, ◌≤◌, List, ◌++◌, length, get_or, take, ap, sym, ◌∙◌, subst, arith, take_all, led, NotesAlong, TellsMore}
-use Rattle.labellings.specs.QuadPaths.{spokes, quad_path}
+use Rattle.labellings.proofs.Common.{spokes, quad_path, spoke_list, ◌≡◌, ℕ, suc, ◌+◌, ◌<◌, ◌≤◌, List, ◌++◌, length, get_or, take, ap, sym, ◌∙◌, subst, arith, take_all, led, NotesAlong, TellsMore}
 use Rattle.labellings.proofs.KeepingLemmas.{moves_keep}
-use Rattle.labellings.specs.Spokes.{spoke_list}
 use Rattle.labellings.proofs.NotedLemmas.{tells-on, tells-some, led-on}
 use Rattle.labellings.proofs.PathLemmas.{path-next, listed, found_below}
 use Rattle.labellings.proofs.folding.fold.Goals as goal

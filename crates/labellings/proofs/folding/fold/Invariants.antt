@@ -1,5 +1,4 @@
-use Rattle.labellings.proofs.Common.{◌≡◌, suc, ◌+◌, ◌*◌, ◌≤◌, take, led, NotesAlong, TellsMore}
-use Rattle.labellings.specs.QuadPaths.{quad_path}
+use Rattle.labellings.proofs.Common.{quad_path, ◌≡◌, suc, ◌+◌, ◌*◌, ◌≤◌, take, led, NotesAlong, TellsMore}
 use Rattle.labellings.proofs.folding.fold.Given as goal
 
 -- the darts so far

@@ -1,5 +1,4 @@
-use Rattle.labellings.proofs.Common.{ℕ, ◌<◌}
-use Rattle.labellings.specs.LabelFaults.{FitsFace}
+use Rattle.labellings.proofs.Common.{FitsFace, ℕ, ◌<◌}
 use Rattle.labellings.proofs.shape.each_face_fits.Given as goal
 
 abbrev pub invariant-loop-face : goal.invariant-loop-face

@@ -1,12 +1,5 @@
-use Rattle.labellings.proofs.Common.{◌≡◌, ◌⊎◌, inl, inr, ◌∙◌, List, ℕ, Result, Ok, Err, IfOk, FaceList}
+use Rattle.labellings.proofs.Common.{IsVerdict, IsFirstFault, Denial, LabelFault, OutOfMemory, DenialVerdict, Label, ◌≡◌, ◌⊎◌, inl, inr, ◌∙◌, List, ℕ, Result, Ok, Err, IfOk, FaceList}
 use Rattle.std.specs.Prelude.{◌≢◌}
-use Rattle.labellings.specs.LabelFaults.{IsFirstFault}
-use Rattle.labellings.specs.declared.denial.Denial.{Denial}
-use Rattle.labellings.specs.declared.fault.LabelFault.{LabelFault}
-use Rattle.labellings.specs.declared.fault.LabelFault.TheVariants.{OutOfMemory}
-use Rattle.labellings.specs.DenialVerdicts.{IsVerdict}
-use Rattle.labellings.specs.declared.verdict.DenialVerdict.{DenialVerdict}
-use Rattle.labellings.specs.declared.verdict.DenialVerdict.TheVariants.{Label}
 use Rattle.labellings.proofs.VerdictLemmas.{one_verdict}
 use Rattle.labellings.proofs.verdict.check_denial.Goals as goal
 

@@ -1,5 +1,4 @@
-use Rattle.labellings.proofs.Common.{◌≡◌, List, ℕ, length, ap, ◌∙◌, arith, led, HyperState, empty_state, hyper_next}
-use Rattle.labellings.specs.QuadPaths.{quad_path}
+use Rattle.labellings.proofs.Common.{quad_path, ◌≡◌, List, ℕ, length, ap, ◌∙◌, arith, led, HyperState, empty_state, hyper_next}
 use Rattle.labellings.proofs.WordLemmas.{turns_word}
 use Rattle.labellings.proofs.word.canonical_word.Goals as goal
 

@@ -1,6 +1,5 @@
-use Rattle.labellings.proofs.Common.{flat_next, Vector, origin, ◌≡◌, List, ℕ, ap, ap₂, ◌∙◌, arith, to_z, of_z, w64, led}
+use Rattle.labellings.proofs.Common.{flat_next, Vector, origin, quad_path, ◌≡◌, List, ℕ, ap, ap₂, ◌∙◌, arith, to_z, of_z, w64, led}
 use Rattle.std.proofs.lemmas.Int.{ints}
-use Rattle.labellings.specs.QuadPaths.{quad_path}
 use Rattle.labellings.proofs.WordLemmas.{vector, flat_word}
 use Rattle.labellings.proofs.word.end_in_plane.Goals as goal
 

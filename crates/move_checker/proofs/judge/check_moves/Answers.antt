@@ -1,8 +1,6 @@
-use Rattle.move_checker.proofs.Common.{◌≡◌, ℕ, ◌+◌, ◌≤◌, ◌∷◌, List, drop, refl, ap, sym, ◌∙◌, arith, inl, inr, cases_lt, drop_more, drop_all, Ok, Err, slice_get, darts, Move}
+use Rattle.move_checker.proofs.Common.{step_of, verdict_from, ◌≡◌, ℕ, ◌+◌, ◌≤◌, ◌∷◌, List, drop, refl, ap, sym, ◌∙◌, arith, inl, inr, cases_lt, drop_more, drop_all, Ok, Err, slice_get, darts, Move}
 use Rattle.std.proofs.lemmas.Option.{slice_get_within, get_or_from_slice_get}
 use Rattle.std.specs.Prelude.{Some}
-use Rattle.move_checker.specs.Refusals.{step_of}
-use Rattle.move_checker.specs.Verdicts.{verdict_from}
 use Rattle.move_checker.proofs.Judgement.{verdict_over_peak, verdict_start, verdict_more, verdict_refused, verdict_accepted, verdict_end, accepted_exactly}
 use Rattle.move_checker.proofs.judge.check_moves.Goals as goal
 

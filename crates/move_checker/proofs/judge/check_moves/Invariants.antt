@@ -1,5 +1,4 @@
-use Rattle.move_checker.proofs.Common.{◌≡◌, ◌+◌, drop}
-use Rattle.move_checker.specs.Verdicts.{verdict_of, verdict_from}
+use Rattle.move_checker.proofs.Common.{verdict_of, verdict_from, ◌≡◌, ◌+◌, drop}
 use Rattle.move_checker.proofs.judge.check_moves.Given as goal
 
 abbrev pub invariant-loop-k : goal.invariant-loop-k

@@ -1,6 +1,5 @@
-use Rattle.move_checker.proofs.Common.{List, ℕ, rules, Option, IsSome, IsNone}
+use Rattle.move_checker.proofs.Common.{MoveFault, List, ℕ, rules, Option, IsSome, IsNone}
 use Rattle.std.proofs.Common.{◌↔◌}
-use Rattle.move_checker.specs.declared.fault.MoveFault.{MoveFault}
 use Rattle.move_checker.proofs.Steps.{Judged, is_refused, is_allowed, judged}
 use Rattle.move_checker.proofs.laws.refused_with_reason.Goals as goal
 

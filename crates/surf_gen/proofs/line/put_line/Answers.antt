@@ -1,5 +1,4 @@
-use Rattle.surf_gen.proofs.Common.{◌≡◌, ℕ, ◌-◌, List, ◌++◌, ◌∷◌, ◌∙◌, ap, sym, map, length, drop, get_or, arith, drop-length, decimal, Result, Ok, Err, OnOk, is_ok, if◌then◌else◌}
-use Rattle.surf_gen.specs.ChainTexts.{line_of}
+use Rattle.surf_gen.proofs.Common.{◌≡◌, ℕ, ◌-◌, List, ◌++◌, ◌∷◌, ◌∙◌, ap, sym, map, length, drop, get_or, arith, drop-length, decimal, Result, Ok, Err, OnOk, is_ok, if◌then◌else◌, line_of}
 use Rattle.surf_gen.proofs.LineLemmas.{behind_number, number_more, line_whole}
 use Rattle.surf_gen.proofs.line.put_line.Goals as goal
 

@@ -1,6 +1,5 @@
-use Rattle.verify_homology_commands.proofs.Common.{read_passes, read_stops, tells_no_fault, cert_of_text, refl}
+use Rattle.verify_homology_commands.proofs.Common.{read_passes, read_stops, tells_no_fault, cert_of_text, refl, fault_line}
 use Rattle.homology_files.specs.declared.fault.HomologyFault.TheVariants.{OutOfMemory}
-use Rattle.verify_homology_commands.specs.VerifyHomology.{fault_line}
 use Rattle.verify_homology_commands.proofs.verify_homology.certificate_of_bytes.Goals as goal
 
 pub returns-in-Ok : goal.returns-in-Ok

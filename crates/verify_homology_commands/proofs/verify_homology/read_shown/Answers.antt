@@ -1,6 +1,5 @@
-use Rattle.verify_homology_commands.proofs.Common.{next_end, reads_ended, file, meant, cert_of_text}
+use Rattle.verify_homology_commands.proofs.Common.{next_end, reads_ended, file, meant, cert_of_text, fault_line}
 use Rattle.commands.specs.declared.refusal.Input.TheVariants.{Certificate}
-use Rattle.verify_homology_commands.specs.VerifyHomology.{fault_line}
 use Rattle.verify_homology_commands.proofs.verify_homology.read_shown.Goals as goal
 
 pub returns : goal.returns

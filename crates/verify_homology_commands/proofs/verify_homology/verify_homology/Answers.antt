@@ -1,5 +1,4 @@
-use Rattle.verify_homology_commands.proofs.Common.{judged_no_fault, only_then, runs_judged, runs_stopped, Passes, pair_in, Stops, ◌∙◌, subst, Option, Files}
-use Rattle.verify_homology_commands.specs.VerifyHomology.{certificate_in}
+use Rattle.verify_homology_commands.proofs.Common.{judged_no_fault, only_then, runs_judged, runs_stopped, Passes, pair_in, Stops, ◌∙◌, subst, Option, Files, certificate_in}
 use Rattle.verify_homology_commands.proofs.Verifying.{walks_stop, certificate_stops, judged}
 use Rattle.verify_homology_commands.proofs.verify_homology.verify_homology.Goals as goal
 

@@ -1,6 +1,4 @@
-use Rattle.walk_classes.proofs.Common.{mesh_of_finder, ◌≡◌, ℕ, List, [], refl, sym, ◌∙◌, subst, arith, get_or_default, FaceList, IsWalk}
-use Rattle.walk_classes.specs.WalkClasses.{walk_at}
-use Rattle.walk_classes.specs.WalkKeys.{IsKeyOf}
+use Rattle.walk_classes.proofs.Common.{mesh_of_finder, ◌≡◌, ℕ, List, [], refl, sym, ◌∙◌, subst, arith, get_or_default, FaceList, IsWalk, walk_at, IsKeyOf}
 use Rattle.walk_classes.proofs.WalkKeyLemmas.{all_numbered, none_numbered, numbered_kept, numbered_more}
 use Rattle.walk_classes.proofs.numbering.put_numbers.Goals as goal
 

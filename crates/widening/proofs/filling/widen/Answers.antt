@@ -1,5 +1,4 @@
-use Rattle.widening.proofs.Common.{LabellingView, labels_at, IsOfComponent, piece_of_parts, IsPiece, ◌≡◌, ◌<◌, ℕ, List, length, take, replicate, ap, sym, ◌∙◌, subst, arith, both_ways, take-replicate, component_at, face_at}
-use Rattle.widening.specs.Widened.{IsWidened}
+use Rattle.widening.proofs.Common.{LabellingView, labels_at, IsOfComponent, piece_of_parts, IsPiece, ◌≡◌, ◌<◌, ℕ, List, length, take, replicate, ap, sym, ◌∙◌, subst, arith, both_ways, take-replicate, component_at, face_at, IsWidened}
 use Rattle.widening.proofs.WidenedLemmas.{Widening, good_widened}
 use Rattle.widening.proofs.WidenedPaths.{path_alike}
 use Rattle.widening.proofs.WideningLemmas.{with_places, widened_named, widened_other, widened_all}

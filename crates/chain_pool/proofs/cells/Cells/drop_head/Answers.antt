@@ -1,6 +1,4 @@
-use Rattle.chain_pool.proofs.Common.{◌≡◌, length, ap, arith}
-use Rattle.chain_pool.specs.Memory.{Parted, PartedChains, chains_of}
-use Rattle.chain_pool.specs.Chains.{under}
+use Rattle.chain_pool.proofs.Common.{under, Parted, PartedChains, chains_of, ◌≡◌, length, ap, arith}
 use Rattle.chain_pool.proofs.Heads.{drop_sound}
 use Rattle.chain_pool.proofs.Soundness.{few}
 use Rattle.chain_pool.proofs.Writes.{HasHead, head_of, once_written, before_len, behind_len}

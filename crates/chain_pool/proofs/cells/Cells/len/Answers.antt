@@ -1,5 +1,4 @@
-use Rattle.chain_pool.proofs.Common.{◌≡◌, ap, arith}
-use Rattle.chain_pool.specs.Memory.{PartedChains, chains_of}
+use Rattle.chain_pool.proofs.Common.{PartedChains, chains_of, ◌≡◌, ap, arith}
 use Rattle.chain_pool.proofs.Soundness.{few}
 use Rattle.chain_pool.proofs.Writes.{before_len, behind_len}
 use Rattle.chain_pool.proofs.cells.Cells.len.Goals as goal

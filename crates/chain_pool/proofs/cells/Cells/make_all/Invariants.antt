@@ -1,5 +1,4 @@
-use Rattle.chain_pool.proofs.Common.{◌≡◌, ◌-◌}
-use Rattle.chain_pool.specs.Chains.{IsAlike}
+use Rattle.chain_pool.proofs.Common.{IsAlike, ◌≡◌, ◌-◌}
 use Rattle.chain_pool.proofs.cells.Cells.make_all.Given as goal
 
 abbrev pub invariant-loop-self : goal.invariant-loop-self

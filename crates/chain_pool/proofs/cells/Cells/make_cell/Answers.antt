@@ -1,5 +1,4 @@
-use Rattle.chain_pool.proofs.Common.{◌≡◌, ◌<◌, ap, arith}
-use Rattle.chain_pool.specs.Memory.{PartedChains, chains_of}
+use Rattle.chain_pool.proofs.Common.{PartedChains, chains_of, ◌≡◌, ◌<◌, ap, arith}
 use Rattle.chain_pool.proofs.Heads.{make_sound}
 use Rattle.chain_pool.proofs.cells.Cells.make_cell.Goals as goal
 use Rattle.chain_pool.proofs.cells.Cells.make_cell.Goals.{After-insert_reserved-key}

@@ -1,5 +1,4 @@
-use Rattle.chain_pool.proofs.Common.{ℕ, [], arith}
-use Rattle.chain_pool.specs.Memory.{IsSound, Free, Left, Right, Owners, no_cells, AreOwned, memory_of}
+use Rattle.chain_pool.proofs.Common.{IsSound, Free, Left, Right, Owners, no_cells, AreOwned, memory_of, ℕ, [], arith}
 use Rattle.chain_pool.proofs.Stacks.{IsOwned-none}
 use Rattle.chain_pool.proofs.cells.Cells.new.Goals as goal
 

@@ -1,5 +1,4 @@
-use Rattle.chain_pool.proofs.Common.{◌≡◌, ◌<◌, List, ℕ, get_or, ap, sym, ◌∙◌, arith}
-use Rattle.chain_pool.specs.Memory.{PartedChains, memory_of, chains_of}
+use Rattle.chain_pool.proofs.Common.{PartedChains, memory_of, chains_of, ◌≡◌, ◌<◌, List, ℕ, get_or, ap, sym, ◌∙◌, arith}
 use Rattle.chain_pool.proofs.Reading.{values-first}
 use Rattle.chain_pool.proofs.Writes.{behind_len, behind_is, right_entry}
 use Rattle.chain_pool.proofs.cells.Cells.next.Goals as goal

@@ -1,5 +1,4 @@
-use Rattle.chain_pool.proofs.Common.{ap, sym}
-use Rattle.chain_pool.specs.Memory.{PartedChains}
+use Rattle.chain_pool.proofs.Common.{PartedChains, ap, sym}
 use Rattle.chain_pool.proofs.Writes.{before_len}
 use Rattle.chain_pool.proofs.cells.Cells.place.Goals as goal
 

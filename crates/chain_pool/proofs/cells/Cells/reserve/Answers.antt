@@ -1,7 +1,4 @@
-use Rattle.chain_pool.proofs.Common.{Slab, ◌≡◌, ◌≤◌, List, Option, count_by, is_some, ap, ◌∙◌, arith}
-use Rattle.chain_pool.specs.Chains.{cells_in}
-use Rattle.chain_pool.specs.Memory.{PartedChains, chains_of, joined_lists}
-use Rattle.chain_pool.specs.declared.cells.Cell.{Cell}
+use Rattle.chain_pool.proofs.Common.{cells_in, PartedChains, chains_of, joined_lists, Cell, Slab, ◌≡◌, ◌≤◌, List, Option, count_by, is_some, ap, ◌∙◌, arith}
 use Rattle.chain_pool.proofs.Soundness.{cells_in-alike_joined}
 use Rattle.chain_pool.proofs.cells.Cells.reserve.Goals as goal
 

@@ -1,5 +1,4 @@
-use Rattle.chain_pool.proofs.Common.{◌≡◌, ◌<◌, ap, arith}
-use Rattle.chain_pool.specs.Memory.{PartedChains, chains_of}
+use Rattle.chain_pool.proofs.Common.{PartedChains, chains_of, ◌≡◌, ◌<◌, ap, arith}
 use Rattle.chain_pool.proofs.Heads.{start_sound}
 use Rattle.chain_pool.proofs.Writes.{once_written, free_entry}
 use Rattle.chain_pool.proofs.cells.Cells.start.Goals as goal

@@ -1,5 +1,4 @@
-use Rattle.chain_pool.proofs.Common.{List, ℕ, length, sym, ap, ◌∙◌}
-use Rattle.chain_pool.specs.Memory.{memory_of}
+use Rattle.chain_pool.proofs.Common.{memory_of, List, ℕ, length, sym, ap, ◌∙◌}
 use Rattle.chain_pool.proofs.Reading.{length-stack}
 use Rattle.chain_pool.proofs.entries.Entries.len.Goals as goal
 

@@ -1,5 +1,4 @@
-use Rattle.chain_pool.proofs.Common.{ℕ, sym, ap, ◌∙◌, arith, rules}
-use Rattle.chain_pool.specs.Memory.{memory_of, values}
+use Rattle.chain_pool.proofs.Common.{memory_of, values, ℕ, sym, ap, ◌∙◌, arith, rules}
 use Rattle.chain_pool.proofs.Reading.{first_entry, rest_stack, values-first}
 use Rattle.chain_pool.proofs.Stacks.{values-none}
 use Rattle.chain_pool.proofs.entries.EntriesIterator.next.Goals as goal

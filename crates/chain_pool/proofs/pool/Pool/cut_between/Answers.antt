@@ -1,6 +1,4 @@
-use Rattle.chain_pool.proofs.Common.{◌≡◌, ℕ, Option, is_some, ap, subst, sym, arith}
-use Rattle.chain_pool.specs.Chains.{Chains}
-use Rattle.chain_pool.specs.Memory.{Parted}
+use Rattle.chain_pool.proofs.Common.{Chains, Parted, ◌≡◌, ℕ, Option, is_some, ap, subst, sym, arith}
 use Rattle.chain_pool.proofs.Lists.{IsCutTo, IsCutTo-none, IsCutTo-more, IsCutTo-done, IsCutTo-behind, IsCutTo-nothing}
 use Rattle.chain_pool.proofs.pool.Pool.cut_between.Goals as goal
 use Rattle.chain_pool.proofs.pool.Pool.cut_between.Goals.{After-loop-i}

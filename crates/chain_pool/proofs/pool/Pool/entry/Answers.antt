@@ -1,6 +1,4 @@
-use Rattle.chain_pool.proofs.Common.{◌≡◌, ◌+◌, ℕ, List, get_or, ap, ◌∙◌, refl, arith, get_or-drop}
-use Rattle.chain_pool.specs.Chains.{Chains, list_under}
-use Rattle.chain_pool.specs.Memory.{Parted}
+use Rattle.chain_pool.proofs.Common.{Chains, list_under, Parted, ◌≡◌, ◌+◌, ℕ, List, get_or, ap, ◌∙◌, refl, arith, get_or-drop}
 use Rattle.chain_pool.proofs.Lists.{IsCutTo, IsCutTo-none, IsCutTo-nothing}
 use Rattle.chain_pool.proofs.Soundness.{parted_under-is}
 use Rattle.chain_pool.proofs.pool.Pool.entry.Goals as goal

@@ -1,6 +1,4 @@
-use Rattle.chain_pool.proofs.Common.{ℕ, List, Option, None, ap, subst, sym, ◌∙◌}
-use Rattle.chain_pool.specs.Chains.{Chains, IsEdit, list_under}
-use Rattle.chain_pool.specs.Memory.{joined_lists}
+use Rattle.chain_pool.proofs.Common.{Chains, IsEdit, list_under, joined_lists, ℕ, List, Option, None, ap, subst, sym, ◌∙◌}
 use Rattle.chain_pool.proofs.Lists.{list_in, list_under-is, edit_twice}
 use Rattle.chain_pool.proofs.Soundness.{IsEdit-joined}
 use Rattle.chain_pool.proofs.Splices.{joined-none, cut-all}

@@ -1,6 +1,4 @@
-use Rattle.chain_pool.proofs.Common.{List, ℕ, ap, sym, ◌∙◌, length}
-use Rattle.chain_pool.specs.Chains.{Chains}
-use Rattle.chain_pool.specs.Memory.{parted_under}
+use Rattle.chain_pool.proofs.Common.{Chains, parted_under, List, ℕ, ap, sym, ◌∙◌, length}
 use Rattle.chain_pool.proofs.Lists.{list_in}
 use Rattle.chain_pool.proofs.Soundness.{length-joined}
 use Rattle.chain_pool.proofs.pool.Pool.len.Goals as goal

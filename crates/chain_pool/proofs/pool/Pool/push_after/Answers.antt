@@ -1,6 +1,4 @@
-use Rattle.chain_pool.proofs.Common.{ℕ, List, ap, sym, ◌∙◌}
-use Rattle.chain_pool.specs.Chains.{Chains, inserted, list_under}
-use Rattle.chain_pool.specs.Memory.{Parted, joined, parted_under, pushed}
+use Rattle.chain_pool.proofs.Common.{Chains, inserted, list_under, Parted, joined, parted_under, pushed, ℕ, List, ap, sym, ◌∙◌}
 use Rattle.chain_pool.proofs.Lists.{list_in, seen_edit, edit_then_alike, edit_twice, joined-pushed}
 use Rattle.chain_pool.proofs.Soundness.{parted_under-is}
 use Rattle.chain_pool.proofs.pool.Pool.push_after.Goals as goal

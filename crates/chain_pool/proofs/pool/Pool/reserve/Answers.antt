@@ -1,5 +1,4 @@
-use Rattle.chain_pool.proofs.Common.{ap, ◌∙◌}
-use Rattle.chain_pool.specs.Chains.{Chains, under}
+use Rattle.chain_pool.proofs.Common.{Chains, under, ap, ◌∙◌}
 use Rattle.chain_pool.proofs.Soundness.{IsAlike-joined}
 use Rattle.chain_pool.proofs.pool.Pool.reserve.Goals as goal
 

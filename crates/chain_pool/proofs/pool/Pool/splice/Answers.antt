@@ -1,6 +1,4 @@
-use Rattle.chain_pool.proofs.Common.{◌≤◌, length, is_some, Option, ap, ◌∙◌, arith}
-use Rattle.chain_pool.specs.Chains.{Chains, list_under}
-use Rattle.chain_pool.specs.Memory.{Parted}
+use Rattle.chain_pool.proofs.Common.{Chains, list_under, Parted, ◌≤◌, length, is_some, Option, ap, ◌∙◌, arith}
 use Rattle.chain_pool.proofs.Splices.{IsSplicedTo-none, IsSplicedTo-more, IsSplicedTo-left, IsSplicedTo-total, IsSplicedTo-empty, IsSplicedTo-done, IsSplicedTo-others}
 use Rattle.chain_pool.proofs.pool.Pool.splice.Goals as goal
 use Rattle.chain_pool.proofs.pool.Pool.splice.Goals.{After-loop-i}

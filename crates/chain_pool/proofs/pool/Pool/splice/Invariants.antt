@@ -1,5 +1,4 @@
-use Rattle.chain_pool.proofs.Common.{◌≡◌, length}
-use Rattle.chain_pool.specs.Chains.{list_under}
+use Rattle.chain_pool.proofs.Common.{list_under, ◌≡◌, length}
 use Rattle.chain_pool.proofs.Splices.{IsSplicedTo}
 use Rattle.chain_pool.proofs.pool.Pool.splice.Given as goal
 

@@ -1,5 +1,4 @@
-use Rattle.chain_pool.proofs.Common.{[], refl, ap}
-use Rattle.chain_pool.specs.Chains.{Chains}
+use Rattle.chain_pool.proofs.Common.{Chains, [], refl, ap}
 use Rattle.chain_pool.proofs.Lists.{seen_edit, alike_then_edit}
 use Rattle.chain_pool.proofs.pool.Pool.start_chain.Goals as goal
 

@@ -1,5 +1,4 @@
-use Rattle.closed_surfaces.proofs.Common.{◌≡◌, ℕ, true, sym, subst, IfOk, is_used}
-use Rattle.closed_surfaces.specs.SignedSurfaces.{IsComponentOf}
+use Rattle.closed_surfaces.proofs.Common.{IsComponentOf, ◌≡◌, ℕ, true, sym, subst, IfOk, is_used}
 use Rattle.closed_surfaces.proofs.component.Component.of_walk.Goals as goal
 
 pub of-requires-clause-used : goal.of-requires-clause-used

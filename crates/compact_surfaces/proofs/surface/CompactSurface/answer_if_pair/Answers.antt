@@ -1,9 +1,7 @@
 use Rattle.compact_surfaces.proofs.FoundLemmas.{found_on_mesh, walk_lies_below}
 use Rattle.compact_surfaces.proofs.surface.CompactSurface.answer_if_pair.Goals as goal
 use Rattle.compact_surfaces.proofs.surface.CompactSurface.answer_if_pair.Goals.{then-not-lies_below-via-then-not-lies_below, then-not-lies_below-via-else-not-lies_below+then-not-lies_below-2}
-use Rattle.compact_surfaces.specs.Kept.{first_faces}
-use Rattle.compact_surfaces.specs.Manifolds.{has_signs, mesh_of_manifold}
-use Rattle.compact_surfaces.proofs.Common.{subst, both_ways, FaceList, AreWalkPair, IsFoundOn}
+use Rattle.compact_surfaces.proofs.Common.{first_faces, has_signs, mesh_of_manifold, subst, both_ways, FaceList, AreWalkPair, IsFoundOn}
 
 pub returns-then-not-lies_below-clause-answer : goal.returns-then-not-lies_below-clause-answer
 returns-then-not-lies_below-clause-answer c =

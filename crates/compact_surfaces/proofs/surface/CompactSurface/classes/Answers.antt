@@ -1,6 +1,4 @@
-use Rattle.compact_surfaces.proofs.Common.{◌≡◌, subst, arith, length, take_all, err_from_is_err_and, FaceList, IsClassFault, AreClasses, NoWalk}
-use Rattle.compact_surfaces.specs.Kept.{first_faces}
-use Rattle.compact_surfaces.specs.Manifolds.{mesh_of_manifold}
+use Rattle.compact_surfaces.proofs.Common.{first_faces, mesh_of_manifold, ◌≡◌, subst, arith, length, take_all, err_from_is_err_and, FaceList, IsClassFault, AreClasses, NoWalk}
 use Rattle.compact_surfaces.proofs.ClassLemmas.{classes_on_mesh, fault_on_mesh, next_is_none}
 use Rattle.compact_surfaces.proofs.surface.CompactSurface.classes.Goals as goal
 

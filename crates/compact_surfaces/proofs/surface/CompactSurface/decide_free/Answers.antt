@@ -1,7 +1,5 @@
-use Rattle.compact_surfaces.proofs.Common.{FreelyHomotopic, IsClosedWalk, ◌≡◌, ◌↔◌, subst, sym, FaceList, IsOrientable}
+use Rattle.compact_surfaces.proofs.Common.{FreelyHomotopic, IsClosedWalk, first_faces, mesh_of_manifold, ◌≡◌, ◌↔◌, subst, sym, FaceList, IsOrientable}
 use Rattle.free_loops.specs.declared.deciding.FreeAnswer.TheVariants.{Freely}
-use Rattle.compact_surfaces.specs.Kept.{first_faces}
-use Rattle.compact_surfaces.specs.Manifolds.{mesh_of_manifold}
 use Rattle.compact_surfaces.proofs.ClassLemmas.{closed_stays, free_on_mesh}
 use Rattle.compact_surfaces.proofs.surface.CompactSurface.decide_free.Goals as goal
 

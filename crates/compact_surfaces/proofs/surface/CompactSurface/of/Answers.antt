@@ -1,6 +1,6 @@
 use Rattle.compact_surfaces.proofs.ClosedLemmas.{first_are, kept}
 use Rattle.compact_surfaces.proofs.surface.CompactSurface.of.Goals as goal
-use Rattle.compact_surfaces.specs.Manifolds.{has_signs, mesh_of_manifold}
+use Rattle.compact_surfaces.proofs.Common.{has_signs, mesh_of_manifold}
 
 pub invariant_of-result : goal.invariant_of-result
 invariant_of-result c =

@@ -1,7 +1,6 @@
-use Rattle.component_deciding.proofs.Common.{◌≡◌, ◌++◌, ◌∷◌, [], ℕ, List, length, sym, ap, ◌∙◌, subst, arith, map-append, IsPermutation-refl, range_with_len}
+use Rattle.component_deciding.proofs.Common.{Placed, ◌≡◌, ◌++◌, ◌∷◌, [], ℕ, List, length, sym, ap, ◌∙◌, subst, arith, map-append, IsPermutation-refl, range_with_len}
 use Rattle.connectivity.proofs.Forests.{range_more}
 use Rattle.std.specs.List.Sorted.{IsPermutation}
-use Rattle.component_deciding.specs.declared.order.Placed.{Placed}
 use Rattle.component_deciding.proofs.OrderLemmas.{pairs_of}
 use Rattle.component_deciding.proofs.pair_decider.PairDecider.as_listed.Goals as goal
 

@@ -1,5 +1,4 @@
-use Rattle.component_deciding.proofs.Common.{IsPermutation-map, IsPermutation-trans}
-use Rattle.component_deciding.specs.declared.order.Placed.{Placed}
+use Rattle.component_deciding.proofs.Common.{Placed, IsPermutation-map, IsPermutation-trans}
 use Rattle.component_deciding.proofs.pair_decider.PairDecider.order.Goals as goal
 
 pub returns : goal.returns

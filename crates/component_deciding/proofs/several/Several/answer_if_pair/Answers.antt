@@ -1,5 +1,4 @@
-use Rattle.component_deciding.proofs.Common.{◌≡◌, ◌<◌, ℕ, true, length, get_or, sym, ap, ◌∙◌, subst, arith, both_ways, IfOk-weaker, FaceList, is_used, AreWalkPair, IsFoundOn}
-use Rattle.component_deciding.specs.OwnVertices.{IsApart}
+use Rattle.component_deciding.proofs.Common.{IsApart, ◌≡◌, ◌<◌, ℕ, true, length, get_or, sym, ap, ◌∙◌, subst, arith, both_ways, IfOk-weaker, FaceList, is_used, AreWalkPair, IsFoundOn}
 use Rattle.component_deciding.proofs.OwnSurfaces.{found_on}
 use Rattle.component_deciding.proofs.several.Several.answer_if_pair.Goals as goal
 

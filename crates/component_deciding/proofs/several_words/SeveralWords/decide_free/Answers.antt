@@ -1,7 +1,5 @@
-use Rattle.component_deciding.proofs.Common.{FreelyHomotopic, IsClosedWalk, refl, ◌≡◌, ◌↔◌, ◌<◌, ℕ, List, length, get_or, set, sym, ap, ◌∙◌, subst, arith, both_ways, get_or_read, IfOk-weaker, None, Some, component_mesh}
+use Rattle.component_deciding.proofs.Common.{FreelyHomotopic, IsClosedWalk, IsOwnLabelled, SeveralView, labelled_at, unboxed, own_mesh, refl, ◌≡◌, ◌↔◌, ◌<◌, ℕ, List, length, get_or, set, sym, ap, ◌∙◌, subst, arith, both_ways, get_or_read, IfOk-weaker, None, Some, component_mesh}
 use Rattle.free_loops.specs.declared.deciding.FreeAnswer.TheVariants.{Freely, NotFreely}
-use Rattle.component_deciding.specs.ComponentWords.{IsOwnLabelled, SeveralView, labelled_at, unboxed}
-use Rattle.component_deciding.specs.OwnVertices.{own_mesh}
 use Rattle.component_deciding.proofs.FreeComponents.{StartsIn, one_place, own_closed_walk, place_within, sphere_free, start_below, starts_in, told_there}
 use Rattle.component_deciding.proofs.WordLemmas.{IsLabelledMore, labelled_more, own_labels}
 use Rattle.component_deciding.proofs.several_words.SeveralWords.decide_free.Goals as goal

@@ -1,5 +1,4 @@
-use Rattle.component_deciding.proofs.Common.{subst, DoDecide}
-use Rattle.component_deciding.specs.ComponentWords.{IsWordAmong, SeveralView}
+use Rattle.component_deciding.proofs.Common.{IsWordAmong, SeveralView, subst, DoDecide}
 use Rattle.component_deciding.proofs.WordLemmas.{among_decide}
 use Rattle.component_deciding.proofs.several_words.SeveralWords.sides.Goals as goal
 

@@ -1,5 +1,4 @@
-use Rattle.component_deciding.proofs.Common.{◌≡◌, ◌<◌, ℕ, length, get_or, set, get_or-set_same, sym, ◌∙◌, ap, subst, arith, both_ways, get_or_read, IfOk-weaker, None, Some, IsWordFound}
-use Rattle.component_deciding.specs.ComponentWords.{IsOwnLabelled, IsWordAmong, SeveralView, labelled_at, unboxed}
+use Rattle.component_deciding.proofs.Common.{IsOwnLabelled, IsWordAmong, SeveralView, labelled_at, unboxed, ◌≡◌, ◌<◌, ℕ, length, get_or, set, get_or-set_same, sym, ◌∙◌, ap, subst, arith, both_ways, get_or_read, IfOk-weaker, None, Some, IsWordFound}
 use Rattle.component_deciding.proofs.WordLemmas.{IsLabelledMore, labelled_more, sphere_found, word_found, words_stay}
 use Rattle.component_deciding.proofs.several_words.SeveralWords.word_if_walk.Goals.{After-drop-own-inside-2}
 use Rattle.component_deciding.proofs.several_words.SeveralWords.word_if_walk.Goals as goal

@@ -1,13 +1,12 @@
 -- A handle holds nothing that is of one thread alone.
-use Rattle.homotopy_c.proofs.Common.{the_row as Kept, Option, RawPtr, lone, Ptr, block_ptr, null_ptr, shape, fields, to, exits_of}
+use Rattle.homotopy_c.proofs.Common.{the_row as Kept, holds_at, Option, RawPtr, lone, Ptr, block_ptr, null_ptr, shape, fields, to, exits_of}
+use Rattle.homotopy_c.specs.contracts.handle.MeshHandle.{the_row, the_type}
 use Rattle.std.below.std_heap.proofs.GlobalAllocator.TheSendSync.{the_frees}
 use Rattle.std_alloc.proofs.SendSync.{quiet, lies}
 use base.Shift.{Keyless}
 use denote.Param.Send.{IsSend, owning_send, struct_send, sendable}
 use mir.Raw.{raw}
 use Rattle.homotopy_arrays.proofs.kept.KeptMesh.TheSendSync as kept_mesh
-use Rattle.homotopy_c.specs.Handles.{holds_at}
-use Rattle.homotopy_c.specs.contracts.handle.MeshHandle.{the_row, the_type}
 
 held : (p : Ptr) (kept : Option Kept.Denot) → Keyless (holds_at p kept)
 held null_ptr kept = λ _. tt

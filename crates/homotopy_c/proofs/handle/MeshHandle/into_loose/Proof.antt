@@ -1,14 +1,14 @@
 -- `into_loose` hands over what the handle held.
 use Rattle.homotopy_c.proofs.Common.{Goes-blank, Good, one, the_row as Kept, ◌≡◌, List, [], ◌∷◌, ◌++◌, refl, sym, subst, lit<, proved_at, leaves, Some, None, ghosts, and_tt, ftrue, SProp, ent, emp, id⊢, fact, fact_i, tables, yes, layout, RattleType, owns, Ptr, block_ptr, null_ptr, tests_null, plain, type_at, types_at, nothing, alive, Stays, stay_dropped, walk_of, Goes-dropped, Fn, Val, vptr, vcons, vnil, WpFn, Env, alloc_all, pass_all, free_all, look_at, get, get_in, sets, env, ‵, raw, ◌⊛◌, at_ret, ◌$◌, ◌∵◌, !, qed, by, move, keep, drop, split, fsplit, fjoin, suffices, use0, use1, rewrite, agg, sub, whole, stop, fld, of_opd, lit, bin, first, branches, skips, exec, no_more, and_then, returns, returns_within, enter}
 use Rattle.core.proofs.option.Made.{Some-of, none_of}
+use Rattle.homotopy_c.specs.contracts.handle.MeshHandle.into_loose.{ended, clauses}
+use Rattle.homotopy_c.specs.contracts.handle.MeshHandle.into_loose.Key.{name as #self}
 use types.Match.{live}
 use Rattle.std.proofs.alloc.Global.TheLaws as heap_laws
 use Rattle.std.specs.contracts.alloc.Global as heap
 use Rattle.homotopy_c.proofs.HandleValues.{handle_val, handle_told, handle_typed, ptr_typed, either_held}
 use Rattle.homotopy_c.proofs.LooseValues.{both, Loose, loose_good, loose_in}
 use Rattle.homotopy_c.specs.contracts.handle.MeshHandle as handle
-use Rattle.homotopy_c.specs.contracts.handle.MeshHandle.into_loose.{ended, clauses}
-use Rattle.homotopy_c.specs.contracts.handle.MeshHandle.into_loose.Key.{name as #self}
 use Rattle.homotopy_c.proofs.handle.MeshHandle.into_loose.Statement.{statement}
 use Rattle.homotopy_c.proofs.handle.MeshHandle.into_loose.Code as code
 

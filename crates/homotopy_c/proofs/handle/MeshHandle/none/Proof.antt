@@ -1,8 +1,8 @@
 -- `none` is null.
 use Rattle.homotopy_c.proofs.Common.{◌≡◌, [], ◌∷◌, refl, proved_at, leaves, None, ftrue, SProp, emp, fact, fact_i, tables, null_ptr, nothing, alive, Stays, walk_of, Fn, Val, Env, alloc_all, pass_all, free_all, look_at, sets, env, ‵, raw, ◌⊛◌, ◌$◌, ◌∵◌, !, qed, by, move, drop, split, fjoin, fpack, use0, agg, lit, no_more, and_then, returns, enter}
-use Rattle.homotopy_c.proofs.HandleValues.{handle_val, handle_own, handle_made, handle_typed}
 use Rattle.homotopy_c.specs.contracts.handle.MeshHandle.none.{ended, clauses}
 use Rattle.homotopy_c.specs.contracts.handle.MeshHandle.none.Key.{name as #self}
+use Rattle.homotopy_c.proofs.HandleValues.{handle_val, handle_own, handle_made, handle_typed}
 use Rattle.homotopy_c.proofs.handle.MeshHandle.none.Statement.{statement}
 use Rattle.homotopy_c.proofs.handle.MeshHandle.none.Code as code
 

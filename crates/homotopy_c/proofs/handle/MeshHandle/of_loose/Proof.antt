@@ -1,11 +1,11 @@
 -- `of_loose` holds what the pointer of the box owned.
 use Rattle.homotopy_c.proofs.Common.{Goes-blank, the_row as Kept, ◌≡◌, List, [], ◌∷◌, ◌++◌, refl, sym, subst, proved_at, leaves, Some, ghosts, Global, box_owns, ftrue, fsep, fex, SProp, ent, emp, id⊢, fact, fact_i, tables, yes, RattleType, owns, block_ptr, plain, types_at, nothing, alive, Stays, stay_dropped, walk_of, Fn, Val, vptr, WpFn, alloc_all, pass_all, free_all, look_at, get, get_in, sets, ‵, raw, ◌⊛◌, ◌$◌, ◌∵◌, !, qed, by, move, keep, drop, split, fsplit, fjoin, fpack, suffices, use0, agg, sub, whole, stop, fld, of_opd, no_more, and_then, returns, enter}
+use Rattle.homotopy_c.specs.contracts.handle.MeshHandle.of_loose.{ended, clauses}
+use Rattle.homotopy_c.specs.contracts.handle.MeshHandle.of_loose.Key.{name as #self}
 use Rattle.std.proofs.alloc.Global.TheLaws as heap_laws
 use Rattle.std.specs.contracts.alloc.Global as heap
 use Rattle.homotopy_c.proofs.HandleValues.{handle_val, handle_own, handle_made, handle_typed}
 use Rattle.homotopy_c.proofs.LooseValues.{both, Loose, loose_good, loose_out}
-use Rattle.homotopy_c.specs.contracts.handle.MeshHandle.of_loose.{ended, clauses}
-use Rattle.homotopy_c.specs.contracts.handle.MeshHandle.of_loose.Key.{name as #self}
 use Rattle.homotopy_c.proofs.handle.MeshHandle.of_loose.Statement.{statement}
 use Rattle.homotopy_c.proofs.handle.MeshHandle.of_loose.Code as code
 

@@ -1,14 +1,14 @@
 -- `into_box` makes the box again.
 use Rattle.homotopy_c.proofs.Common.{Goes-blank, fm, Good, ◌≡◌, List, [], ◌∷◌, ◌++◌, refl, sym, ap, subst, proved_at, leaves, box_out, box_in, ftrue, flft, SProp, ent, id⊢, fact, tables, no, param, layout, bounded, param_laws, RattleType, owns, block_ptr, types_at, plain, nothing, only, calls_at_last, triple_of, Stays, stay_dropped, walk_of, inst_fn, a_type, dcons, dnil, Val, vptr, WpFn, alloc_all, pass_all, free_all, look_at, get, get_in, sets, lands_last, env, ‵, raw, ◌⊛◌, some, later, at_ret, ◌$◌, ◌∵◌, !, qed, by, move, keep, drop, split, split3, join, fsplit, fjoin, pick, suffices, use1, await, rewrite, feq_i, sub, whole, stop, fld, of_opd, no_more, and_then, first, blocks, exec, returns, enter}
 use Rattle.core.proofs.alloc.Shapes.{after}
+use Rattle.homotopy_c.specs.contracts.loose.Loose.into_box.{ended, clauses}
+use Rattle.homotopy_c.specs.contracts.loose.Loose.into_box.Key.{name as #self}
 use Rattle.std_alloc.proofs.boxed.Box.from_raw.Met.{met}
 use contract.BorrowLft.{◌⊑◌}
 use denote.Triple.Clauses.{Lasts, lasts}
 use Rattle.std_alloc.proofs.BoxSteps.Form as box
 use Rattle.homotopy_c.proofs.LooseValues.{both, Loose, loose_good, loose_out}
 use Rattle.std_alloc.specs.contracts.boxed.Box.from_raw as callee
-use Rattle.homotopy_c.specs.contracts.loose.Loose.into_box.{ended, clauses}
-use Rattle.homotopy_c.specs.contracts.loose.Loose.into_box.Key.{name as #self}
 use Rattle.homotopy_c.proofs.loose.Loose.into_box.Statement.{statement}
 use Rattle.homotopy_c.proofs.loose.Loose.into_box.Code as code
 

@@ -1,13 +1,13 @@
 -- `of` takes the box apart.
 use Rattle.homotopy_c.proofs.Common.{Goes-blank, handle_tells, fm, ◌≡◌, List, [], ◌∷◌, ◌++◌, refl, sym, ap, ◌∙◌, subst, proved_at, leaves, box_out, box_in, box_owns, ftrue, fsep, flft, SProp, ent, emp, never, id⊢, fst∗, fact, fact_i, tables, RawPtr, no, param, layout, bounded, param_laws, RattleType, owns, Ptr, block_ptr, null_ptr, ptr_val, in_a_block, types_at, plain, nothing, only, heard, calls_at, triple_of, Stays, stay_dropped, walk_of, inst_fn, a_type, dcons, dnil, Val, vptr, vstruct, of_list, WpFn, alloc_all, pass_all, free_all, look_at, get, get_in, sets, lands_as, ‵, raw, ◌⊛◌, some, later, ◌$◌, ◌∵◌, !, qed, by, move, keep, drop, split, split3, join, fsplit, fjoin, fpick, pick, suffices, use0, use1, await, rewrite, feq_l, sem, agg, sub, whole, stop, fld, of_opd, no_more, and_then, returns, enter}
+use Rattle.homotopy_c.specs.contracts.loose.Loose.of.{ended, clauses}
+use Rattle.homotopy_c.specs.contracts.loose.Loose.of.Key.{name as #self}
 use Rattle.std_alloc.proofs.boxed.Box.into_raw_with_allocator.Met.{met}
 use denote.Struct.Tuple.{Tuple}
 use mir.Raw.{raw as bare}
 use Rattle.std_alloc.proofs.BoxSteps.Form as box
 use Rattle.homotopy_c.proofs.LooseValues.{both, loose_good, loose_in}
 use Rattle.std_alloc.specs.contracts.boxed.Box.into_raw_with_allocator as callee
-use Rattle.homotopy_c.specs.contracts.loose.Loose.of.{ended, clauses}
-use Rattle.homotopy_c.specs.contracts.loose.Loose.of.Key.{name as #self}
 use Rattle.homotopy_c.proofs.loose.Loose.of.Statement.{statement}
 use Rattle.homotopy_c.proofs.loose.Loose.of.Code as code
 

@@ -1,5 +1,4 @@
-use Rattle.labellings.proofs.Common.{◌≡◌, ◌<◌, ◌-◌, ◌^◌, ◌+◌, ◌∷◌, [], ◌++◌, length, arith, refl, ap, ◌∙◌, rules}
-use Rattle.labellings.specs.Labellings.{FaceLabels, LabellingView}
+use Rattle.labellings.proofs.Common.{FaceLabels, LabellingView, ◌≡◌, ◌<◌, ◌-◌, ◌^◌, ◌+◌, ◌∷◌, [], ◌++◌, length, arith, refl, ap, ◌∙◌, rules}
 use Rattle.labellings.proofs.StoredLabellingLemmas.{length-faces, stored_labelling-push, IsStoredLabelling-push}
 use Rattle.labellings.proofs.labelling.Labelling.push_face.Goals as goal
 

@@ -1,5 +1,4 @@
-use Rattle.move_checker.proofs.Common.{list_of, ◌≡◌, ◌+◌, ◌≤◌, List, ℕ, length, take, drop, ap, sym, ◌∙◌, arith}
-use Rattle.move_checker.specs.Tapes.{PeakedWalk}
+use Rattle.move_checker.proofs.Common.{list_of, PeakedWalk, ◌≡◌, ◌+◌, ◌≤◌, List, ℕ, length, take, drop, ap, sym, ◌∙◌, arith}
 use Rattle.move_checker.proofs.SideLemmas.{one_more}
 use Rattle.move_checker.proofs.tape.Tape.equals.Goals as goal
 

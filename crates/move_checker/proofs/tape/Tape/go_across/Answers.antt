@@ -1,7 +1,4 @@
-use Rattle.move_checker.proofs.Common.{list_under-is, Chains, list_of, ◌≡◌, Bool, true, ℕ, ◌+◌, ◌-◌, ◌≤◌, List, length, not, ap, sym, subst, ◌∙◌, arith, and_parts, leb-true, ◌&&◌, nat_lt, nat_le, Ok, Err, length-corners_from, face_at, corners_from, replaced, Across}
-use Rattle.move_checker.specs.Refusals.{step_of}
-use Rattle.move_checker.specs.Tapes.{PeakedWalk}
-use Rattle.move_checker.specs.declared.fault.MoveFault.TheVariants.{Place, NotOnFace, OverPeak}
+use Rattle.move_checker.proofs.Common.{list_under-is, Chains, list_of, step_of, PeakedWalk, Place, NotOnFace, OverPeak, ◌≡◌, Bool, true, ℕ, ◌+◌, ◌-◌, ◌≤◌, List, length, not, ap, sym, subst, ◌∙◌, arith, and_parts, leb-true, ◌&&◌, nat_lt, nat_le, Ok, Err, length-corners_from, face_at, corners_from, replaced, Across}
 use Rattle.move_checker.proofs.Laid.{live_from}
 use Rattle.move_checker.proofs.Replacements.{length-replaced}
 use Rattle.move_checker.proofs.Steps.{across_misplaced, across_off_face, across_allowed, within_peak, over_peak}

@@ -1,8 +1,5 @@
-use Rattle.move_checker.proofs.Common.{list_under-is, Chains, list_of, inserted, ◌≡◌, ℕ, ◌+◌, ◌<◌, ◌≤◌, ◌∷◌, [], List, length, get_or, ap, sym, subst, ◌∙◌, arith, Ok, Err, FaceList, is_edge, replaced, Insert}
+use Rattle.move_checker.proofs.Common.{list_under-is, Chains, list_of, inserted, step_of, PeakedWalk, Place, NoEdge, OverPeak, ◌≡◌, ℕ, ◌+◌, ◌<◌, ◌≤◌, ◌∷◌, [], List, length, get_or, ap, sym, subst, ◌∙◌, arith, Ok, Err, FaceList, is_edge, replaced, Insert}
 use Rattle.surf_model.specs.Edges.{IsTableOf}
-use Rattle.move_checker.specs.Refusals.{step_of}
-use Rattle.move_checker.specs.Tapes.{PeakedWalk}
-use Rattle.move_checker.specs.declared.fault.MoveFault.TheVariants.{Place, NoEdge, OverPeak}
 use Rattle.move_checker.proofs.Replacements.{pushed_spur, length-replaced}
 use Rattle.move_checker.proofs.Steps.{IsAllowed, insert_misplaced, insert_off_edge, insert_allowed, within_peak, over_peak}
 use Rattle.move_checker.proofs.tape.Tape.insert_spur.Goals as goal

@@ -1,7 +1,4 @@
-use Rattle.move_checker.proofs.Common.{list_under-is, Chains, list_of, cut, ◌≡◌, ℕ, ◌+◌, ◌≤◌, ◌∷◌, [], List, length, get_or, true, ap, sym, subst, ◌∙◌, arith, and_left, and_right, and_from, not-true, not-false, eqb-true, ◌==◌, Ok, Err, replaced, darts, Remove}
-use Rattle.move_checker.specs.Refusals.{step_of}
-use Rattle.move_checker.specs.Tapes.{PeakedWalk}
-use Rattle.move_checker.specs.declared.fault.MoveFault.TheVariants.{Place, NotSpur}
+use Rattle.move_checker.proofs.Common.{list_under-is, Chains, list_of, cut, step_of, PeakedWalk, Place, NotSpur, ◌≡◌, ℕ, ◌+◌, ◌≤◌, ◌∷◌, [], List, length, get_or, true, ap, sym, subst, ◌∙◌, arith, and_left, and_right, and_from, not-true, not-false, eqb-true, ◌==◌, Ok, Err, replaced, darts, Remove}
 use Rattle.move_checker.proofs.Replacements.{cut_spur, length-replaced}
 use Rattle.move_checker.proofs.Steps.{remove_misplaced, remove_off_spur, remove_allowed, within_peak}
 use Rattle.move_checker.proofs.tape.Tape.remove_spur.Goals as goal

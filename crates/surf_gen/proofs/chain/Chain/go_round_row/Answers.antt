@@ -1,5 +1,4 @@
-use Rattle.surf_gen.proofs.Common.{◌-◌, ap, length, arith, length_push}
-use Rattle.surf_gen.specs.Chains.{point}
+use Rattle.surf_gen.proofs.Common.{◌-◌, ap, length, arith, length_push, point}
 use Rattle.surf_gen.proofs.WalkLemmas.{passed_more}
 use Rattle.surf_gen.proofs.chain.Chain.go_round_row.Goals as goal
 

@@ -1,5 +1,4 @@
-use Rattle.surf_gen.proofs.Common.{◌≡◌, ◌+◌, ◌-◌, ◌++◌, length, map, range_with_len}
-use Rattle.surf_gen.specs.Chains.{point, number}
+use Rattle.surf_gen.proofs.Common.{◌≡◌, ◌+◌, ◌-◌, ◌++◌, length, map, range_with_len, point, number}
 use Rattle.surf_gen.proofs.chain.Chain.go_round_row.Given as goal
 
 abbrev pub invariant-loop-column : goal.invariant-loop-column

@@ -1,5 +1,4 @@
-use Rattle.surf_gen.proofs.Common.{◌∙◌, range_with_len, flat_map}
-use Rattle.surf_gen.specs.Parts.{points_of_torus}
+use Rattle.surf_gen.proofs.Common.{◌∙◌, range_with_len, flat_map, points_of_torus}
 use Rattle.surf_gen.proofs.PartLemmas.{part_more, rows_more}
 use Rattle.surf_gen.proofs.chain.Chain.put_part.Goals as goal
 

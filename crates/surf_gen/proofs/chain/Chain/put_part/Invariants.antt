@@ -1,6 +1,5 @@
-use Rattle.surf_gen.proofs.Common.{◌≡◌, ◌++◌, range_with_len}
+use Rattle.surf_gen.proofs.Common.{◌≡◌, ◌++◌, range_with_len, part_text, points_of_torus}
 use Rattle.std.specs.Prelude.{flat_map}
-use Rattle.surf_gen.specs.Parts.{part_text, points_of_torus}
 use Rattle.surf_gen.proofs.chain.Chain.put_part.Given as goal
 
 abbrev pub invariant-loop-torus : goal.invariant-loop-torus

@@ -1,6 +1,5 @@
-use Rattle.surf_gen.proofs.Common.{[], ◌∷◌, ◌∙◌, range_with_len}
+use Rattle.surf_gen.proofs.Common.{[], ◌∷◌, ◌∙◌, range_with_len, point}
 use Rattle.std.specs.Prelude.{map}
-use Rattle.surf_gen.specs.Chains.{point}
 use Rattle.surf_gen.proofs.PartLemmas.{part_more, columns_more}
 use Rattle.surf_gen.proofs.chain.Chain.put_row.Goals as goal
 

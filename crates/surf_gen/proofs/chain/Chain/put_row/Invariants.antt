@@ -1,6 +1,4 @@
-use Rattle.surf_gen.proofs.Common.{◌≡◌, ◌++◌, map, range_with_len}
-use Rattle.surf_gen.specs.Chains.{point}
-use Rattle.surf_gen.specs.Parts.{part_text}
+use Rattle.surf_gen.proofs.Common.{◌≡◌, ◌++◌, map, range_with_len, point, part_text}
 use Rattle.surf_gen.proofs.chain.Chain.put_row.Given as goal
 
 abbrev pub invariant-loop-column : goal.invariant-loop-column
