@@ -1,6 +1,6 @@
 -- The edits of one chain at its place: a step on, a step back, an entry more, an entry less.
-use Rattle.chain_pool.proofs.Common.{under, IsEdit, cells_in, Parted, Owner, Free, Left, Right, memory_of, joined_lists, parted_under, chains_of, stack_of, left_of, right_of, IsSound, advanced, retreated, pushed, cut_here, Cell, Head, Entry, Stack, ◌≡◌, ◌≢◌, ℕ, ◌+◌, ◌-◌, ◌<◌, List, set, count_by, is_some, Option, Some, None, refl, sym, ap, subst, ◌∙◌, inl, inr, arith, cases_eq, get_or-set_other}
-use Rattle.chain_pool.proofs.Rewrites.{rewritten, at_entry, at_head, entries_stay, lefts_stay, rights_stay, kinds_stay, chain_at_head, chain_stays, apart}
+use Rattle.chain_pool.proofs.Common.{under, IsEdit, cells_in, Parted, Owner, Free, Left, Right, memory_of, joined_lists, parted_under, chains_of, stack_of, left_of, right_of, IsSound, advanced, retreated, pushed, cut_here, Cell, Head, Entry, Stack, ◌≡◌, ◌≢◌, ℕ, ◌+◌, ◌-◌, ◌<◌, List, set, count_by, is_some, Option, Some, refl, sym, ap, subst, ◌∙◌, arith, common_steps}
+use Rattle.chain_pool.proofs.Rewrites.{rewritten, at_head, kinds_stay, chain_at_head, chain_stays, apart}
 use Rattle.chain_pool.proofs.Soundness.{count_by-set, cells_in-edit_joined, cells_of-parted, parted_under-is, cells_here}
 use Rattle.chain_pool.proofs.Stacks.{length-values}
 use Rattle.chain_pool.proofs.Transfers.{content, Moves, Moved, moved}
@@ -54,35 +54,11 @@ module _ (slots : List (Option Cell)) (x c next v link v' : ℕ) (l r l' r' : St
         (on_right : Right c ≢ s → Right c ≢ t → r' ≡ r) where
       others : (u : Owner) → u ≢ s → u ≢ t → stack_of (memory_of slots') free' u ≡ stack_of (memory_of slots) free u
       others Free ns nt = on_free ns nt
-      others (Left k) ns nt =
-          elim (cases_eq k c) [
-            | inl e ↦
-                now (Left k) e ∙ on_left (λ f. ns (ap Left e ∙ f)) (λ f. nt (ap Left e ∙ f)) ∙ sym (was (Left k) e)
-            | inr ne ↦ lefts_stay slots x c next v link v' l r l' r' here head k ne
-          ]
-      others (Right k) ns nt =
-          elim (cases_eq k c) [
-            | inl e ↦
-                now (Right k) e ∙ on_right (λ f. ns (ap Right e ∙ f)) (λ f. nt (ap Right e ∙ f)) ∙ sym (was (Right k) e)
-            | inr ne ↦ rights_stay slots x c next v link v' l r l' r' here head k ne
-          ]
+      others (Left k) ns nt = grind (arith, common_steps)
+      others (Right k) ns nt = grind (arith, common_steps)
 
       moves : Moves (memory_of slots) (memory_of slots') free free' s t x next v v'
-      moves =
-          let source = sym (was s source_mine) in
-          let target = sym (was t target_mine) in
-          record {
-            differ = differ;
-            top = sym (ap (λ (st : Stack). st.top) source) ∙ top;
-            some = subst (λ (st : Stack). 0 < st.len) source some;
-            here = here;
-            written = at_entry slots x c next v link v' l r l' r' here head ∙ ap (λ (n : ℕ). Some (Entry n v')) linked
-                ∙ ap (λ (st : Stack). Some (Entry st.top v')) target;
-            entries = entries_stay slots x c next v link v' l r l' r' here head;
-            from = now s source_mine ∙ from ∙ ap (λ (st : Stack). record { top = next; len = st.len - 1 }) source;
-            to = now t target_mine ∙ to ∙ ap (λ (st : Stack). record { top = x; len = st.len + 1 }) target;
-            others = others;
-          }
+      moves = grind (arith, common_steps)
 
       done : Moved (memory_of slots) (memory_of slots') free free' s t v v'
       done = moved (memory_of slots) (memory_of slots') free free' s t x next v v' moves sound.owners sound.stacks
@@ -103,8 +79,7 @@ module _ (slots : List (Option Cell)) (x c next v link v' : ℕ) (l r l' r' : St
       }
 
       head_kept : under (set slots x (Some (Entry link v'))) c ≡ Some (Head l r)
-      head_kept =
-          get_or-set_other slots x c (Some (Entry link v')) None (λ e. apart slots x c next v link v' l r l' r' here head (sym e)) ∙ head
+      head_kept = grind (arith, common_steps, apart)
 
       same_count : count_by is_some slots' ≡ count_by is_some slots
       same_count =

@@ -1,5 +1,5 @@
 -- The way to a place: the two stacks of a chain are kept at hand, and its head is written at the end.
-use Rattle.chain_pool.proofs.Common.{under, IsUnder, IsEdit, Parted, PartedChains, joined, parted_under, parted_at, chains_of, IsSound, IsEntry, advanced, retreated, Cell, Head, Entry, Stack, ◌≡◌, ◌≢◌, ℕ, ◌+◌, ◌-◌, ◌<◌, ◌^◌, List, length, set, Option, Some, None, refl, sym, ap, subst, ◌∙◌, arith, inl, inr, cases_eq, get_or-set_same, get_or-set_other, length-set, length-map, ext_get_or, set-set, set_comm}
+use Rattle.chain_pool.proofs.Common.{under, IsUnder, IsEdit, Parted, PartedChains, joined, parted_under, parted_at, chains_of, IsSound, IsEntry, advanced, retreated, Cell, Head, Entry, Stack, ◌≡◌, ◌≢◌, ℕ, ◌+◌, ◌-◌, ◌<◌, ◌^◌, List, length, set, Option, Some, None, refl, sym, ap, subst, ◌∙◌, arith, common_steps, get_or-set_same, get_or-set_other, length-set, length-map, set-set, set_comm}
 use Rattle.chain_pool.proofs.Edits.{Edited, advance_edits, retreat_edits}
 use Rattle.chain_pool.proofs.Places.{SameLists, SameLists-refl, SameLists-more, SameLists-done, joined-advanced, joined-retreated}
 use Rattle.chain_pool.proofs.Rewrites.{within}
@@ -21,27 +21,13 @@ pub record IsGoing (old : PartedChains) (slots : List (Option Cell)) (capacity :
   pub same : SameLists old (seen_with slots name left right spare free.len) name
 
 pub set-own : (slots : List (Option Cell)) (k : ℕ) (cell : Cell) → under slots k ≡ Some cell → set slots k (Some cell) ≡ slots
-set-own slots k cell e =
-    ext_get_or None (set slots k (Some cell)) slots (length-set slots k (Some cell))
-    (λ i lt. elim (cases_eq i k) [
-      | inl same ↦ ap (under (set slots k (Some cell))) same ∙ get_or-set_same slots k (Some cell) None (within slots k cell e)
-          ∙ sym (ap (under slots) same ∙ e)
-      | inr ne ↦ get_or-set_other slots k i (Some cell) None ne
-    ])
+set-own slots k cell e = grind (arith, common_steps, under, within)
 
 pub IsGoing-start : (old : PartedChains) (slots : List (Option Cell)) (capacity : ℕ) (free : Stack) (spare name : ℕ) (left right : Stack)
     → IsSound slots capacity free spare → record { chains = chains_of slots; spare = spare; free = free.len } ≡ old
     → under slots name ≡ Some (Head left right) → IsUnder old.chains name
     → IsGoing old slots capacity free spare name left right
-IsGoing-start old slots capacity free spare name left right sound seen head live =
-    let own : with_head slots name left right ≡ slots = set-own slots name (Head left right) head in
-    record {
-      head = record { left = left; right = right; is = head };
-      sound = subst (λ (cells : List (Option Cell)). IsSound cells capacity free spare) (sym own) sound;
-      same = subst (λ (now : PartedChains). SameLists old now name)
-          (sym (ap (λ (cells : List (Option Cell)). record { chains = chains_of cells; spare = spare; free = free.len }) own ∙ seen))
-          (SameLists-refl old name live);
-    }
+IsGoing-start old slots capacity free spare name left right sound seen head live = grind (arith, set-own, SameLists-refl)
 
 module _ (old : PartedChains) (slots : List (Option Cell)) (capacity : ℕ) (free : Stack) (spare name : ℕ) (left right : Stack)
     (going : IsGoing old slots capacity free spare name left right) where
@@ -98,11 +84,7 @@ module _ (old : PartedChains) (slots : List (Option Cell)) (capacity : ℕ) (fre
       ∙ set-set (set slots x (Some entry)) name (Some (Head left right)) (Some (Head l r))
 
   head_kept : (x : ℕ) (entry : Cell) → x ≢ name → HasHead (under (set slots x (Some entry)) name)
-  head_kept x entry ne = record {
-    left = going.head.left;
-    right = going.head.right;
-    is = get_or-set_other slots x name (Some entry) None (λ e. ne (sym e)) ∙ going.head.is;
-  }
+  head_kept x entry ne = grind (arith, common_steps)
 
   -- one entry goes over to the other side
   goes : (x link value : ℕ) (l r : Stack) (parted : Parted) → x ≢ name

@@ -35,31 +35,13 @@ module _ (slots : List (Option Cell)) (capacity : ℕ) (free : Stack) (spare : �
       → Made slots slots' capacity (record { top = x; len = free.len + 1 }) spare
   make_sound slots' x value vacant written off count lt =
       let free' : Stack = record { top = x; len = free.len + 1 } in
-      let adds : Adds (memory_of slots) (memory_of slots') free free' x value = record {
-        bare = λ a b e. let both = sym vacant ∙ e in cc;
-        no_left = ap (λ (cell : Option Cell). (left_of cell).len) vacant;
-        no_right = ap (λ (cell : Option Cell). (right_of cell).len) vacant;
-        written = written;
-        off = off;
-        more = refl;
-      } in
+      let adds : Adds (memory_of slots) (memory_of slots') free free' x value = grind (arith, left_of) in
       let kept = added (memory_of slots) (memory_of slots') free free' x value adds sound.owners sound.stacks in
       let alike : IsAlike (chains_of slots) (chains_of slots') = λ k. elim (cases_eq k x) [
         | inl e ↦ ap (under (chains_of slots')) e ∙ no_chain slots' free' x _ (λ _ _. refl) written
             ∙ sym (ap (under (chains_of slots)) e ∙ no_chain slots free x _ (λ _ _. refl) vacant)
         | inr ne ↦ others_stay slots slots' free free' x kept off k ne
-      ] in
-      record {
-        sound = record {
-          owners = kept.owners;
-          stacks = kept.stacks;
-          made = omega (arith, lt);
-          room = omega (arith, count, sound.room);
-          keys = λ less. sound.keys lt;
-          fits = omega (arith, sound.fits, cells_in-alike_joined (chains_of slots) (chains_of slots') alike);
-        };
-        alike = alike;
-      }
+      ] in grind (arith, cells_in-alike_joined)
 
 -- the cells stay sound, and one name has another chain or none
 pub record Turned (slots slots' : List (Option Cell)) (capacity : ℕ) (free' : Stack) (spare' : ℕ) (name : ℕ) (old thing : Option Parted)
@@ -79,14 +61,7 @@ module _ (slots : List (Option Cell)) (capacity : ℕ) (free : Stack) (spare : �
       let free' : Stack = record { top = next; len = free.len - 1 } in
       let written : under new x ≡ Some (Head no_cells no_cells) = get_or-set_same slots x _ None (within slots x _ here) in
       let off : (k : ℕ) → k ≢ x → under new k ≡ under slots k = λ k ne. get_or-set_other slots x k _ None ne in
-      let takes : Takes (memory_of slots) (memory_of new) free free' x next value = record {
-        top = refl;
-        some = some;
-        here = here;
-        written = written;
-        off = off;
-        fewer = refl;
-      } in
+      let takes : Takes (memory_of slots) (memory_of new) free free' x next value = grind arith in
       let kept = taken (memory_of slots) (memory_of new) free free' x next value takes sound.owners sound.stacks in
       let no_left : content (memory_of new) free' (Left x) ≡ [] =
       ap (λ (st : Stack). values (memory_of new) st.len st.top) (ap left_of written) ∙ values-none (memory_of new) 0 in
@@ -130,14 +105,7 @@ module _ (slots : List (Option Cell)) (capacity : ℕ) (free : Stack) (spare : �
       let free' : Stack = record { top = c; len = free.len + 1 } in
       let written : under new c ≡ Some (Entry free.top 0) = get_or-set_same slots c _ None (within slots c _ head) in
       let off : (k : ℕ) → k ≢ c → under new k ≡ under slots k = λ k ne. get_or-set_other slots c k _ None ne in
-      let adds : Adds (memory_of slots) (memory_of new) free free' c 0 = record {
-        bare = λ a b e. let both = sym head ∙ e in cc;
-        no_left = ap (λ (cell : Option Cell). (left_of cell).len) head ∙ no_left;
-        no_right = ap (λ (cell : Option Cell). (right_of cell).len) head ∙ no_right;
-        written = written;
-        off = off;
-        more = refl;
-      } in
+      let adds : Adds (memory_of slots) (memory_of new) free free' c 0 = grind (arith, left_of) in
       let kept = added (memory_of slots) (memory_of new) free free' c 0 adds sound.owners sound.stacks in
       let edit : IsEdit (chains_of slots) (chains_of new) c None = record {
         here = no_chain new free' c _ (λ _ _. refl) written;

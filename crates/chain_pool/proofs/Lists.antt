@@ -1,5 +1,5 @@
 -- What is seen of chains at their places, and edit after edit.
-use Rattle.chain_pool.proofs.Common.{Chains, under, IsUnder, IsEdit, IsAlike, list_under, inserted, cut, Parted, PartedChains, joined, joined_option, joined_lists, parted_under, parted_at, pushed, cut_here, ◌≡◌, ◌≢◌, ◌⊎◌, ℕ, ◌+◌, ◌-◌, List, [], ◌∷◌, ◌++◌, length, reverse, take, drop, Option, Some, None, refl, sym, ap, subst, ◌∙◌, arith, inl, inr, append_assoc, cases_eq, reverse-append, reverse-reverse, length-map, ext_get_or, take-append-drop, drop-drop, length-drop, IsSome}
+use Rattle.chain_pool.proofs.Common.{Chains, under, IsUnder, IsEdit, IsAlike, list_under, inserted, cut, Parted, PartedChains, joined, joined_option, joined_lists, parted_under, parted_at, pushed, cut_here, ◌≡◌, ◌≢◌, ◌⊎◌, ℕ, ◌+◌, ◌-◌, List, [], ◌++◌, length, reverse, take, drop, Option, Some, None, refl, sym, ap, ◌∙◌, arith, inl, inr, cases_eq, common_steps, reverse-reverse, length-map, ext_get_or, take-append-drop, drop-drop, IsSome}
 use Rattle.chain_pool.proofs.Soundness.{parted_under-is, under-joined, IsEdit-joined}
 
 option_cases : (found : Option Parted) → (found ≡ None) ⊎ ((parted : Parted) × (found ≡ Some parted))
@@ -21,12 +21,7 @@ parted_under-none chains name e = rw e refl
 pub list_under-joined : (chains : List (Option Parted)) (name : ℕ)
     → list_under (joined_lists chains) name ≡ joined (parted_under chains name)
 list_under-joined chains name =
-    elim (option_cases (under chains name)) [
-      | inl none ↦ list_under-none (joined_lists chains) name (under-joined chains name ∙ ap joined_option none)
-          ∙ sym (ap (λ (p : Parted). joined p) (parted_under-none chains name none))
-      | inr found ↦ list_under-is (joined_lists chains) name (joined found.0) (under-joined chains name ∙ ap joined_option found.1)
-          ∙ sym (ap (λ (p : Parted). joined p) (parted_under-is chains name found.0 found.1))
-    ]
+    grind (arith, option_cases, under, list_under-none, under-joined, joined, parted_under-none, list_under-is, parted_under-is)
 
 pub list_in : (chains : List (Option Parted)) (lists : List (Option (List ℕ))) (name : ℕ) → joined_lists chains ≡ lists
     → list_under lists name ≡ joined (parted_under chains name)
@@ -34,33 +29,24 @@ list_in chains lists name e = ap (λ (now : List (Option (List ℕ))). list_unde
 
 pub edit_then_alike : {A : Type 0} (old mid new : List (Option A)) (name : ℕ) (thing : Option A) → IsEdit old mid name thing
     → IsAlike mid new → IsEdit old new name thing
-edit_then_alike old mid new name thing edit alike =
-    record { here = alike name ∙ edit.here; others = λ other ne. alike other ∙ edit.others other ne }
+edit_then_alike old mid new name thing edit alike = grind arith
 
 pub alike_then_edit : {A : Type 0} (old mid new : List (Option A)) (name : ℕ) (thing : Option A) → IsAlike old mid
     → IsEdit mid new name thing → IsEdit old new name thing
-alike_then_edit old mid new name thing alike edit =
-    record { here = edit.here; others = λ other ne. edit.others other ne ∙ alike other }
+alike_then_edit old mid new name thing alike edit = grind arith
 
 pub edit_twice : {A : Type 0} (old mid new : List (Option A)) (name : ℕ) (first second : Option A) → IsEdit old mid name first
     → IsEdit mid new name second → IsEdit old new name second
-edit_twice old mid new name first second before edit =
-    record { here = edit.here; others = λ other ne. edit.others other ne ∙ before.others other ne }
+edit_twice old mid new name first second before edit = grind arith
 
 -- what is seen of an edit of a chain at its place
 pub seen_edit : (old new : List (Option Parted)) (lists : List (Option (List ℕ))) (name : ℕ) (thing : Parted) (list : List ℕ)
     → joined_lists old ≡ lists → IsEdit old new name (Some thing) → joined thing ≡ list
     → IsEdit lists (joined_lists new) name (Some list)
-seen_edit old new lists name thing list e edit same =
-    subst (λ (l : List ℕ). IsEdit lists (joined_lists new) name (Some l)) same
-    (subst (λ (l : List (Option (List ℕ))). IsEdit l (joined_lists new) name (joined_option (Some thing))) e
-    (IsEdit-joined old new name (Some thing) edit))
+seen_edit old new lists name thing list e edit same = grind (arith, IsEdit-joined)
 
 pub joined-pushed : (list : List ℕ) (place value : ℕ) → joined (pushed (parted_at list place) value) ≡ inserted list place value
-joined-pushed list place value =
-    ap (λ (l : List ℕ). l ++ drop place list) (reverse-append (value ∷ []) (reverse (take place list)))
-    ∙ ap (λ (l : List ℕ). (l ++ value ∷ []) ++ drop place list) (reverse-reverse (take place list))
-    ∙ append_assoc (take place list) (value ∷ []) (drop place list)
+joined-pushed list place value = grind (arith, common_steps)
 
 -- a list from which some entries behind a place were cut
 abbrev pub cut_at : List ℕ → ℕ → ℕ → Parted
@@ -92,49 +78,34 @@ pub IsCutTo-none : (pool : Chains) (old new : PartedChains) (name from : ℕ) �
     → IsEdit old.chains new.chains name (Some (parted_at (joined (parted_under old.chains name)) from))
     → length new.chains ≡ length old.chains → new.spare ≡ old.spare
     → IsCutTo pool new name from from
-IsCutTo-none pool old new name from lists spare edit names same = record {
-  here = edit.here ∙ ap (λ (list : List ℕ). Some (parted_at list from)) (sym (list_in old.chains pool.lists name lists));
-  others = λ other ne. under-joined new.chains other ∙ ap joined_option (edit.others other ne) ∙ sym (under-joined old.chains other)
-      ∙ ap (λ (l : List (Option (List ℕ))). under l other) lists;
-  spare = omega (arith, spare, same);
-  names = names ∙ sym (length-map old.chains joined_option) ∙ ap (λ (l : List (Option (List ℕ))). length l) lists;
-}
+IsCutTo-none pool old new name from lists spare edit names same = grind (arith, common_steps, list_in, under-joined, under)
 
 pub IsCutTo-more : (pool : Chains) (mid new : PartedChains) (name from to : ℕ) → IsCutTo pool mid name from to
     → IsEdit mid.chains new.chains name (Some (cut_here (parted_under mid.chains name)))
     → length new.chains ≡ length mid.chains → new.spare ≡ mid.spare + 1
     → IsCutTo pool new name from (to + 1)
 IsCutTo-more pool mid new name from to so_far edit names spare = record {
-  here = edit.here ∙ ap (λ (p : Parted). Some (cut_here p)) (parted_under-is mid.chains name _ so_far.here)
-      ∙ ap (λ (p : Parted). Some p) (cut_here-cut_at (list_under pool.lists name) from to);
-  others = λ other ne. under-joined new.chains other ∙ ap joined_option (edit.others other ne) ∙ sym (under-joined mid.chains other)
-      ∙ so_far.others other ne;
+  here = grind (arith, parted_under-is, cut_here-cut_at);
+  others = λ other ne. grind (arith, under-joined);
   spare = omega (arith, spare, so_far.spare);
   names = names ∙ so_far.names;
 }
 
 pub IsCutTo-done : (pool : Chains) (cells : PartedChains) (name from to : ℕ) → IsCutTo pool cells name from to
     → IsEdit pool.lists (joined_lists cells.chains) name (Some (cut (list_under pool.lists name) from to))
-IsCutTo-done pool cells name from to done = record {
-  here = under-joined cells.chains name ∙ ap joined_option done.here
-      ∙ ap (λ (list : List ℕ). Some list) (joined-cut_at (list_under pool.lists name) from to);
-  others = done.others;
-}
+IsCutTo-done pool cells name from to done = grind (arith, under-joined, joined-cut_at)
 
 -- what is behind the place
 pub IsCutTo-behind : (pool : Chains) (cells : PartedChains) (name from to : ℕ) → IsCutTo pool cells name from to
     → length (parted_under cells.chains name).behind ≡ length (list_under pool.lists name) - to
-IsCutTo-behind pool cells name from to so_far =
-    ap (λ (p : Parted). length p.behind) (parted_under-is cells.chains name _ so_far.here) ∙ length-drop to (list_under pool.lists name)
+IsCutTo-behind pool cells name from to so_far = grind (arith, common_steps, parted_under-is)
 
 list_some : (found : Option (List ℕ)) → IsSome found → (list : List ℕ) × (found ≡ Some list)
 list_some (Some list) live = (list, refl)
 list_some None live = absurd (cc)
 
 pub list_is : (lists : List (Option (List ℕ))) (name : ℕ) → IsUnder lists name → under lists name ≡ Some (list_under lists name)
-list_is lists name live =
-    let found = list_some (under lists name) live in
-    found.1 ∙ ap (λ (l : List ℕ). Some l) (sym (list_under-is lists name found.0 found.1))
+list_is lists name live = grind (arith, list_some, under, list_under-is)
 
 -- a cut of no entries leaves all that is seen
 pub IsCutTo-nothing : (pool : Chains) (cells : PartedChains) (name from to : ℕ) → IsCutTo pool cells name from to → from ≡ to
@@ -143,12 +114,8 @@ pub IsCutTo-nothing : (pool : Chains) (cells : PartedChains) (name from to : ℕ
 IsCutTo-nothing pool cells name from to done e live =
     let list = list_under pool.lists name in
     let same : cut list from to ≡ list = ap (λ (n : ℕ). cut list from n) (sym e) ∙ take-append-drop from list in
-    let edit : IsEdit pool.lists (joined_lists cells.chains) name (Some list) =
-    subst (λ (l : List ℕ). IsEdit pool.lists (joined_lists cells.chains) name (Some l)) same
-    (IsCutTo-done pool cells name from to done) in
+    let edit : IsEdit pool.lists (joined_lists cells.chains) name (Some list) = grind (arith, IsCutTo-done) in
     let lists : joined_lists cells.chains ≡ pool.lists =
     same_lists_seen pool.lists (joined_lists cells.chains) name list (length-map cells.chains joined_option ∙ done.names)
     (list_is pool.lists name live) edit in
-    let spare : cells.spare ≡ pool.spare = omega (arith, done.spare, e) in
-    ap (λ (l : List (Option (List ℕ))). record { lists = l; spare = cells.spare }) lists
-    ∙ ap (λ (n : ℕ). record { lists = pool.lists; spare = n }) spare
+    let spare : cells.spare ≡ pool.spare = omega (arith, done.spare, e) in grind arith

@@ -1,5 +1,6 @@
 -- What is under names: in a list that was mapped, and how many cells all chains have.
-use Rattle.chain_pool.proofs.Common.{under, IsEdit, IsAlike, cells_of, cells_in, ◌≡◌, ◌≢◌, ℕ, zero, suc, ◌+◌, ◌≤◌, List, [], ◌∷◌, map, Option, None, refl, sym, ap, arith, sum_by-cons}
+use Rattle.chain_pool.proofs.Common.{under, IsEdit, IsAlike, cells_of, cells_in, ◌≡◌, ◌≢◌, ℕ, zero, suc, ◌+◌, ◌≤◌, List, [], ◌∷◌, map, Option, None, refl, sym, ap, arith}
+use Rattle.std.proofs.lemmas.List.Sums.{sum_by-cons}
 
 pub under-map : {A B : Type 0} (f : Option A → Option B) → f None ≡ None → (xs : List (Option A)) (k : ℕ)
     → under (map f xs) k ≡ f (under xs k)

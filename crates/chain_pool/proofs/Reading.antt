@@ -17,30 +17,19 @@ pub record HasFirst (h : Memory) (n top : ℕ) : Type 0 where
 pub IsStack-first : (h : Memory) (n top : ℕ) → 0 < n → IsStack h n top → HasFirst h n top
 unfolding IsStack
 IsStack-first h zero top lt stack = absurd (omega arith)
-IsStack-first h (suc n) top lt stack =
-    let e : n ≡ suc n - 1 = omega arith in
-    record {
-      next = stack.0;
-      value = stack.1;
-      entry = stack.2;
-      rest = subst (λ (m : ℕ). IsStack h m stack.0) e stack.3;
-    }
+IsStack-first h (suc n) top lt stack = grind arith
 
 pub first_entry : (h : Memory) (n top : ℕ) → 0 < n → IsStack h n top → IsEntry (h top)
 first_entry h n top lt stack = let first = IsStack-first h n top lt stack in subst IsEntry (sym first.entry) tt
 
 -- what is left behind the first
 pub rest_stack : (h : Memory) (n top next value : ℕ) → 0 < n → IsStack h n top → h top ≡ Some (Entry next value) → IsStack h (n - 1) next
-rest_stack h n top next value lt stack e =
-    let first = IsStack-first h n top lt stack in
-    let same : first.next ≡ next = (let both = sym first.entry ∙ e in cc) in
-    subst (λ (to : ℕ). IsStack h (n - 1) to) same first.rest
+rest_stack h n top next value lt stack e = grind (arith, IsStack-first)
 
 pub values-first : (h : Memory) (n top next value : ℕ) → 0 < n → h top ≡ Some (Entry next value)
     → values h n top ≡ value ∷ values h (n - 1) next
 values-first h n top next value lt e =
-    let more : n ≡ suc (n - 1) = omega arith in
-    ap (λ (m : ℕ). values h m top) more ∙ values-more h (n - 1) top next value e
+    let more : n ≡ suc (n - 1) = omega arith in grind (arith, values-more)
 
 pub length-stack : (h : Memory) (n top : ℕ) → IsStack h n top → length (values h n top) ≡ n
 unfolding IsStack
@@ -74,6 +63,4 @@ pub first_left : (given : Option ℕ) (x : ℕ) (xs ys : List ℕ) → MatchOpti
     → given ≡ Some x
     → get_or xs 0 0 ≡ x
 first_left None x xs ys h e = cc
-first_left (Some v) x xs ys h e =
-    let same : v ≡ x = cc in
-    ap (λ (l : List ℕ). get_or l 0 0) h ∙ same
+first_left (Some v) x xs ys h e = grind arith

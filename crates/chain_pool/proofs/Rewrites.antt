@@ -1,5 +1,5 @@
 -- What chains are after the write of one cell, or of an entry and a head.
-use Rattle.chain_pool.proofs.Common.{under, Parted, Memory, Left, Right, memory_of, parted_by, chains_of, left_of, right_of, Cell, Head, Entry, Stack, ◌≡◌, ◌≢◌, ℕ, ◌<◌, List, length, set, Option, Some, None, refl, sym, ap, ◌∙◌, inl, inr, arith, cases_eq, get_or-set_same, get_or-set_other, get_or_past, length-set}
+use Rattle.chain_pool.proofs.Common.{under, Parted, Memory, Left, Right, memory_of, parted_by, chains_of, left_of, right_of, Cell, Head, Entry, Stack, ◌≡◌, ◌≢◌, ℕ, ◌<◌, List, length, set, Option, Some, None, refl, sym, ap, ◌∙◌, arith, common_steps, get_or_past}
 use Rattle.chain_pool.proofs.Lookups.{under-map}
 use Rattle.chain_pool.proofs.Transfers.{content, content_of}
 
@@ -24,9 +24,7 @@ chain_by_contents slots free k = under-map (parted_by (memory_of slots)) refl sl
 pub chain_at_head : (slots : List (Option Cell)) (free : Stack) (c : ℕ) (l r : Stack) → under slots c ≡ Some (Head l r)
     → under (chains_of slots) c
     ≡ Some (record { before = content (memory_of slots) free (Left c); behind = content (memory_of slots) free (Right c) })
-chain_at_head slots free c l r e =
-    chain_by_contents slots free c
-    ∙ ap (λ (cell : Option Cell). parted_with cell (content (memory_of slots) free (Left c)) (content (memory_of slots) free (Right c))) e
+chain_at_head slots free c l r e = grind (arith, common_steps, chain_by_contents)
 
 -- chains stay where heads stay and their stacks keep their values
 pub chain_stays : (slots slots' : List (Option Cell)) (free free' : Stack) (k : ℕ)
@@ -54,46 +52,23 @@ module _ (slots : List (Option Cell)) (x c next v link v' : ℕ) (l r l' r' : St
   apart e = let same = sym here ∙ ap (under slots) e ∙ head in cc
 
   pub at_entry : under rewritten x ≡ Some (Entry link v')
-  at_entry =
-      get_or-set_other (set slots x (Some (Entry link v'))) c x (Some (Head l' r')) None apart
-      ∙ get_or-set_same slots x (Some (Entry link v')) None (within slots x _ here)
+  at_entry = grind (arith, common_steps, within)
 
   pub at_head : under rewritten c ≡ Some (Head l' r')
-  at_head =
-      get_or-set_same (set slots x (Some (Entry link v'))) c (Some (Head l' r')) None
-      (omega (arith, within slots c _ head, length-set slots x (Some (Entry link v'))))
+  at_head = grind (arith, common_steps, within)
 
   pub elsewhere : (k : ℕ) → k ≢ x → k ≢ c → under rewritten k ≡ under slots k
-  elsewhere k nx nc =
-      get_or-set_other (set slots x (Some (Entry link v'))) c k (Some (Head l' r')) None nc
-      ∙ get_or-set_other slots x k (Some (Entry link v')) None nx
+  elsewhere k nx nc = grind (arith, common_steps)
 
   pub entries_stay : (k a b : ℕ) → k ≢ x → under slots k ≡ Some (Entry a b) → under rewritten k ≡ Some (Entry a b)
   entries_stay k a b nx e = elsewhere k nx (λ same. let both = sym e ∙ ap (under slots) same ∙ head in cc) ∙ e
 
   pub lefts_stay : (k : ℕ) → k ≢ c → left_of (under rewritten k) ≡ left_of (under slots k)
-  lefts_stay k nc =
-      elim (cases_eq k x) [
-        | inl e ↦ ap (λ (j : ℕ). left_of (under rewritten j)) e ∙ ap left_of at_entry ∙ sym (ap (λ (j : ℕ). left_of (under slots j)) e
-            ∙ ap left_of here)
-        | inr nx ↦ ap left_of (elsewhere k nx nc)
-      ]
+  lefts_stay k nc = grind (arith, common_steps, left_of, under)
 
   pub rights_stay : (k : ℕ) → k ≢ c → right_of (under rewritten k) ≡ right_of (under slots k)
-  rights_stay k nc =
-      elim (cases_eq k x) [
-        | inl e ↦ ap (λ (j : ℕ). right_of (under rewritten j)) e ∙ ap right_of at_entry
-            ∙ sym (ap (λ (j : ℕ). right_of (under slots j)) e ∙ ap right_of here)
-        | inr nx ↦ ap right_of (elsewhere k nx nc)
-      ]
+  rights_stay k nc = grind (arith, common_steps, under)
 
   pub kinds_stay : (k : ℕ) → k ≢ c → (before behind : List ℕ)
       → parted_with (under rewritten k) before behind ≡ parted_with (under slots k) before behind
-  kinds_stay k nc before behind =
-      elim (cases_eq k x) [
-        | inl e ↦ ap (λ (j : ℕ). parted_with (under rewritten j) before behind) e
-            ∙ ap (λ (cell : Option Cell). parted_with cell before behind) at_entry
-            ∙ sym (ap (λ (j : ℕ). parted_with (under slots j) before behind) e
-            ∙ ap (λ (cell : Option Cell). parted_with cell before behind) here)
-        | inr nx ↦ ap (λ (cell : Option Cell). parted_with cell before behind) (elsewhere k nx nc)
-      ]
+  kinds_stay k nc before behind = grind (arith, common_steps, under)

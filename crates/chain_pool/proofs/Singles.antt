@@ -1,5 +1,5 @@
 -- What all stacks are after one cell becomes free, or one free cell a head.
-use Rattle.chain_pool.proofs.Common.{Memory, Owner, Owners, Free, Left, Right, values, IsOwned, AreOwned, left_of, right_of, no_cells, Cell, Head, Entry, Stack, ◌≡◌, ◌≢◌, ℕ, suc, ◌+◌, ◌-◌, ◌<◌, [], Option, Some, refl, sym, ap, subst, ◌∙◌, inl, inr, arith, cases_eq}
+use Rattle.chain_pool.proofs.Common.{Memory, Owner, Owners, Free, Left, Right, values, IsOwned, AreOwned, left_of, right_of, no_cells, Cell, Head, Entry, Stack, ◌≡◌, ◌≢◌, ℕ, suc, ◌+◌, ◌-◌, ◌<◌, [], Option, Some, refl, sym, ap, subst, ◌∙◌, arith}
 use Rattle.chain_pool.proofs.Stacks.{Keeps, IsLoose, HasTop, IsOwned-none, IsOwned-more, IsOwned-top, IsOwned-kept, values-none, values-kept, owners_with, owners_with-here, owners_with-others}
 use Rattle.chain_pool.proofs.Transfers.{content, content_of, IsOwnedStack}
 
@@ -21,18 +21,7 @@ module _ (h h' : Memory) (o o' : Owners) (x : ℕ) (keeps : Keeps h h' o o' x) (
   kept_side : (side : Option Cell → Stack) (u : Owner) (c : ℕ) → (side (h' x)).len ≡ 0 → (side (h x)).len ≡ 0
       → IsLoose h o u (side (h c)).len x → IsOwnedStack h o u (side (h c))
       → IsOwnedStack h' o' u (side (h' c)) × (content_of h' (side (h' c)) ≡ content_of h (side (h c)))
-  kept_side side u c none had loose own =
-      elim (cases_eq c x) [
-        | inl e ↦
-            let none_now : (side (h' c)).len ≡ 0 = ap (λ (k : ℕ). (side (h' k)).len) e ∙ none in
-            let had_then : (side (h c)).len ≡ 0 = ap (λ (k : ℕ). (side (h k)).len) e ∙ had in
-            (empty_owned h' o' u _ none_now, empty_content h' _ none_now ∙ sym (empty_content h _ had_then))
-        | inr ne ↦
-            let same : side (h' c) ≡ side (h c) = ap side (off c ne) in (
-              subst (λ (st : Stack). IsOwnedStack h' o' u st) (sym same) (IsOwned-kept h h' o o' x keeps u _ _ loose own),
-              ap (content_of h') same ∙ values-kept h h' o o' x keeps u _ _ loose own,
-            )
-      ]
+  kept_side side u c none had loose own = grind (arith, empty_owned, empty_content, IsOwned-kept, values-kept)
 
 -- a cell that is no entry, and no head of a chain with entries, becomes a free one
 pub record Adds (h h' : Memory) (free free' : Stack) (x value : ℕ) : Type 0 where
@@ -49,10 +38,7 @@ module _ (h h' : Memory) (free free' : Stack) (x value : ℕ) (adds : Adds h h' 
   with_cell = owners_with o x (Free, free.len)
 
   added_keeps : Keeps h h' o with_cell x
-  added_keeps = record {
-    entries = λ k a b ne e. adds.off k ne ∙ e;
-    owners = λ k ne. owners_with-others o x _ k ne;
-  }
+  added_keeps = grind (arith, owners_with-others)
 
   added_loose : (u : Owner) (n : ℕ) → IsLoose h o u n x
   added_loose u n = record { off = λ d a b lt e owner. adds.bare a b e }
@@ -60,10 +46,7 @@ module _ (h h' : Memory) (free free' : Stack) (x value : ℕ) (adds : Adds h h' 
   added_free : IsOwnedStack h' with_cell Free free'
   added_free =
       let below = IsOwned-kept h h' o with_cell x added_keeps Free _ _ (added_loose Free _) (owned Free) in
-      let one_more : free.len + 1 ≡ suc free.len = omega arith in
-      subst (λ (st : Stack). IsOwnedStack h' with_cell Free st) (sym adds.more)
-      (subst (λ (n : ℕ). IsOwned h' with_cell Free n x) (sym one_more)
-      (IsOwned-more h' with_cell Free _ x _ value adds.written (owners_with-here o x _) below))
+      let one_more : free.len + 1 ≡ suc free.len = omega arith in grind (arith, IsOwned-more, owners_with-here)
 
   added_left : (c : ℕ)
       → IsOwnedStack h' with_cell (Left c) (left_of (h' c)) × (content_of h' (left_of (h' c)) ≡ content_of h (left_of (h c)))

@@ -1,5 +1,5 @@
 -- How the numbers of a pool stay sound.
-use Rattle.chain_pool.proofs.Common.{under, IsEdit, IsAlike, cells_of, cells_in, Parted, Left, Right, memory_of, joined, joined_option, joined_lists, parted_under, chains_of, left_of, right_of, IsSound, Cell, Head, Stack, ◌≡◌, ℕ, ◌+◌, ◌<◌, ◌^◌, List, length, reverse, set, cond, count_by, is_some, Option, Some, None, refl, sym, ap, ◌∙◌, arith, length-append, length-reverse, sum_by-set}
+use Rattle.chain_pool.proofs.Common.{under, IsEdit, IsAlike, cells_of, cells_in, Parted, Left, Right, memory_of, joined, joined_option, joined_lists, parted_under, chains_of, left_of, right_of, IsSound, Cell, Head, Stack, ◌≡◌, ℕ, ◌+◌, ◌<◌, ◌^◌, List, length, reverse, set, count_by, is_some, Option, Some, refl, sym, ap, ◌∙◌, arith, length-append, common_steps, length-reverse}
 use Rattle.chain_pool.proofs.Lookups.{under-map, cells_in-edit, cells_in-alike, cells_of-le}
 use Rattle.chain_pool.proofs.Rewrites.{within, chain_at_head}
 use Rattle.chain_pool.proofs.Stacks.{length-values}
@@ -8,9 +8,7 @@ use Rattle.chain_pool.proofs.Transfers.{content}
 -- a cell that is written over leaves the number of cells
 pub count_by-set : (slots : List (Option Cell)) (k : ℕ) (old new : Cell) → under slots k ≡ Some old
     → count_by is_some (set slots k (Some new)) ≡ count_by is_some slots
-count_by-set slots k old new e =
-    let weight : Option Cell → ℕ = λ o. cond (is_some o) 1 0 in
-    omega (arith, sum_by-set weight slots k (Some new) None (within slots k old e), ap weight e)
+count_by-set slots k old new e = grind (arith, common_steps, is_some, within)
 
 pub length-joined : (parted : Parted) → length (joined parted) ≡ length parted.before + length parted.behind
 length-joined parted = omega (arith, length-append (reverse parted.before) parted.behind, length-reverse parted.before)
@@ -20,10 +18,7 @@ under-joined chains k = under-map joined_option refl chains k
 
 pub IsEdit-joined : (old new : List (Option Parted)) (name : ℕ) (thing : Option Parted) → IsEdit old new name thing
     → IsEdit (joined_lists old) (joined_lists new) name (joined_option thing)
-IsEdit-joined old new name thing edit = record {
-  here = under-joined new name ∙ ap joined_option edit.here;
-  others = λ other ne. under-joined new other ∙ ap joined_option (edit.others other ne) ∙ sym (under-joined old other);
-}
+IsEdit-joined old new name thing edit = grind (arith, under-joined)
 
 pub IsAlike-joined : (old new : List (Option Parted)) → IsAlike old new → IsAlike (joined_lists old) (joined_lists new)
 IsAlike-joined old new alike k = under-joined new k ∙ ap joined_option (alike k) ∙ sym (under-joined old k)
@@ -42,8 +37,7 @@ cells_in-alike_joined old new alike = cells_in-alike (joined_lists old) (joined_
 -- one more than the entries of a chain that is live
 pub cells_of-parted : (thing : Option Parted) (parted : Parted) → thing ≡ Some parted
     → cells_of (joined_option thing) ≡ length parted.before + length parted.behind + 1
-cells_of-parted thing parted e =
-    omega (arith, ap (λ (t : Option Parted). cells_of (joined_option t)) e, length-joined parted)
+cells_of-parted thing parted e = grind (arith, length-joined)
 
 pub parted_under-is : (chains : List (Option Parted)) (name : ℕ) (parted : Parted) → under chains name ≡ Some parted
     → parted_under chains name ≡ parted

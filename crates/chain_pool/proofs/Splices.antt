@@ -1,5 +1,5 @@
 -- Chains that go: given back, or moved into another.
-use Rattle.chain_pool.proofs.Common.{Chains, under, IsEdit, list_under, cut, spliced, Parted, PartedChains, joined, joined_option, joined_lists, parted_under, parted_at, pushed, cut_here, ◌≡◌, ◌≢◌, ℕ, ◌+◌, ◌-◌, ◌<◌, ◌≤◌, List, [], ◌∷◌, ◌++◌, length, reverse, take, drop, get_or, Option, Some, None, refl, sym, ap, ◌∙◌, arith, append_assoc, zero-add, reverse-append, reverse-reverse, append-nil, take_all, drop_all, drop-drop, length-drop, take_more, get_or-drop, nil_from_length}
+use Rattle.chain_pool.proofs.Common.{Chains, under, IsEdit, list_under, cut, spliced, Parted, PartedChains, joined, joined_option, joined_lists, parted_under, parted_at, pushed, cut_here, ◌≡◌, ◌≢◌, ℕ, ◌+◌, ◌-◌, ◌<◌, ◌≤◌, List, [], ◌∷◌, ◌++◌, length, reverse, take, drop, get_or, Option, Some, None, refl, sym, ap, ◌∙◌, arith, zero-add, common_steps, drop_all, drop-drop, nil_from_length}
 use Rattle.chain_pool.proofs.Lists.{list_in}
 use Rattle.chain_pool.proofs.Soundness.{parted_under-is, under-joined, length-joined}
 
@@ -8,9 +8,7 @@ pub joined-none : (parted : Parted) → joined parted ≡ [] → parted ≡ reco
 joined-none parted e =
     let none : length parted.before + length parted.behind ≡ 0 = sym (length-joined parted) ∙ ap (λ (l : List ℕ). length l) e in
     let first : parted.before ≡ [] = nil_from_length parted.before (omega (arith, none)) in
-    let second : parted.behind ≡ [] = nil_from_length parted.behind (omega (arith, none)) in
-    ap (λ (l : List ℕ). record { before = l; behind = parted.behind }) first
-    ∙ ap (λ (l : List ℕ). record { before = []; behind = l }) second
+    let second : parted.behind ≡ [] = nil_from_length parted.behind (omega (arith, none)) in grind arith
 
 pub cut-all : (list : List ℕ) (n : ℕ) → n ≡ length list → cut list 0 n ≡ []
 cut-all list n e = drop_all n list (omega (arith, e))
@@ -36,30 +34,11 @@ pub IsSplicedTo-none : (pool : Chains) (old mid new : PartedChains) (name place 
     → mid.spare ≡ old.spare → new.spare ≡ mid.spare
     → IsSplicedTo pool new name place other 0
 IsSplicedTo-none pool old mid new name place other ne lists spare first second same same2 =
-    let list = list_under pool.lists name in
-    let kept : parted_under mid.chains other ≡ parted_under old.chains other =
-    same_parted old.chains mid.chains other (first.others other (λ e. ne (sym e))) in
-    record {
-      here = second.others name ne ∙ first.here
-          ∙ ap (λ (l : List ℕ). Some (parted_at l place)) (sym (list_in old.chains pool.lists name lists))
-          ∙ ap (λ (l : List ℕ). Some (record { before = reverse l; behind = drop place list })) (sym (append-nil (take place list)));
-      there = second.here
-          ∙ ap (λ (l : List ℕ). Some (parted_at l 0))
-          (ap (λ (p : Parted). joined p) kept ∙ sym (list_in old.chains pool.lists other lists));
-      others = λ k nk nk'. under-joined new.chains k ∙ ap joined_option (second.others k nk' ∙ first.others k nk)
-          ∙ sym (under-joined old.chains k) ∙ ap (λ (l : List (Option (List ℕ))). under l k) lists;
-      spare = same2 ∙ same ∙ spare;
-    }
+    grind (arith, common_steps, same_parted, list_in, joined, under-joined, under)
 
 moved_more : (front list : List ℕ) (n value : ℕ) → n < length list → value ≡ get_or (drop n list) 0 0
     → value ∷ reverse (front ++ take n list) ≡ reverse (front ++ take (n + 1) list)
-moved_more front list n value lt e =
-    let here : value ≡ get_or list n 0 = e ∙ get_or-drop n list 0 0 ∙ ap (λ (k : ℕ). get_or list k 0) (omega arith) in
-    let more : take (n + 1) list ≡ take n list ++ value ∷ [] =
-    take_more list n 0 lt ∙ ap (λ (v : ℕ). take n list ++ v ∷ []) (sym here) in
-    sym (ap (λ (l : List ℕ). reverse (front ++ l)) more
-    ∙ ap (λ (l : List ℕ). reverse l) (sym (append_assoc front (take n list) (value ∷ [])))
-    ∙ reverse-append (front ++ take n list) (value ∷ []))
+moved_more front list n value lt e = grind (arith, common_steps)
 
 pub IsSplicedTo-more : (pool : Chains) (old mid new : PartedChains) (name place other moved value : ℕ) → name ≢ other
     → IsSplicedTo pool old name place other moved
@@ -75,13 +54,8 @@ IsSplicedTo-more pool old mid new name place other moved value ne so_far lt read
     let left : parted_under old.chains other ≡ record { before = []; behind = drop moved rest } =
     parted_under-is old.chains other _ so_far.there in
     let first : value ≡ get_or (drop moved rest) 0 0 = read ∙ ap (λ (p : Parted). get_or p.behind 0 0) left in
-    let kept : parted_under mid.chains name
-    ≡ record { before = reverse (take place list ++ take moved rest); behind = drop place list } =
-    parted_under-is mid.chains name _ (cutting.others name ne ∙ so_far.here) in
     record {
-      here = pushing.here ∙ ap (λ (p : Parted). Some (pushed p value)) kept
-          ∙ ap (λ (l : List ℕ). Some (record { before = l; behind = drop place list }))
-          (moved_more (take place list) rest moved value lt first);
+      here = grind (arith, pushed, moved_more);
       there = pushing.others other (λ e. ne (sym e)) ∙ cutting.here ∙ ap (λ (p : Parted). Some (cut_here p)) left
           ∙ ap (λ (l : List ℕ). Some (record { before = []; behind = l })) (drop-drop 1 moved rest);
       others = λ k nk nk'. under-joined new.chains k ∙ ap joined_option (pushing.others k nk ∙ cutting.others k nk')
@@ -92,37 +66,25 @@ IsSplicedTo-more pool old mid new name place other moved value ne so_far lt read
 -- how many entries are left
 pub IsSplicedTo-left : (pool : Chains) (cells : PartedChains) (name place other moved : ℕ) → IsSplicedTo pool cells name place other moved
     → length (parted_under cells.chains other).behind ≡ length (list_under pool.lists other) - moved
-IsSplicedTo-left pool cells name place other moved so_far =
-    ap (λ (p : Parted). length p.behind) (parted_under-is cells.chains other _ so_far.there)
-    ∙ length-drop moved (list_under pool.lists other)
+IsSplicedTo-left pool cells name place other moved so_far = grind (arith, common_steps, parted_under-is)
 
 pub IsSplicedTo-total : (pool : Chains) (cells : PartedChains) (name place other : ℕ) → IsSplicedTo pool cells name place other 0
     → length (parted_under cells.chains other).before + length (parted_under cells.chains other).behind
     ≡ length (list_under pool.lists other)
-IsSplicedTo-total pool cells name place other start =
-    ap (λ (p : Parted). length p.before + length p.behind) (parted_under-is cells.chains other _ start.there) ∙ zero-add _
+IsSplicedTo-total pool cells name place other start = grind (arith, parted_under-is, zero-add)
 
 pub IsSplicedTo-empty : (pool : Chains) (cells : PartedChains) (name place other moved : ℕ) → IsSplicedTo pool cells name place other moved
     → length (list_under pool.lists other) ≤ moved
     → parted_under cells.chains other ≡ record { before = []; behind = [] }
-IsSplicedTo-empty pool cells name place other moved done le =
-    parted_under-is cells.chains other _ done.there
-    ∙ ap (λ (l : List ℕ). record { before = []; behind = l }) (drop_all moved (list_under pool.lists other) le)
+IsSplicedTo-empty pool cells name place other moved done le = grind (arith, common_steps, parted_under-is)
 
 pub IsSplicedTo-done : (pool : Chains) (cells new : PartedChains) (name place other moved : ℕ) → name ≢ other
     → IsSplicedTo pool cells name place other moved → length (list_under pool.lists other) ≤ moved
     → IsEdit cells.chains new.chains other None
     → under (joined_lists new.chains) name ≡ Some (spliced (list_under pool.lists name) place (list_under pool.lists other))
-IsSplicedTo-done pool cells new name place other moved ne done le dropping =
-    let list = list_under pool.lists name in
-    let rest = list_under pool.lists other in
-    under-joined new.chains name ∙ ap joined_option (dropping.others name ne ∙ done.here)
-    ∙ ap (λ (l : List ℕ). Some (l ++ drop place list)) (reverse-reverse (take place list ++ take moved rest))
-    ∙ ap (λ (l : List ℕ). Some ((take place list ++ l) ++ drop place list)) (take_all moved rest le)
-    ∙ ap (λ (l : List ℕ). Some l) (append_assoc (take place list) rest (drop place list))
+IsSplicedTo-done pool cells new name place other moved ne done le dropping = grind (arith, common_steps, under-joined)
 
 pub IsSplicedTo-others : (pool : Chains) (cells new : PartedChains) (name place other moved : ℕ)
     → IsSplicedTo pool cells name place other moved → IsEdit cells.chains new.chains other None
     → (k : ℕ) → k ≢ name → k ≢ other → under (joined_lists new.chains) k ≡ under pool.lists k
-IsSplicedTo-others pool cells new name place other moved done dropping k nk nk' =
-    under-joined new.chains k ∙ ap joined_option (dropping.others k nk') ∙ sym (under-joined cells.chains k) ∙ done.others k nk nk'
+IsSplicedTo-others pool cells new name place other moved done dropping k nk nk' = grind (arith, under-joined)

@@ -1,5 +1,5 @@
 -- Stacks of cells: what a stack keeps while other cells change.
-use Rattle.chain_pool.proofs.Common.{Memory, Owner, Owners, Free, Left, Right, values, IsOwned, Entry, ◌≡◌, ◌≢◌, ◌⊎◌, ℕ, zero, suc, ◌-◌, ◌<◌, cond, eqb, List, [], ◌∷◌, length, Some, refl, sym, ap, subst, ◌∙◌, inl, inr, arith, cases_eq}
+use Rattle.chain_pool.proofs.Common.{Memory, Owner, Owners, Free, Left, Right, values, IsOwned, Entry, ◌≡◌, ◌≢◌, ◌⊎◌, ℕ, zero, suc, ◌-◌, ◌<◌, cond, eqb, List, [], ◌∷◌, length, Some, refl, sym, ap, ◌∙◌, inl, inr, arith, cases_eq}
 
 pub values-none : (h : Memory) (top : ℕ) → values h 0 top ≡ []
 unfolding values
@@ -42,15 +42,7 @@ pub record HasTop (h : Memory) (o : Owners) (s : Owner) (n top : ℕ) : Type 0 w
 pub IsOwned-top : (h : Memory) (o : Owners) (s : Owner) (n top : ℕ) → 0 < n → IsOwned h o s n top → HasTop h o s n top
 unfolding IsOwned
 IsOwned-top h o s zero top lt owned = absurd (omega arith)
-IsOwned-top h o s (suc n) top lt owned =
-    let e : n ≡ suc n - 1 = omega arith in
-    record {
-      next = owned.0;
-      value = owned.1;
-      entry = owned.2;
-      owner = owned.3 ∙ ap (λ (m : ℕ). (s, m)) e;
-      rest = subst (λ (m : ℕ). IsOwned h o s m owned.0) e owned.4;
-    }
+IsOwned-top h o s (suc n) top lt owned = grind arith
 
 pub IsOwned-kept : (h h' : Memory) (o o' : Owners) (x : ℕ) → Keeps h h' o o' x → (s : Owner) (n top : ℕ) → IsLoose h o s n x
     → IsOwned h o s n top → IsOwned h' o' s n top

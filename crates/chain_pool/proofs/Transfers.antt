@@ -41,9 +41,7 @@ module _ (h h' : Memory) (free free' : Stack) (s t : Owner) (x next v v' : ℕ) 
   keeps = record { entries = moves.entries; owners = λ k ne. owners_with-others o x _ k ne }
 
   topped : HasTop h o s (stack_of h free s).len x
-  topped =
-      subst (λ (top : ℕ). HasTop h o s (stack_of h free s).len top) moves.top
-      (IsOwned-top h o s _ _ moves.some (owned s))
+  topped = grind (arith, IsOwned-top)
 
   same_next : topped.next ≡ next
   same_next = let e = sym topped.entry ∙ moves.here in cc
@@ -68,10 +66,7 @@ module _ (h h' : Memory) (free free' : Stack) (s t : Owner) (x next v v' : ℕ) 
   target_owned : IsOwnedStack h' after t (stack_of h' free' t)
   target_owned =
       let below = IsOwned-kept h h' o after x keeps t _ _ (loose_other t _ (λ e. moves.differ (sym e))) (owned t) in
-      let more : (stack_of h free t).len + 1 ≡ suc (stack_of h free t).len = omega arith in
-      subst (λ (st : Stack). IsOwnedStack h' after t st) (sym moves.to)
-      (subst (λ (n : ℕ). IsOwned h' after t n x) (sym more)
-      (IsOwned-more h' after t _ x _ v' moves.written (owners_with-here o x _) below))
+      let more : (stack_of h free t).len + 1 ≡ suc (stack_of h free t).len = omega arith in grind (arith, IsOwned-more, owners_with-here)
 
   other_owned : (u : Owner) → u ≢ s → u ≢ t → IsOwnedStack h' after u (stack_of h' free' u)
   other_owned u ns nt =

@@ -1,5 +1,6 @@
 -- What the functions over cells know of the slab that they write, and of the chain that they are given.
-use Rattle.chain_pool.proofs.Common.{under, IsUnder, Parted, Memory, Owner, Free, Left, Right, memory_of, parted_by, parted_under, chains_of, stack_of, left_of, right_of, IsSound, IsEntry, values, Cell, Head, Entry, Stack, Slab, with_value, ◌≡◌, ℕ, ◌<◌, List, length, set, Option, Some, None, refl, sym, ap, subst, ◌∙◌, arith, IsSome}
+use Rattle.chain_pool.proofs.Common.{under, IsUnder, Parted, Memory, Owner, Free, Left, Right, memory_of, parted_by, parted_under, chains_of, stack_of, left_of, right_of, IsSound, IsEntry, values, Cell, Head, Entry, Stack, ◌≡◌, ℕ, ◌<◌, List, length, set, Option, Some, None, refl, sym, ap, subst, ◌∙◌, arith, common_steps, IsSome}
+use Rattle.slab.specs.Slab.{Slab, with_value}
 use Rattle.chain_pool.proofs.Lookups.{under-map}
 use Rattle.chain_pool.proofs.Rewrites.{chain_at_head}
 use Rattle.chain_pool.proofs.Soundness.{parted_under-is, length-left, length-right}
@@ -12,17 +13,11 @@ pub record Written (new old : Slab Cell) (now : List (Option Cell)) : Type 0 whe
   pub capacity : new.capacity ≡ old.capacity
 
 pub once_written : (old new : Slab Cell) (x : ℕ) (cell : Cell) → new ≡ with_value old x cell → Written new old (set old.slots x (Some cell))
-once_written old new x cell e = record {
-  slots = ap (λ (s : Slab Cell). s.slots) e;
-  capacity = ap (λ (s : Slab Cell). s.capacity) e;
-}
+once_written old new x cell e = grind arith
 
 pub twice_written : (old mid new : Slab Cell) (x c : ℕ) (cell other : Cell) → mid ≡ with_value old x cell → new ≡ with_value mid c other
     → Written new old (set (set old.slots x (Some cell)) c (Some other))
-twice_written old mid new x c cell other first second = record {
-  slots = ap (λ (s : Slab Cell). s.slots) second ∙ ap (λ (s : Slab Cell). set s.slots c (Some other)) first;
-  capacity = ap (λ (s : Slab Cell). s.capacity) second ∙ ap (λ (s : Slab Cell). s.capacity) first;
-}
+twice_written old mid new x c cell other first second = grind arith
 
 module _ (slots : List (Option Cell)) (capacity : ℕ) (free : Stack) (spare : ℕ) (sound : IsSound slots capacity free spare) where
   an_entry : (cell : Option Cell) (next value : ℕ) → cell ≡ Some (Entry next value) → IsEntry cell
@@ -30,8 +25,7 @@ module _ (slots : List (Option Cell)) (capacity : ℕ) (free : Stack) (spare : �
 
   top_entry : (s : Owner) → 0 < (stack_of (memory_of slots) free s).len → IsEntry (under slots (stack_of (memory_of slots) free s).top)
   top_entry s some =
-      let top = IsOwned-top (memory_of slots) sound.owners s _ _ some (sound.stacks s) in
-      an_entry _ top.next top.value top.entry
+      let top = IsOwned-top (memory_of slots) sound.owners s _ _ some (sound.stacks s) in grind arith
 
   pub free_entry : 0 < free.len → IsEntry (under slots free.top)
   free_entry some = top_entry Free some
@@ -51,9 +45,7 @@ module _ (slots : List (Option Cell)) (capacity : ℕ) (free : Stack) (spare : �
     parted_here : (chains : List (Option Parted)) → chains_of slots ≡ chains
         → parted_under chains c
         ≡ record { before = content (memory_of slots) free (Left c); behind = content (memory_of slots) free (Right c) }
-    parted_here chains e =
-        ap (λ (now : List (Option Parted)). parted_under now c) (sym e)
-        ∙ parted_under-is (chains_of slots) c _ (chain_at_head slots free c l r head)
+    parted_here chains e = grind (arith, common_steps, parted_under-is, chain_at_head)
 
     pub before_len : (chains : List (Option Parted)) → chains_of slots ≡ chains → length (parted_under chains c).before ≡ l.len
     before_len chains e =
@@ -65,9 +57,7 @@ module _ (slots : List (Option Cell)) (capacity : ℕ) (free : Stack) (spare : �
 
     pub behind_is : (chains : List (Option Parted)) → chains_of slots ≡ chains
         → (parted_under chains c).behind ≡ values (memory_of slots) r.len r.top
-    behind_is chains e =
-        ap (λ (p : Parted). p.behind) (parted_here chains e)
-        ∙ ap (λ (st : Stack). values (memory_of slots) st.len st.top) (ap right_of head)
+    behind_is chains e = grind (arith, common_steps)
 
 -- the head of a chain that is live
 pub record HasHead (cell : Option Cell) : Type 0 where
@@ -82,7 +72,4 @@ headed memory None live = absurd (cc)
 
 pub head_of : (slots : List (Option Cell)) (chains : List (Option Parted)) (name : ℕ) → chains_of slots ≡ chains → IsUnder chains name
     → HasHead (under slots name)
-head_of slots chains name same live =
-    headed (memory_of slots) (under slots name)
-    (subst (λ (found : Option Parted). IsSome found) (under-map (parted_by (memory_of slots)) refl slots name)
-    (subst (λ (now : List (Option Parted)). IsUnder now name) (sym same) live))
+head_of slots chains name same live = grind (arith, headed, under, under-map)

@@ -1,4 +1,4 @@
-use Rattle.chain_pool.proofs.Common.{◌≡◌, ◌+◌, ℕ, List, length, drop, get_or, ap, sym, ◌∙◌, arith, drop-drop, length-drop, get_or-drop}
+use Rattle.chain_pool.proofs.Common.{ℕ, List, length, drop, ap, ◌∙◌, arith, common_steps, drop-drop, length-drop}
 use Rattle.chain_pool.proofs.Reading.{rest_left, some_left, first_left}
 use Rattle.chain_pool.proofs.pool.entry_at.Goals as goal
 
@@ -19,8 +19,4 @@ unwrap-requires c =
     ))
 
 pub returns : goal.returns
-returns c =
-    let there : c.loop-i._i + 0 ≡ c.args.place = omega arith in
-    sym (first_left c.next-2.result c.unwrap.result c.loop-i.entries c.next-2.new.self c.next-2.ensures.steps c.unwrap.ensures)
-    ∙ ap (λ (l : List ℕ). get_or l 0 0) c.loop-i.invariant ∙ get_or-drop c.loop-i._i c.args.entries 0 0
-    ∙ ap (λ (k : ℕ). get_or c.args.entries k 0) there
+returns c = grind (arith, common_steps, first_left)

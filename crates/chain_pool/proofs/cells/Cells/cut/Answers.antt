@@ -11,8 +11,7 @@ view c = ap (λ (v : PartedChains). v.chains) c.self.view_is
 some : (c : After-head) → 0 < c.head.result.1.len
 some c =
     let same = behind_len c.self.inside.slots.slots c.self.inside.slots.capacity c.self.inside.free c.self.inside.spare c.self.invariant
-    c.args.chain.0 c.head.result.0 c.head.result.1 c.head.ensures c.args.self.now.chains (view c) in
-    omega (arith, same, c.requires.behind)
+    c.args.chain.0 c.head.result.0 c.head.result.1 c.head.ensures c.args.self.now.chains (view c) in grind arith
 
 pub relink-next-requires : goal.relink-next-requires
 relink-next-requires c =

@@ -1,4 +1,4 @@
-use Rattle.chain_pool.proofs.Common.{PartedChains, chains_of, ◌≡◌, ◌<◌, ap, arith}
+use Rattle.chain_pool.proofs.Common.{PartedChains, chains_of, ◌≡◌, ◌<◌, ap, arith, common_steps}
 use Rattle.chain_pool.proofs.Heads.{start_sound}
 use Rattle.chain_pool.proofs.Writes.{once_written, free_entry}
 use Rattle.chain_pool.proofs.cells.Cells.start.Goals as goal
@@ -20,10 +20,7 @@ invariant_of-self c =
     c.entry-next.result.0 c.entry-next.result.1 c.entry-next.ensures (some (goal.at.invariant_of-self c).After-write)).sound
 
 pub returns-clause-was : goal.returns-clause-was
-returns-clause-was c =
-    let same : chains_of c.self.inside.slots.slots ≡ c.args.self.now.chains = ap (λ (v : PartedChains). v.chains) c.self.view_is in
-    rw (← same) (start_sound c.self.inside.slots.slots c.self.inside.slots.capacity c.self.inside.free c.self.inside.spare c.self.invariant
-    c.entry-next.result.0 c.entry-next.result.1 c.entry-next.ensures (some (goal.at.returns-clause-was c).After-write)).was
+returns-clause-was c = grind (arith, common_steps, some)
 
 pub returns-clause-chain : goal.returns-clause-chain
 returns-clause-chain c =

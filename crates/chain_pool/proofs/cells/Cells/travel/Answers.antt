@@ -29,12 +29,7 @@ relink-next-requires c =
     (behind (goal.at.relink-next-requires c).At-on c.on-test.true)
 
 pub with_top-left-requires : goal.with_top-left-requires
-with_top-left-requires c = omega (
-  arith,
-  few_now c.args.self.now c.on.self-inside.slots.slots c.on.self-inside.slots.capacity c.on.self-inside.free
-      c.on.self-inside.spare
-      c.args.chain.0 c.on.left c.on.right c.on.invariant,
-)
+with_top-left-requires c = grind arith
 
 pub without_top-right-requires : goal.without_top-right-requires
 without_top-right-requires c = omega (arith, behind (goal.at.without_top-right-requires c).At-on c.on-test.true)
@@ -76,9 +71,7 @@ back-preserved c =
     )
 
 pub invariant_of-self : goal.invariant_of-self
-invariant_of-self c =
-    let written = once_written c.back.self-inside.slots c.write.new.slots _ _ c.write.ensures in
-    rw (written.slots, written.capacity) c.back.invariant.0.sound
+invariant_of-self c = grind (arith, once_written)
 
 pub returns-clause-chain : goal.returns-clause-chain
 returns-clause-chain c =

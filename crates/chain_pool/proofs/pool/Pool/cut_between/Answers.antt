@@ -1,4 +1,4 @@
-use Rattle.chain_pool.proofs.Common.{Chains, Parted, ◌≡◌, ℕ, Option, is_some, ap, subst, sym, arith}
+use Rattle.chain_pool.proofs.Common.{Chains, Parted, ◌≡◌, ℕ, Option, is_some, ap, subst, sym, arith, common_steps}
 use Rattle.chain_pool.proofs.Lists.{IsCutTo, IsCutTo-none, IsCutTo-more, IsCutTo-done, IsCutTo-behind, IsCutTo-nothing}
 use Rattle.chain_pool.proofs.pool.Pool.cut_between.Goals as goal
 use Rattle.chain_pool.proofs.pool.Pool.cut_between.Goals.{After-loop-i}
@@ -13,13 +13,7 @@ pub cut-requires-clause-live : goal.cut-requires-clause-live
 cut-requires-clause-live c = ap (λ (o : Option Parted). is_some o) c.loop-i.invariant.here
 
 pub cut-requires-clause-behind : goal.cut-requires-clause-behind
-cut-requires-clause-behind c =
-    omega (
-      arith,
-      IsCutTo-behind c.args.self.now c.loop-i.self-inside.cells c.args.chain.0 c.args.from c.loop-i._i c.loop-i.invariant,
-      c.loop-i-test.true,
-      c.requires.place,
-    )
+cut-requires-clause-behind c = grind (arith, common_steps, IsCutTo-behind)
 
 pub loop-i-preserved : goal.loop-i-preserved
 loop-i-preserved c =
@@ -31,11 +25,7 @@ all_cut : (c : After-loop-i) → c.args.to ≡ c.loop-i._i
 all_cut c e = subst (λ (n : ℕ). IsCutTo c.args.self.now c.loop-i.self-inside.cells c.args.chain.0 c.args.from n) (sym e) c.loop-i.invariant
 
 pub returns-clause-list : goal.returns-clause-list
-returns-clause-list c =
-    IsCutTo-done c.args.self.now c.loop-i.self-inside.cells c.args.chain.0 c.args.from c.args.to
-    (all_cut (goal.at.returns-clause-list c).After-loop-i (omega arith))
+returns-clause-list c = grind (arith, IsCutTo-done, all_cut)
 
 pub returns-clause-nothing : goal.returns-clause-nothing
-returns-clause-nothing c = λ e.
-    IsCutTo-nothing c.args.self.now c.loop-i.self-inside.cells c.args.chain.0 c.args.from c.args.to
-    (all_cut (goal.at.returns-clause-nothing c).After-loop-i (omega arith)) e c.requires.live
+returns-clause-nothing c = grind (arith, IsCutTo-nothing, all_cut)

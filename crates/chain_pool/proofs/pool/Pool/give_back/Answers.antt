@@ -1,4 +1,4 @@
-use Rattle.chain_pool.proofs.Common.{Chains, IsEdit, list_under, joined_lists, ℕ, List, Option, None, ap, subst, sym, ◌∙◌}
+use Rattle.chain_pool.proofs.Common.{Chains, list_under, arith, ap, sym, ◌∙◌}
 use Rattle.chain_pool.proofs.Lists.{list_in, list_under-is, edit_twice}
 use Rattle.chain_pool.proofs.Soundness.{IsEdit-joined}
 use Rattle.chain_pool.proofs.Splices.{joined-none, cut-all}
@@ -13,10 +13,4 @@ drop_head-requires-clause-empty c =
     ∙ cut-all (list_under c.args.self.now.lists name) c.len-len.result c.len-len.ensures)
 
 pub returns-clause-gone : goal.returns-clause-gone
-returns-clause-gone c =
-    let name = c.args.chain.0 in
-    edit_twice c.args.self.now.lists c.cut_between.new.self.lists (joined_lists c.drop_head.new.self.chains) name _ None
-    c.cut_between.ensures.list
-    (subst (λ (l : List (Option (List ℕ))). IsEdit l (joined_lists c.drop_head.new.self.chains) name None)
-    (ap (λ (v : Chains). v.lists) c.self.view_is)
-    (IsEdit-joined c.self.inside.cells.chains c.drop_head.new.self.chains name None c.drop_head.ensures.chain))
+returns-clause-gone c = grind (arith, edit_twice, IsEdit-joined)
