@@ -16,10 +16,10 @@ pub use Rattle.labellings.specs.declared.fault.LabelFault.TheVariants.{Degree, E
 pub use Rattle.labellings.specs.declared.verdict.DenialVerdict.{DenialVerdict}
 pub use Rattle.labellings.specs.declared.verdict.DenialVerdict.TheVariants.{Accepted, Equal, Label, WordWrong}
 pub use Rattle.std.proofs.Common.{All, Bool, List, ap, append_assoc, ap₂, arith, below_more, drop, eqb, false, get_or, inl, inr, length, map, of_z, refl, rules, slice_index, subst, suc, sym, take, to_z, true, w64, zero, ℕ, [], ◌&&◌, ◌*◌, ◌++◌, ◌+◌, ◌-◌, ◌<◌, ◌^◌, ◌∙◌, ◌∷◌, ◌≡◌, ◌≢◌, ◌≤◌, ◌⊎◌}
-pub use Rattle.std.proofs.lemmas.Bool.{and_parts, cases_Bool, cases_eq, cases_lt, eq-eqb, eqb-true, or_cases}
+pub use Rattle.std.proofs.lemmas.Bool.{and_parts, cases_Bool, cases_lt, eq-eqb, eqb-true, or_cases}
 pub use Rattle.std.proofs.lemmas.Bool.Decides.{nat_tests}
-pub use Rattle.std.proofs.lemmas.List.{append-nil, get_or-drop, get_or-take, get_or_append_left, get_or_push, get_or_read, length-append, length-drop, length-take-le, length_push, take_all}
-pub use Rattle.std.proofs.lemmas.List.Folds.{Any-from_list_any, list_any-from_Any}
+pub use Rattle.std.proofs.lemmas.Grind.{common_steps}
+pub use Rattle.std.proofs.lemmas.List.{append-nil, get_or_append_left, get_or_push, get_or_read, length-append, length_push, take_all}
 pub use Rattle.std.proofs.lemmas.Option.{get_or_from_slice_get}
 pub use Rattle.std.specs.Prelude.{Contains, Err, IfOk, IfSome, IsTrue, MatchOption, None, Ok, Option, Result, Some, cond, filter, find, slice_get, ℤ, ◌↔◌}
 pub use Rattle.surf_model.proofs.EdgeLemmas.{ends_differ, step_within}

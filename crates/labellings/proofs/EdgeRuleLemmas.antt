@@ -3,30 +3,11 @@ use Rattle.labellings.proofs.Common.{MeetsSomeRule, SidesMeetRule, EdgeMeetsRule
 
 -- the rules may be read from either side
 rule-swap : (places : List ℕ) (a b c d : ℕ) → MeetsSomeRule places a b c d → MeetsSomeRule places c d a b
-rule-swap places a b c d h = elim h [
-  | inl tree ↦ inl (tree.1, tree.0)
-  | inr other ↦ elim other [
-    | inl cotree ↦ inr (inl (sym cotree.1, sym cotree.0))
-    | inr leftover ↦ inr (inr (record {
-      rises = leftover.rises_too;
-      rises_too = leftover.rises;
-      quad = record {
-        a_below = leftover.quad.c_below;
-        c_below = leftover.quad.a_below;
-        a_place = leftover.quad.c_place;
-        c_place =
-            leftover.quad.a_place;
-      };
-    }))
-  ]
-]
+rule-swap places a b c d h = grind arith
 
 sides-swap : (mesh : FaceList) (labelling : LabellingView) (side other : Side) → SidesMeetRule mesh labelling side other
     → SidesMeetRule mesh labelling other side
-sides-swap mesh labelling side other h = record {
-  opposite = record { starts = sym h.opposite.ends; ends = sym h.opposite.starts };
-  rule = rule-swap labelling.places _ _ _ _ h.rule;
-}
+sides-swap mesh labelling side other h = grind (arith, rule-swap)
 
 -- two elements of a list of two are those of the list
 pub two-of : {A : Type 0} (xs : List A) (d a b x y : A) → length xs ≡ 2 → get_or xs 0 d ≡ x → get_or xs 1 d ≡ y → Contains xs a
@@ -55,8 +36,7 @@ module _ (mesh : FaceList) (table : List Edge) (labelling : LabellingView) (k : 
         two_sides = sym (sides_of_edge mesh edge is) ∙ two;
         sides = λ side other partners ends.
             let here : Contains edge.sides side = edge_has_side mesh edge side is partners.first ends in
-            let there : Contains edge.sides other = edge_has_side mesh edge other is partners.second
-            (ends_agree _ _ _ _ edge.low edge.high ends partners.one_edge) in
+            let there : Contains edge.sides other = grind (arith, edge_has_side, ends_agree) in
             elim (two-of edge.sides d side other a b two first second here there partners.different) [
               | inl as_listed ↦ subst (λ x. SidesMeetRule mesh labelling x other) (sym as_listed.0)
                   (subst (λ x. SidesMeetRule mesh labelling a x) (sym as_listed.1) meets)
@@ -82,10 +62,7 @@ module _ (mesh : FaceList) (table : List Edge) (labelling : LabellingView) (k : 
 
 edge-rule-swap : (mesh : FaceList) (labelling : LabellingView) (u v : ℕ) → EdgeMeetsRule mesh labelling u v
     → EdgeMeetsRule mesh labelling v u
-edge-rule-swap mesh labelling u v h = record {
-  two_sides = sides_between_swap mesh v u ∙ h.two_sides;
-  sides = λ side other partners ends. h.sides side other partners (elim ends [ inl e ↦ inr e | inr e ↦ inl e ]);
-}
+edge-rule-swap mesh labelling u v h = grind (arith, sides_between_swap)
 
 -- where each edge of the table meets a rule, each edge of the mesh does
 pub each-edge : (mesh : FaceList) (table : List Edge) (labelling : LabellingView) → IsTableOf mesh table →
@@ -118,9 +95,7 @@ least-against mesh table labelling k h first =
           let other : Edge = edge_in table found.edge in
           let is_other : IsEdgeOf mesh other = h.edges found.edge _ found.in_table in
           let same = same_pair a b other.low other.high up is_other.ordered found.ends in
-          let there : IsPairBefore other.low other.high edge.low edge.high =
-          subst (λ x. IsPairBefore x other.high edge.low edge.high) (sym same.0)
-          (subst (λ x. IsPairBefore a x edge.low edge.high) (sym same.1) before) in
+          let there : IsPairBefore other.low other.high edge.low edge.high = grind arith in
           let meets = first.first found.edge (place_before mesh table found.edge k h found.in_table first.in_table there) in
           subst (λ x. EdgeMeetsRule mesh labelling x b) same.0 (subst (λ x. EdgeMeetsRule mesh labelling other.low x) same.1 meets);
     }

@@ -1,6 +1,6 @@
 -- The spokes of a dart act on the states of a form that meets the laws of puts, and once round a face they change nothing: a side puts the
 -- label at its tail and then the one at its head, so round a face the labels telescope.
-use Rattle.labellings.proofs.Common.{IsGood, MeetsSomeRule, LabellingView, signs_of, labels_at, label_at, tail_label, head_label, spokes, spokes_by_labels, quad_path, ◌≡◌, inl, inr, ℕ, zero, suc, ◌<◌, Bool, true, false, ◌&&◌, eqb, List, [], ◌∷◌, ◌++◌, length, get_or, refl, ap, sym, ◌∙◌, subst, arith, append_assoc, cases_Bool, eqb-true, and_parts, cond, step_within, IsSide, side_after, tail_of, head_of, FaceList, IsFaceList, face_at, next_corner, corners_from, start_under, end_under, is_flipped, Side, IsQuad, led, add, walked, run as run_from, beyond}
+use Rattle.labellings.proofs.Common.{IsGood, MeetsSomeRule, LabellingView, signs_of, label_at, tail_label, head_label, spokes, spokes_by_labels, quad_path, ◌≡◌, inl, inr, ℕ, zero, suc, ◌<◌, Bool, true, false, ◌&&◌, eqb, List, [], ◌∷◌, ◌++◌, length, get_or, refl, ap, sym, ◌∙◌, subst, arith, append_assoc, cases_Bool, eqb-true, and_parts, cond, step_within, IsSide, side_after, tail_of, head_of, FaceList, IsFaceList, face_at, next_corner, corners_from, start_under, end_under, is_flipped, Side, IsQuad, led, add, walked, run as run_from, beyond}
 use Rattle.surf_model.proofs.RoundLemmas.{corner_after}
 use Rattle.walk_actions.proofs.Corners.{once_round}
 use Rattle.walk_actions.proofs.Runs.{walked-round}
@@ -102,9 +102,7 @@ run mesh labelling next s walk = led next labelling.places s (quad_path mesh lab
 pub run_on : {State : Type 0} (mesh : FaceList) (labelling : LabellingView) (next : List ℕ → State → ℕ → State) (s : State)
     (front : List ℕ) (x : ℕ) (rest : List ℕ)
     → run mesh labelling next s (front ++ x ∷ rest) ≡ run mesh labelling next (run mesh labelling next s (front ++ x ∷ [])) (x ∷ rest)
-run_on mesh labelling next s front x rest =
-    ap (led next labelling.places s) (quad_path-append mesh labelling front x rest)
-    ∙ led-append next labelling.places s (quad_path mesh labelling (front ++ x ∷ [])) (quad_path mesh labelling (x ∷ rest))
+run_on mesh labelling next s front x rest = grind (arith, led, quad_path-append, led-append)
 
 -- what the spokes of a dart make of a state
 abbrev pub spoked : {State : Type 0} → FaceList → LabellingView → (List ℕ → State → ℕ → State) → State → ℕ → ℕ → State
@@ -122,15 +120,10 @@ run_walked mesh labelling next s (u ∷ v ∷ walk) =
 -- the labels of a side are below the degree
 module _ (mesh : FaceList) (labelling : LabellingView) (good : IsGood mesh labelling) where
   pub label_within : (corner : Side) → IsSide mesh corner → label_at labelling corner < length labelling.places
-  label_within corner h =
-      let few : corner.at < length (labels_at labelling corner.face.0) =
-      omega (arith, h.place, good.shape.each_corner corner.face.0 h.face) in
-      omega (arith, good.shape.labels_below corner.face.0 h.face corner.at 0 few, good.shape.each_spoke)
+  label_within corner h = grind arith
 
   after_within : (side : Side) → IsSide mesh side → label_at labelling (side_after mesh side) < length labelling.places
-  after_within side h =
-      label_within (side_after mesh side)
-      (record { face = h.face; place = step_within true (length (face_at mesh side.face.0)) side.at h.place })
+  after_within side h = grind (arith, step_within)
 
   by_sign : (b : Bool) (x y : ℕ) → x < length labelling.places → y < length labelling.places → cond b x y < length labelling.places
   by_sign true x y h k = h

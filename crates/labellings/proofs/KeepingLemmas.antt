@@ -1,5 +1,6 @@
 -- Moves keep the state: a walk and the walk after moves lead each state at the vertex to one state. The spokes of darts act on such states.
-use Rattle.labellings.proofs.Common.{IsGood, LabellingView, signs_of, tail_label, head_label, side_from, spokes, spokes_of_sides, quad_path, ◌≡◌, ◌⊎◌, inl, inr, ℕ, suc, ◌<◌, Bool, true, false, ◌&&◌, eqb, List, [], ◌∷◌, length, refl, ap, sym, ◌∙◌, subst, arith, cases_Bool, or_cases, eqb-true, and_parts, Any-from_list_any, IsTrue, Contains, Option, Some, None, find, IsListed, all_listed, IsSide, tail_of, head_of, side_name, FaceList, FaceSide, IsFaceList, all_sides, joins, is_edge, apply_all, start_under, end_under, is_flipped, IsWalk, Side, led, IsEdge}
+use Rattle.labellings.proofs.Common.{IsGood, LabellingView, signs_of, tail_label, head_label, side_from, spokes, spokes_of_sides, quad_path, ◌≡◌, ◌⊎◌, inl, inr, ℕ, suc, ◌<◌, Bool, true, false, ◌&&◌, eqb, List, [], ◌∷◌, length, refl, ap, sym, ◌∙◌, subst, arith, cases_Bool, or_cases, eqb-true, and_parts, IsTrue, Contains, Option, Some, None, find, IsListed, all_listed, IsSide, tail_of, head_of, side_name, FaceList, FaceSide, IsFaceList, all_sides, joins, is_edge, apply_all, start_under, end_under, is_flipped, IsWalk, Side, led, IsEdge}
+use Rattle.std.proofs.lemmas.List.Folds.{Any-from_list_any}
 use Rattle.surf_model.specs.declared.moves.Move.{Move}
 use Rattle.walk_actions.proofs.Actions.{acts_exactly, moves_act, crosses_any}
 use Rattle.labellings.proofs.FoldLemmas.{PutLaws, pair, pair_belongs, there, run, spoked, run_walked, Darts, darts_of, once_round_face, tail_within, head_within, led-append}
@@ -9,7 +10,6 @@ found_in : {A : Type 0} (p : A → Bool) (xs : List A) (x : A) → find p xs ≡
 found_in p [] x h = cc
 found_in p (y ∷ ys) x h = elim (cases_Bool (p y)) [
   | inl here ↦
-      let one : Some y ≡ Some x = rw here at h in
       let same : y ≡ x = cc in
       (0, omega arith, same)
   | inr off ↦
@@ -21,9 +21,7 @@ found_in p (y ∷ ys) x h = elim (cases_Bool (p y)) [
 pub found_side : (mesh : FaceList) (labelling : LabellingView) (u v : ℕ) (x : FaceSide) → side_from mesh labelling u v ≡ Some x
     → IsSide mesh (side_name x)
 unfolding side_from
-found_side mesh labelling u v x h =
-    let has : Contains (all_sides mesh) x = found_in _ (all_sides mesh) x h in
-    (subst (IsListed mesh) has.2 (all_listed mesh has.0 x has.1)).side
+found_side mesh labelling u v x h = grind (arith, found_in, all_listed)
 
 -- a state that belongs to the wheel and is at the vertex
 abbrev IsReady : {State : Type 0} → (State → Type 0) → (State → Type 0) → State → Type 0

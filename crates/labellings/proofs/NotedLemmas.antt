@@ -1,7 +1,7 @@
 -- Spokes put into a form, and what is noted there.
-use Rattle.labellings.proofs.Common.{◌≡◌, ℕ, refl, List, [], ◌∷◌, ◌++◌, subst, sym, ◌∙◌, ap, led, NotesAlong, TellsMore}
+use Rattle.labellings.proofs.Common.{arith, ◌≡◌, ℕ, List, [], ◌∷◌, ◌++◌, subst, sym, ◌∙◌, ap, common_steps, led, NotesAlong, TellsMore}
 use Rattle.std.proofs.Common.{Option}
-use Rattle.turn_words.proofs.Led.{led-append, notes-append, notes-one}
+use Rattle.turn_words.proofs.Led.{led-append, notes-append}
 use Rattle.turn_words.proofs.Telling.{tells-both}
 use Rattle.turn_words.specs.declared.step.Step.{Step}
 
@@ -10,9 +10,7 @@ module _ {State : Type 0} (next : List ℕ → State → ℕ → State) (Notes :
   pub tells-two : (s : State) (i j : ℕ) (o p q : Option (List Step)) → TellsMore (Notes places s i) o p
       → TellsMore (Notes places (next places s i) j) p q
       → TellsMore (NotesAlong next Notes places s (i ∷ j ∷ [])) o q
-  tells-two s i j o p q first second =
-      tells-both (Notes places s i) (Notes places (next places s i) j) (NotesAlong next Notes places s (i ∷ j ∷ [])) o p q first second
-      (λ a b x y. (a, b, refl, x, notes-one next places Notes (next places s i) j b y))
+  tells-two s i j o p q first second = grind (arith, common_steps, tells-both)
 
   -- two lists of spokes
   pub tells-on : (s t : State) (first second : List ℕ) (o p q : Option (List Step)) → t ≡ led next places s first

@@ -1,5 +1,5 @@
 -- Under a good labelling each dart of the mesh runs along one side, and its edge's other side runs against it.
-use Rattle.labellings.proofs.Common.{IsGood, EdgeMeetsRule, SidesMeetRule, LabellingView, signs_of, tail_label, head_label, side_from, spokes, spokes_of_sides, spokes_by_labels, ◌≡◌, ◌≢◌, ◌⊎◌, inl, inr, ℕ, zero, suc, Bool, true, false, ◌&&◌, eqb, List, [], ◌∷◌, length, refl, ap, sym, ◌∙◌, subst, arith, cases_Bool, cases_eq, eqb-true, eq-eqb, and_parts, nat_tests, list_any-from_Any, IsTrue, Contains, Some, find, filter, ends_differ, IsListed, all_listed, partners_listed, IsSide, tail_of, head_of, side_name, FaceList, FaceSide, IsFaceList, face_at, all_sides, joins, is_edge, ArePartners, start_under, end_under, is_flipped, Side}
+use Rattle.labellings.proofs.Common.{IsGood, EdgeMeetsRule, SidesMeetRule, LabellingView, signs_of, tail_label, head_label, side_from, spokes, spokes_of_sides, spokes_by_labels, ◌≡◌, ◌≢◌, ◌⊎◌, inl, inr, ℕ, zero, suc, Bool, true, false, ◌&&◌, eqb, List, [], ◌∷◌, length, refl, ap, sym, ◌∙◌, subst, arith, cases_Bool, eqb-true, eq-eqb, and_parts, nat_tests, common_steps, IsTrue, Contains, Some, find, filter, ends_differ, IsListed, all_listed, partners_listed, IsSide, tail_of, head_of, side_name, FaceList, FaceSide, IsFaceList, face_at, all_sides, joins, is_edge, ArePartners, start_under, end_under, is_flipped, Side}
 use Rattle.surf_model.proofs.NumberLemmas.{face_side}
 use Rattle.surf_model.proofs.TableLemmas.{Contains-filter, face_side_in}
 
@@ -7,9 +7,7 @@ use Rattle.surf_model.proofs.TableLemmas.{Contains-filter, face_side_in}
 find_only : {A : Type 0} (p : A → Bool) (xs : List A) (x : A) → Contains xs x → p x ≡ true → ((y : A) → Contains xs y → p y ≡ true → y ≡ x)
     → find p xs ≡ Some x
 find_only p [] x h passes only = absurd (omega (arith, h.1))
-find_only p (y ∷ ys) x (zero, l, is) passes only =
-    let here : p y ≡ true = subst (λ z. p z ≡ true) (sym is) passes in
-    rw here (ap Some is)
+find_only p (y ∷ ys) x (zero, l, is) passes only = grind arith
 find_only p (y ∷ ys) x (suc k, l, is) passes only = elim (cases_Bool (p y)) [
   | inl here ↦
       let same : y ≡ x = only y (0, omega arith, refl) here in
@@ -26,23 +24,14 @@ in_list mesh side h = face_side_in mesh side.face.0 side.at h.face h.place
 
 -- an entry is that of its name
 entry_named : (mesh : FaceList) (s : FaceSide) → IsListed mesh s → entry_of mesh (side_name s) ≡ s
-entry_named mesh s h =
-    let tail : tail_of mesh (side_name s) ≡ s.tail = sym h.tail in
-    let head : head_of mesh (side_name s) ≡ s.head = sym h.head in
-    λ i. record { face = s.face; at = s.at; tail = tail i; head = head i }
+entry_named mesh s h = grind (arith, head_of)
 
 listed : (mesh : FaceList) (s : FaceSide) → Contains (all_sides mesh) s → IsListed mesh s
 listed mesh s has = subst (IsListed mesh) has.2 (all_listed mesh has.0 s has.1)
 
 -- two sides with other names, or one
 same_or_other : (side other : Side) → (side ≡ other) ⊎ (side ≢ other)
-same_or_other side other = elim (cases_eq side.face.0 other.face.0) [
-  | inr off ↦ inr (λ e. off (ap (λ (s : Side). s.face.0) e))
-  | inl one ↦ elim (cases_eq side.at other.at) [
-    | inr off ↦ inr (λ e. off (ap (λ (s : Side). s.at) e))
-    | inl two ↦ inl (λ i. record { face = record { 0 = one i }; at = two i })
-  ]
-]
+same_or_other side other = grind arith
 
 -- A side and the one on the other side of its edge, under a good labelling.
 pub record HasPartner (mesh : FaceList) (labelling : LabellingView) (side : Side) : Type 0 where
@@ -55,15 +44,7 @@ entry_joins mesh side = grind (arith, nat_tests)
 
 edge_of_side : (mesh : FaceList) (side : Side) → IsSide mesh side → IsTrue (is_edge mesh (tail_of mesh side) (head_of mesh side))
 unfolding is_edge
-edge_of_side mesh side h =
-    let has : Contains (all_sides mesh) (entry_of mesh side) = in_list mesh side h in
-    list_any-from_Any (joins (tail_of mesh side) (head_of mesh side)) (all_sides mesh) (
-      has.0,
-      entry_of mesh side,
-      has.1,
-      has.2,
-      entry_joins mesh side,
-    )
+edge_of_side mesh side h = grind (arith, common_steps, in_list, head_of, entry_joins)
 
 -- of two elements one is the first or the second
 one_of_two : {A : Type 0} (xs : List A) (x : A) → length xs ≡ 2 → Contains xs x → (y : A) × ((xs ≡ x ∷ y ∷ []) ⊎ (xs ≡ y ∷ x ∷ []))
@@ -75,12 +56,7 @@ one_of_two (a ∷ b ∷ []) x two (suc zero, l, is) = (a, inr (ap (λ z. a ∷ z
 one_of_two (a ∷ b ∷ []) x two (suc (suc k), l, is) = absurd (omega arith)
 
 swapped : (mesh : FaceList) (side other : Side) → ArePartners mesh side other → ArePartners mesh other side
-swapped mesh side other h = record {
-  first = h.second;
-  second = h.first;
-  different = λ same. h.different (sym same);
-  one_edge = elim h.one_edge [ inl same ↦ inl (sym same.0, sym same.1) | inr turned ↦ inr (sym turned.1, sym turned.0) ];
-}
+swapped mesh side other h = grind arith
 
 pub partner_of : (mesh : FaceList) (labelling : LabellingView) (side : Side) → IsGood mesh labelling → IsSide mesh side
     → HasPartner mesh labelling side

@@ -1,7 +1,7 @@
 -- The spokes of a dart, by the two sides of its edge in the table of the mesh.
-use Rattle.labellings.proofs.Common.{IsGood, LabellingView, signs_of, tail_label, head_label, spokes, spokes_by_labels, ◌≡◌, ◌≢◌, ◌⊎◌, inl, inr, ℕ, ◌<◌, Bool, true, false, List, length, get_or, refl, ap, sym, ◌∙◌, subst, arith, get_or_from_slice_get, Contains, Some, slice_get, HasSideEnds, side_of_edge, edge_has_side, partners_of_edge, ends_agree, table_pair, IsSide, tail_of, head_of, Edge, IsTableOf, IsEdgeOf, HasEnds, edge_in, FaceList, IsFaceList, ArePartners, is_flipped, start_under, end_under, Side}
+use Rattle.labellings.proofs.Common.{IsGood, LabellingView, signs_of, tail_label, head_label, spokes, spokes_by_labels, ◌≡◌, ◌≢◌, ◌⊎◌, inl, inr, ℕ, ◌<◌, Bool, true, false, List, length, get_or, refl, ap, sym, ◌∙◌, subst, arith, common_steps, get_or_from_slice_get, Contains, Some, slice_get, HasSideEnds, side_of_edge, edge_has_side, partners_of_edge, ends_agree, table_pair, IsSide, tail_of, head_of, Edge, IsTableOf, IsEdgeOf, HasEnds, edge_in, FaceList, IsFaceList, ArePartners, is_flipped, start_under, end_under, Side}
 use Rattle.labellings.proofs.SideLemmas.{SpokesOfSide, spokes_of_side}
-use Rattle.labellings.proofs.EdgeRuleLemmas.{two-of, two-from-rule}
+use Rattle.labellings.proofs.EdgeRuleLemmas.{two-of}
 
 -- where a side starts and ends under signs are its two ends, in one of the two orders
 ends-under : (mesh : FaceList) (signs : List Bool) (side : Side) →
@@ -36,9 +36,7 @@ module _ (mesh : FaceList) (table : List Edge) (labelling : LabellingView) (k u 
   second = get_or_from_slice_get (edge_in table k).sides 1 b none is_b
 
   two : length (edge_in table k).sides ≡ 2
-  two =
-      let edge : Edge = edge_in table k in
-      two-from-rule mesh table labelling k a b none h l first second (good.edges edge.low edge.high (table_pair mesh table k h l))
+  two = grind (arith, common_steps, none, table_pair)
 
   partners : ArePartners mesh a b
   partners =
@@ -57,8 +55,7 @@ module _ (mesh : FaceList) (table : List Edge) (labelling : LabellingView) (k u 
       subst (HasSideEnds mesh edge.low edge.high) first (side_of_edge mesh edge 0 none is (omega (arith, two))).ends in
       let p = of-a.partner.partners in
       let here : Contains edge.sides a = edge_has_side mesh edge a is p.first ends in
-      let there : Contains edge.sides of-a.partner.partner =
-      edge_has_side mesh edge of-a.partner.partner is p.second (ends_agree _ _ _ _ edge.low edge.high ends p.one_edge) in
+      let there : Contains edge.sides of-a.partner.partner = grind (arith, edge_has_side, ends_agree) in
       elim (two-of edge.sides none a of-a.partner.partner a b two first second here there p.different) [
         | inl as_listed ↦ as_listed.1
         | inr turned ↦ absurd (partners.different turned.0)
@@ -102,9 +99,7 @@ module _ (mesh : FaceList) (table : List Edge) (labelling : LabellingView) (k u 
 -- an edge of a mesh with a good labelling has two sides
 pub two-sides : (mesh : FaceList) (table : List Edge) (labelling : LabellingView) (k : ℕ) → IsGood mesh labelling → IsTableOf mesh table
     → k < length table → length (edge_in table k).sides ≡ 2
-two-sides mesh table labelling k good h l =
-    two-from-rule mesh table labelling k (get_or (edge_in table k).sides 0 none) (get_or (edge_in table k).sides 1 none) none h l refl refl
-    (good.edges (edge_in table k).low (edge_in table k).high (table_pair mesh table k h l))
+two-sides mesh table labelling k good h l = grind (arith, common_steps, none, table_pair)
 
 -- and each of these is a side of the mesh
 pub is-side : (mesh : FaceList) (table : List Edge) (labelling : LabellingView) (k j : ℕ) (a : Side) → IsGood mesh labelling

@@ -1,5 +1,5 @@
 -- A labelling as it lies in memory.
-use Rattle.labellings.proofs.Common.{FaceLabels, LabellingView, labels_at, signs_of, ◌≡◌, ℕ, zero, suc, ◌+◌, ◌-◌, ◌^◌, ◌<◌, ◌≤◌, Bool, false, List, [], ◌∷◌, ◌++◌, length, map, get_or, take, drop, refl, ap, sym, subst, ◌∙◌, inl, inr, arith, cases_lt, length-take-le, length-drop, length-append, length_push, get_or-take, get_or-drop, get_or_append_left, get_or_push}
+use Rattle.labellings.proofs.Common.{FaceLabels, LabellingView, labels_at, signs_of, ◌≡◌, ℕ, zero, suc, ◌+◌, ◌-◌, ◌^◌, ◌<◌, ◌≤◌, Bool, List, [], ◌∷◌, ◌++◌, length, map, get_or, take, drop, refl, ap, sym, subst, ◌∙◌, inl, inr, arith, cases_lt, common_steps, length-append, length_push, get_or_append_left, get_or_push}
 use Rattle.labellings.specs.StoredLabellings.{with_signs, stored_labelling, IsStoredLabelling}
 use Rattle.surf_model.proofs.PartsLemmas.{length-parts, get_or-parts, part_within, parts-push, EndsRise-push, EndsRise-last}
 use Rattle.surf_model.specs.Parts.{parts, EndsRise}
@@ -51,29 +51,7 @@ lie-at : (degree : ℕ) (signs : List Bool) (ends labels places : List ℕ) (f :
     f < length (stored_labelling degree signs ends labels places).faces
     → LabelsLieAt (stored_labelling degree signs ends labels places) signs ends labels f
 lie-at degree signs ends labels places f s h =
-    let ps = parts 0 ends labels in
-    let each : length signs ≡ length ps = s.each_face ∙ sym (length-parts 0 ends labels) in
-    let few : f < length ends = omega (arith, length-with_signs signs ps each, length-parts 0 ends labels) in
-    let here = part_within 0 ends (length labels) f s.rising few in
-    let start = get_or (0 ∷ ends) f 0 in
-    let end = get_or ends f 0 in
-    let is : labels_at (stored_labelling degree signs ends labels places) f ≡ take (end - start) (drop start labels) =
-    labels-with_signs signs ps f (face_labels false []) each (omega (arith, length-parts 0 ends labels))
-    ∙ get_or-parts 0 ends labels f [] few in
-    let size : length (take (end - start) (drop start labels)) ≡ end - start =
-    length-take-le (end - start) (drop start labels) (omega (arith, here.rises, here.within, length-drop start labels)) in
-    record {
-      few = few;
-      each = s.each_face;
-      rises = here.rises;
-      within = here.within;
-      short = s.few_labels f few;
-      signs_are = signs-with_signs signs ps each;
-      is = is;
-      size = ap length is ∙ size;
-      label = λ t below. ap (λ xs. get_or xs t 0) is ∙ get_or-take (end - start) (drop start labels) t 0
-          (omega (arith, ap length is, size)) ∙ get_or-drop start labels t 0;
-    }
+    grind (arith, common_steps, parts, length-parts, length-with_signs, part_within, labels-with_signs, get_or-parts, signs-with_signs)
 
 pub labels_lie_at : (degree : ℕ) (signs : List Bool) (ends labels places : List ℕ) (view : LabellingView) (f : ℕ)
     → IsStoredLabelling signs ends labels places →
@@ -84,9 +62,7 @@ labels_lie_at degree signs ends labels places view f s e =
 pub length-faces : (degree : ℕ) (signs : List Bool) (ends labels places : List ℕ) (view : LabellingView)
     → IsStoredLabelling signs ends labels places →
     stored_labelling degree signs ends labels places ≡ view → length view.faces ≡ length ends
-length-faces degree signs ends labels places view s e =
-    sym (ap (λ (v : LabellingView). length v.faces) e)
-    ∙ length-with_signs signs (parts 0 ends labels) (s.each_face ∙ sym (length-parts 0 ends labels)) ∙ length-parts 0 ends labels
+length-faces degree signs ends labels places view s e = grind (arith, length-with_signs, parts, length-parts)
 
 -- one face more
 pub stored_labelling-push : (degree : ℕ) (signs : List Bool) (ends labels places : List ℕ) (s : Bool) (face : List ℕ) (m : ℕ)
@@ -94,9 +70,7 @@ pub stored_labelling-push : (degree : ℕ) (signs : List Bool) (ends labels plac
     m ≡ length labels + length face →
     (stored_labelling degree (signs ++ s ∷ []) (ends ++ m ∷ []) (labels ++ face) places).faces
     ≡ (stored_labelling degree signs ends labels places).faces ++ face_labels s face ∷ []
-stored_labelling-push degree signs ends labels places s face m i e =
-    ap (with_signs (signs ++ s ∷ [])) (parts-push 0 ends labels face (length labels) m i.rising refl e)
-    ∙ with_signs-push signs (parts 0 ends labels) s face (i.each_face ∙ sym (length-parts 0 ends labels))
+stored_labelling-push degree signs ends labels places s face m i e = grind (arith, parts-push, with_signs-push, parts, length-parts)
 
 pub IsStoredLabelling-push : (signs : List Bool) (ends labels places : List ℕ) (s : Bool) (face : List ℕ) (m : ℕ)
     → IsStoredLabelling signs ends labels places →

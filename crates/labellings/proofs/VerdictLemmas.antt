@@ -1,22 +1,18 @@
 -- The word of a walk is one, and what a denial that holds excludes.
-use Rattle.labellings.proofs.Common.{FirstIsRight, SecondIsRight, IsFirstWrong, IsVerdict, IsGood, HasPlaces, IsFirstFault, IsLeastAgainstRules, LabellingView, IsWordOf, Denial, LabelFault, Shape, Degree, PlaceTwice, EdgeRule, OutOfMemory, DenialVerdict, Label, WordWrong, Equal, Accepted, ◌≡◌, ◌⊎◌, inl, inr, ℕ, ◌<◌, Bool, List, [], length, refl, sym, ap, ap₂, subst, ◌∙◌, arith, ◌↔◌, IsTrue, IsPairBefore, FaceList, IsFaceList, IsWalk, IsFirstTwice, Word}
+use Rattle.labellings.proofs.Common.{FirstIsRight, SecondIsRight, IsFirstWrong, IsVerdict, IsGood, HasPlaces, IsFirstFault, IsLeastAgainstRules, LabellingView, IsWordOf, Denial, LabelFault, Shape, Degree, PlaceTwice, EdgeRule, OutOfMemory, DenialVerdict, Label, WordWrong, Equal, Accepted, ◌≡◌, ◌⊎◌, inl, inr, ℕ, ◌<◌, Bool, List, length, refl, sym, ap, ◌∙◌, arith, ◌↔◌, IsTrue, IsPairBefore, FaceList, IsFaceList, IsWalk, IsFirstTwice, Word}
 use Rattle.labellings.proofs.WalkWordLemmas.{one_word_of_homotopic}
 
 -- a walk has one word
 pub one_word : (mesh : FaceList) (labelling : LabellingView) (walk : List ℕ) (one other : Word) → IsFaceList mesh
     → IsGood mesh labelling → IsWalk mesh walk
     → IsWordOf mesh labelling walk one → IsWordOf mesh labelling walk other → one ≡ other
-one_word mesh labelling walk one other valid good is_walk f g =
-    one_word_of_homotopic mesh labelling walk walk one other valid good is_walk ([], refl) f g
+one_word mesh labelling walk one other valid good is_walk f g = grind (arith, one_word_of_homotopic)
 
 pub is_word : (mesh : FaceList) (labelling : LabellingView) (walk : List ℕ) (own word : Word) (same : Bool) → IsFaceList mesh
     → IsGood mesh labelling → IsWalk mesh walk
     → IsWordOf mesh labelling walk own → IsTrue same ↔ (own ≡ word)
     → IsTrue same ↔ IsWordOf mesh labelling walk word
-is_word mesh labelling walk own word same valid good is_walk is tests = (
-  (λ t. subst (IsWordOf mesh labelling walk) (tests.0 t) is),
-  (λ w. tests.1 (one_word mesh labelling walk own word valid good is_walk is w)),
-)
+is_word mesh labelling walk own word same valid good is_walk is tests = grind (arith, one_word)
 
 -- ---- there is one verdict
 
@@ -33,12 +29,7 @@ first_twice places p q f g = elim (three_ways p q) [
 
 not_twice : (labelling : LabellingView) (p : ℕ) → length labelling.places ≡ labelling.degree → HasPlaces labelling
     → IsFirstTwice labelling.places p → ⊥
-not_twice labelling p each places twice =
-    let two = twice.twice in
-    let same : two.one ≡ two.other =
-    places two.one two.other (omega (arith, two.apart, two.below, each)) (omega (arith, two.below, each))
-    (two.one_place ∙ sym two.other_place) in
-    omega (arith, same, two.apart)
+not_twice labelling p each places twice = grind arith
 
 least_edge : (mesh : FaceList) (labelling : LabellingView) (a b c d : ℕ) → IsLeastAgainstRules mesh labelling a b
     → IsLeastAgainstRules mesh labelling c d
@@ -69,9 +60,7 @@ one_fault mesh labelling (PlaceTwice n) (EdgeRule low high) p q = absurd (not_tw
 one_fault mesh labelling (EdgeRule low high) Shape p q = absurd (q p.0)
 one_fault mesh labelling (EdgeRule low high) (Degree m) p q = absurd (q.1 p.1)
 one_fault mesh labelling (EdgeRule low high) (PlaceTwice m) p q = absurd (not_twice labelling m q.0.each_spoke p.2 q.2)
-one_fault mesh labelling (EdgeRule low high) (EdgeRule l h) p q =
-    let same = least_edge mesh labelling low.0 high.0 l.0 h.0 p.3 q.3 in
-    ap₂ (λ (u v : ℕ). EdgeRule (record { 0 = u }) (record { 0 = v })) same.0 same.1
+one_fault mesh labelling (EdgeRule low high) (EdgeRule l h) p q = grind (arith, least_edge)
 one_fault mesh labelling OutOfMemory g p q = absurd p
 one_fault mesh labelling f OutOfMemory p q = absurd q
 
@@ -106,14 +95,12 @@ one_verdict mesh first second denial (Label f) Accepted p q = absurd (fault_excl
 one_verdict mesh first second denial (WordWrong k) (Label g) p q = absurd (fault_excludes mesh denial.labelling g q p.0)
 one_verdict mesh first second denial (WordWrong k) (WordWrong m) p q = ap WordWrong (one_wrong mesh first second denial k m p.1 q.1)
 one_verdict mesh first second denial (WordWrong k) Equal p q = absurd (right_excludes mesh first second denial k p.1 q.1 q.2)
-one_verdict mesh first second denial (WordWrong k) Accepted p q =
-    absurd (right_excludes mesh first second denial k p.1 q.first_word q.second_word)
+one_verdict mesh first second denial (WordWrong k) Accepted p q = grind (arith, right_excludes)
 one_verdict mesh first second denial Equal (Label g) p q = absurd (fault_excludes mesh denial.labelling g q p.0)
 one_verdict mesh first second denial Equal (WordWrong m) p q = absurd (right_excludes mesh first second denial m q.1 p.1 p.2)
 one_verdict mesh first second denial Equal Equal p q = refl
 one_verdict mesh first second denial Equal Accepted p q = absurd (q.differ p.3)
 one_verdict mesh first second denial Accepted (Label g) p q = absurd (fault_excludes mesh denial.labelling g q p.good)
-one_verdict mesh first second denial Accepted (WordWrong m) p q =
-    absurd (right_excludes mesh first second denial m q.1 p.first_word p.second_word)
+one_verdict mesh first second denial Accepted (WordWrong m) p q = grind (arith, right_excludes)
 one_verdict mesh first second denial Accepted Equal p q = absurd (p.differ q.3)
 one_verdict mesh first second denial Accepted Accepted p q = refl

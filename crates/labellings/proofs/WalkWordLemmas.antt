@@ -1,36 +1,28 @@
 -- Under a good labelling, homotopic walks have one word: moves keep the state to which the spokes lead, and the word is that of the state.
-use Rattle.labellings.proofs.Common.{IsFlatWheel, flat_next, Vector, origin, IsGood, LabellingView, tail_label, head_label, side_from, spokes, spokes_of_sides, spokes_by_labels, quad_path, in_pairs, IsWordOf, Denial, ◌≡◌, inl, inr, ℕ, ◌<◌, ◌≤◌, ◌&&◌, eqb, List, [], ◌∷◌, ◌++◌, length, refl, ap, sym, ◌∙◌, subst, arith, cases_Bool, Option, Some, None, IsSide, side_name, FaceList, FaceSide, IsFaceList, Homotopic, IsWalk, turns, canonical, IsCanonicalOf, led, HyperState, IsHyperWheel, BelongsTo, IsEven, empty_state, hyper_next, turn_word_of, IsWheel, Word, Turns, Flat}
+use Rattle.labellings.proofs.Common.{IsFlatWheel, flat_next, origin, IsGood, LabellingView, side_from, spokes, spokes_of_sides, spokes_by_labels, quad_path, in_pairs, IsWordOf, Denial, ◌≡◌, ℕ, ◌<◌, ◌≤◌, List, [], ◌∷◌, ◌++◌, length, refl, ap, sym, ◌∙◌, subst, arith, Option, Some, None, FaceList, FaceSide, IsFaceList, Homotopic, IsWalk, turns, canonical, IsCanonicalOf, led, HyperState, IsHyperWheel, BelongsTo, IsEven, empty_state, hyper_next, turn_word_of, IsWheel, Word, Turns, Flat}
 use Rattle.flat_forms.proofs.SumsOfPairs.{leads-to-sum}
 use Rattle.flat_forms.specs.Lemmas.FlatLaws.{flat_starts, flat_stays, flat_there_and_back, flat_across}
 use Rattle.flat_forms.specs.Pairs.{spokes_of, sum_of_pairs}
 use Rattle.labellings.specs.Denials.{DenialHolds}
-use Rattle.std.proofs.lemmas.List.Elements.{All-append, All-nil, All-cons}
+use Rattle.std.proofs.lemmas.List.Elements.{All-append, All-nil}
 use Rattle.std.specs.Prelude.{All}
 use Rattle.turn_words.proofs.Unique.{unique}
 use Rattle.turn_words.specs.Lemmas.HyperLaws.{hyper_starts, hyper_stays, hyper_there_and_back, hyper_across}
 use Rattle.flat_forms.specs.FlatStates as flat
-use Rattle.labellings.proofs.FoldLemmas.{PutLaws, tail_within, head_within}
+use Rattle.labellings.proofs.FoldLemmas.{PutLaws, head_within}
 use Rattle.labellings.proofs.KeepingLemmas.{found_side, moves_keep}
 
 -- ---- the spokes of a walk are spokes of the wheel
 
 pub both_below : (n a b c d : ℕ) → a < n → b < n → All (λ i. i < n) (spokes_by_labels a b c d)
-both_below n a b c d l k = elim (cases_Bool (eqb a b && eqb c d)) [
-  | inl tree ↦ rw tree (All-nil (λ i. i < n))
-  | inr other ↦ rw other (All-cons (λ i. i < n) a (b ∷ []) l (All-cons (λ i. i < n) b [] k (All-nil (λ i. i < n))))
-]
+both_below n a b c d l k = grind arith
 
 spokes_below : (mesh : FaceList) (labelling : LabellingView) → IsGood mesh labelling → (u v : ℕ) (side other : Option FaceSide)
     → side_from mesh labelling u v ≡ side
     → All (λ i. i < length labelling.places) (spokes_of_sides mesh labelling side other)
 spokes_below mesh labelling good u v None other e = All-nil (λ i. i < length labelling.places)
 spokes_below mesh labelling good u v (Some x) None e = All-nil (λ i. i < length labelling.places)
-spokes_below mesh labelling good u v (Some x) (Some y) e =
-    let h : IsSide mesh (side_name x) = found_side mesh labelling u v x e in
-    both_below (length labelling.places) (tail_label mesh labelling (side_name x)) (head_label mesh labelling (side_name x))
-    (tail_label mesh labelling (side_name y))
-    (head_label mesh labelling (side_name y)) (tail_within mesh labelling good (side_name x) h)
-    (head_within mesh labelling good (side_name x) h)
+spokes_below mesh labelling good u v (Some x) (Some y) e = grind (arith, found_side, both_below, head_within)
 
 pub quad_path_below : (mesh : FaceList) (labelling : LabellingView) → IsGood mesh labelling → (walk : List ℕ)
     → All (λ i. i < length labelling.places) (quad_path mesh labelling walk)
@@ -45,20 +37,14 @@ quad_path_below mesh labelling good (u ∷ v ∷ walk) =
 
 labels_in_pairs : (a b c d : ℕ) (rest : List ℕ) → spokes_of (in_pairs rest) ≡ rest
     → spokes_of (in_pairs (spokes_by_labels a b c d ++ rest)) ≡ spokes_by_labels a b c d ++ rest
-labels_in_pairs a b c d rest e = elim (cases_Bool (eqb a b && eqb c d)) [
-  | inl tree ↦ rw tree e
-  | inr other ↦ rw other (ap (λ (l : List ℕ). a ∷ b ∷ l) e)
-]
+labels_in_pairs a b c d rest e = grind arith
 
 sides_in_pairs : (mesh : FaceList) (labelling : LabellingView) (side other : Option FaceSide) (rest : List ℕ)
     → spokes_of (in_pairs rest) ≡ rest
     → spokes_of (in_pairs (spokes_of_sides mesh labelling side other ++ rest)) ≡ spokes_of_sides mesh labelling side other ++ rest
 sides_in_pairs mesh labelling None other rest e = e
 sides_in_pairs mesh labelling (Some x) None rest e = e
-sides_in_pairs mesh labelling (Some x) (Some y) rest e =
-    labels_in_pairs (tail_label mesh labelling (side_name x)) (head_label mesh labelling (side_name x))
-    (tail_label mesh labelling (side_name y))
-    (head_label mesh labelling (side_name y)) rest e
+sides_in_pairs mesh labelling (Some x) (Some y) rest e = grind (arith, labels_in_pairs)
 
 pub quad_path_in_pairs : (mesh : FaceList) (labelling : LabellingView) (walk : List ℕ)
     → spokes_of (in_pairs (quad_path mesh labelling walk)) ≡ quad_path mesh labelling walk
@@ -78,23 +64,15 @@ quad_path_leads_to_sum mesh labelling walk =
 -- ---- the wheel of a good labelling
 
 wheel_of_good : (mesh : FaceList) (labelling : LabellingView) → IsGood mesh labelling → IsWheel labelling.places
-wheel_of_good mesh labelling good = record {
-  inside = λ i l. omega (arith, good.shape.places_below i 0 l, good.shape.each_spoke);
-  once = λ i j l k e. good.places i j (omega (arith, good.shape.each_spoke)) (omega (arith, good.shape.each_spoke)) e;
-}
+wheel_of_good mesh labelling good = grind arith
 
 pub hyper_wheel_of_good : (mesh : FaceList) (labelling : LabellingView) → IsGood mesh labelling → 5 ≤ labelling.degree
     → IsHyperWheel labelling.places
-hyper_wheel_of_good mesh labelling good five = record
-    { five = omega (arith, good.shape.each_spoke); wheel = wheel_of_good mesh labelling good }
+hyper_wheel_of_good mesh labelling good five = grind (arith, wheel_of_good)
 
 pub flat_wheel_of_good : (mesh : FaceList) (labelling : LabellingView) → IsGood mesh labelling → labelling.degree ≡ 4
     → IsFlatWheel labelling.places
-flat_wheel_of_good mesh labelling good four = record {
-  four = good.shape.each_spoke ∙ four;
-  wheel = wheel_of_good mesh labelling good;
-  rises = elim good.degree [ inl five ↦ absurd (omega (arith, five)) | inr rise ↦ rise.1 ];
-}
+flat_wheel_of_good mesh labelling good four = grind (arith, wheel_of_good)
 
 -- ---- homotopic walks have one word
 
@@ -158,12 +136,9 @@ one_word_of_homotopic mesh labelling first second (Turns one) (Turns other) vali
     ap Turns (one_turn_word mesh labelling first second one other valid good walk homotopic f.0 f.1 g.1)
 one_word_of_homotopic mesh labelling first second (Turns one) (Flat x y) valid good walk homotopic f g = absurd (omega (arith, f.0, g.0))
 one_word_of_homotopic mesh labelling first second (Flat x y) (Turns other) valid good walk homotopic f g = absurd (omega (arith, f.0, g.0))
-one_word_of_homotopic mesh labelling first second (Flat x y) (Flat v w) valid good walk homotopic f g =
-    ap (λ (p : Vector). Flat p.x p.y) (f.1 ∙ one_point mesh labelling first second valid good walk homotopic f.0 ∙ sym g.1)
+one_word_of_homotopic mesh labelling first second (Flat x y) (Flat v w) valid good walk homotopic f g = grind (arith, one_point)
 
 pub denial_excludes : (mesh : FaceList) (first second : List ℕ) (denial : Denial) → IsFaceList mesh → IsWalk mesh first
     → DenialHolds mesh first second denial
     → Homotopic mesh first second → ⊥
-denial_excludes mesh first second denial valid walk holds homotopic =
-    holds.differ (one_word_of_homotopic mesh denial.labelling first second denial.first denial.second valid holds.good walk homotopic
-    holds.first_word holds.second_word)
+denial_excludes mesh first second denial valid walk holds homotopic = grind (arith, one_word_of_homotopic)

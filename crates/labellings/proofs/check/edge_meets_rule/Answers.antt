@@ -9,7 +9,6 @@ sides_meet_rule-requires-clause-side c =
     let k = c.args.edge.0 in
     let none : Side = record { face = record { 0 = 0 }; at = 0 } in
     let sides = (edge_in table k).sides in
-    let two : length sides ≡ 2 = omega (arith, c.sides_of.ensures, c.if-sides_of-ne2.false) in
     subst (IsSide mesh) (get_or_from_slice_get sides 0 c.side-side.result none c.side-side.ensures)
     (side_of_edge mesh (edge_in table k) 0 none (c.requires.table.edges k _ c.requires.edge) (omega arith)).side_of
 
@@ -20,7 +19,6 @@ sides_meet_rule-requires-clause-other c =
     let k = c.args.edge.0 in
     let none : Side = record { face = record { 0 = 0 }; at = 0 } in
     let sides = (edge_in table k).sides in
-    let two : length sides ≡ 2 = omega (arith, c.sides_of.ensures, c.if-sides_of-ne2.false) in
     subst (IsSide mesh) (get_or_from_slice_get sides 1 c.side-other.result none c.side-other.ensures)
     (side_of_edge mesh (edge_in table k) 1 none (c.requires.table.edges k _ c.requires.edge) (omega arith)).side_of
 

@@ -1,4 +1,4 @@
-use Rattle.labellings.proofs.Common.{rules, ◌≡◌, ◌≢◌, ℕ, List, [], ◌∷◌, subst, sym, ◌∙◌, arith, MatchOption}
+use Rattle.labellings.proofs.Common.{rules, ◌≡◌, ◌≢◌, sym, ◌∙◌, arith}
 use Rattle.labellings.proofs.SpokeLemmas.{two-sides, is-side, spokes-along, spokes-against}
 use Rattle.labellings.proofs.darts.spokes_between.Goals as goal
 
@@ -8,12 +8,7 @@ labelled-one-requires-clause-side c =
     c.requires.edge (omega arith) c.side.ensures
 
 pub side-requires-2-clause-side : goal.side-requires-2-clause-side
-side-requires-2-clause-side c =
-    omega (
-      arith,
-      two-sides c.args.faces.now c.args.sides.now c.args.labelling.now c.args.edge.0 c.requires.good c.requires.table
-          c.requires.edge,
-    )
+side-requires-2-clause-side c = grind (arith, two-sides)
 
 pub labelled-two-requires-clause-side : goal.labelled-two-requires-clause-side
 labelled-two-requires-clause-side c =
@@ -25,25 +20,11 @@ returns-then-eq c = λ to ends.
     let starts : c.labelled-one.result.tail.0 ≡ c.args.from.0 = search rules in
     let along = spokes-along c.args.faces.now c.args.sides.now c.args.labelling.now c.args.edge.0 c.args.from.0 to c.side.result
     c.side-2.result c.len.ensures.valid c.requires.good c.requires.table c.requires.edge ends c.side.ensures c.side-2.ensures
-    (sym c.labelled-one.ensures.tail ∙ starts) in
-    subst (λ (xs : List ℕ). MatchOption c.spokes_along.result (xs ≡ []) (λ pair. xs ≡ pair.0.0 ∷ pair.1.0 ∷ [])) (sym along)
-    (rw (
-      c.labelled-one.ensures.tail_label,
-      c.labelled-one.ensures.head_label,
-      c.labelled-two.ensures.tail_label,
-      c.labelled-two.ensures.head_label,
-    ) at c.spokes_along.ensures)
+    (sym c.labelled-one.ensures.tail ∙ starts) in grind arith
 
 pub returns-else-eq : goal.returns-else-eq
 returns-else-eq c = λ to ends.
     let other : c.labelled-one.result.tail.0 ≢ c.args.from.0 = search rules in
     let against = spokes-against c.args.faces.now c.args.sides.now c.args.labelling.now c.args.edge.0 c.args.from.0 to c.side.result
     c.side-2.result c.len.ensures.valid c.requires.good c.requires.table c.requires.edge ends c.side.ensures c.side-2.ensures
-    (λ e. other (c.labelled-one.ensures.tail ∙ e)) in
-    subst (λ (xs : List ℕ). MatchOption c.spokes_along-else-eq.result (xs ≡ []) (λ pair. xs ≡ pair.0.0 ∷ pair.1.0 ∷ [])) (sym against)
-    (rw (
-      c.labelled-two.ensures.tail_label,
-      c.labelled-two.ensures.head_label,
-      c.labelled-one.ensures.tail_label,
-      c.labelled-one.ensures.head_label,
-    ) at c.spokes_along-else-eq.ensures)
+    (λ e. other (c.labelled-one.ensures.tail ∙ e)) in grind arith

@@ -1,4 +1,4 @@
-use Rattle.labellings.proofs.Common.{spokes, quad_path, spoke_list, ◌≡◌, ℕ, suc, ◌+◌, ◌<◌, ◌≤◌, List, ◌++◌, length, get_or, take, ap, sym, ◌∙◌, subst, arith, take_all, led, NotesAlong, TellsMore}
+use Rattle.labellings.proofs.Common.{spokes, quad_path, spoke_list, ◌≡◌, ℕ, suc, ◌+◌, ◌<◌, ◌≤◌, List, ◌++◌, length, get_or, take, ap, ◌∙◌, subst, arith, take_all, led, NotesAlong, TellsMore}
 use Rattle.labellings.proofs.KeepingLemmas.{moves_keep}
 use Rattle.labellings.proofs.NotedLemmas.{tells-on, tells-some, led-on}
 use Rattle.labellings.proofs.PathLemmas.{path-next, listed, found_below}
@@ -11,10 +11,7 @@ put_spokes-requires-clause-below g c =
     c.spokes-spokes.ensures)
 
 pub returns-in_err-put_spokes-clause-kept : goal.returns-in_err-put_spokes-clause-kept
-returns-in_err-put_spokes-clause-kept g c =
-    tells-some _ _ (g.R.Recorder.noted c.args.recorder.now) (g.R.Recorder.noted c.loop-dart.recorder)
-    (g.R.Recorder.noted c.put_spokes.new.recorder)
-    c.loop-dart.invariant.notes c.in_err-put_spokes.ensures.kept
+returns-in_err-put_spokes-clause-kept g c = grind (arith, tells-some)
 
 pub loop-dart-preserved : goal.loop-dart-preserved
 loop-dart-preserved g c =
@@ -34,9 +31,7 @@ loop-dart-preserved g c =
     listed c.spokes-spokes.result (spokes mesh labelling c.at.result.0 c.at-in-loop-dart.result.0) c.spokes-spokes.ensures in
     let higher : k + 1 ≡ suc k = omega arith in
     let head : c.at-in-loop-dart.result.0 ≡ get_or walk (suc k) 0 = c.at-in-loop-dart.ensures ∙ ap (λ n. get_or walk n 0) higher in
-    let dart : spokes mesh labelling (get_or walk k 0) (get_or walk (suc k) 0) ≡ spoke_list c.spokes-spokes.result =
-    ap (λ n. spokes mesh labelling n (get_or walk (suc k) 0)) (sym c.at.ensures) ∙ ap (spokes mesh labelling c.at.result.0) (sym head)
-    ∙ found in
+    let dart : spokes mesh labelling (get_or walk k 0) (get_or walk (suc k) 0) ≡ spoke_list c.spokes-spokes.result = grind arith in
     let more : quad_path mesh labelling (take (suc (k + 1)) walk) ≡ so_far ++ spoke_list c.spokes-spokes.result =
     ap (λ n. quad_path mesh labelling (take (suc n) walk)) higher ∙ path-next mesh labelling walk k few
     ∙ ap (λ (l : List ℕ). so_far ++ l) dart in
@@ -63,12 +58,7 @@ returns-clause-homotopic g c = λ other at_vertex homotopic.
     let walk : List ℕ = c.args.walk.now in
     let places : List ℕ = labelling.places in
     let start = g.F.Form.state c.args.form.now in
-    let long : length walk ≤ suc c.loop-dart.dart = omega (
-      arith,
-      c.loop-dart-test.false,
-      c.darts-dart-end.ensures.count,
-      c.requires.walk.starts,
-    ) in
+    let long : length walk ≤ suc c.loop-dart.dart = grind arith in
     let whole : take (suc c.loop-dart.dart) walk ≡ walk = take_all (suc c.loop-dart.dart) walk long in
     c.loop-dart.invariant.state ∙ ap (λ (w : List ℕ). led g.F.Form.next places start (quad_path mesh labelling w)) whole
     ∙ moves_keep mesh labelling g.F.Form.next (g.F.Form.Belongs places) g.F.Form.IsAtVertex

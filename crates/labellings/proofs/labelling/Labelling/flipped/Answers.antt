@@ -4,8 +4,7 @@ use Rattle.labellings.proofs.labelling.Labelling.flipped.Goals as goal
 
 pub index-requires : goal.index-requires
 index-requires c =
-    let here = labels_lie_at _ _ _ _ _ c.args.self.now c.args.face.0 c.self.invariant c.self.view_is c.requires in
-    omega (arith, here.few, here.each, c.self.inside.signs.ok.0)
+    let here = labels_lie_at _ _ _ _ _ c.args.self.now c.args.face.0 c.self.invariant c.self.view_is c.requires in grind arith
 
 pub returns : goal.returns
 returns c =
