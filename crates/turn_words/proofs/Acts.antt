@@ -1,5 +1,5 @@
 -- What a put means for a state, and for a recorder.
-use Rattle.turn_words.proofs.Common.{◌≡◌, ℕ, ◌<◌, arith, sym, ◌∙◌, ap, ap₂, List, [], ◌∷◌, ◌++◌, length, reverse, Option, Some, reverse-reverse, append-nil, HyperState, turn_to, value_at, hyper_next, BelongsTo, LeadOn, good_word, turn_below, next_belongs, put-good, add, minus, put_steps, put, with_steps, TellsMore, next_changed, after_steps, Step}
+use Rattle.turn_words.proofs.Common.{◌≡◌, ℕ, ◌<◌, arith, sym, ◌∙◌, ap, List, [], ◌∷◌, ◌++◌, length, reverse, Option, Some, common_steps, reverse-reverse, append-nil, HyperState, turn_to, value_at, hyper_next, BelongsTo, LeadOn, good_word, turn_below, next_belongs, put-good, add, minus, put_steps, put, with_steps, TellsMore, next_changed, after_steps, Step}
 use Rattle.turn_words.proofs.Telling.{tells-steps}
 use Rattle.turn_words.proofs.Reaching.{IsNextBelow, put-reached}
 
@@ -25,9 +25,7 @@ puts-lead places s i b =
 
 pub notes-put : (places : List ℕ) (s : HyperState) (i t : ℕ) (o p : Option (List Step)) → BelongsTo places s → t ≡ turn_to places s i →
     p ≡ with_steps o (put_steps (length places) (reverse s.word) t) → TellsMore (LeadOn places s i) o p
-notes-put places s i t o p b turn e =
-    tells-steps (LeadOn places s i) o p (put_steps (length places) (reverse s.word) (turn_to places s i))
-    (e ∙ ap (λ u. with_steps o (put_steps (length places) (reverse s.word) u)) turn) (puts-lead places s i b)
+notes-put places s i t o p b turn e = grind (arith, tells-steps, puts-lead)
 
 pub change-below : (places : List ℕ) (s : HyperState) (i t : ℕ) → BelongsTo places s → i < length places → t ≡ turn_to places s i
     → (put (length places) (reverse s.word) t).change < length places
@@ -39,12 +37,7 @@ change-below places s i t b below turn =
 pub state-next : (places : List ℕ) (s : HyperState) (i t : ℕ) (new : List ℕ) (change number : ℕ) → t ≡ turn_to places s i →
     reverse new ≡ (put (length places) (reverse s.word) t).word → change ≡ (put (length places) (reverse s.word) t).change →
     number ≡ add (length places) (value_at places new i) (minus (length places) change) → state-of new number ≡ hyper_next places s i
-state-next places s i t new change number turn left is e =
-    let d = length places in
-    let p = put d (reverse s.word) (turn_to places s i) in
-    let word : new ≡ reverse p.word = sym (reverse-reverse new) ∙ ap reverse (left ∙ ap (λ u. (put d (reverse s.word) u).word) turn) in
-    let changed : change ≡ p.change = is ∙ ap (λ u. (put d (reverse s.word) u).change) turn in
-    ap₂ state-of word (e ∙ ap₂ (λ w n. add d (value_at places w i) (minus d n)) word changed)
+state-next places s i t new change number turn left is e = grind (arith, common_steps, put)
 
 pub belongs-next : (places : List ℕ) (s : HyperState) (i t : ℕ) (new : List ℕ) (change number : ℕ) → BelongsTo places s
     → i < length places → t ≡ turn_to places s i →

@@ -11,8 +11,7 @@ module _ (d : ℕ) (five : 5 ≤ d) where
   -- an amount that is taken away and added again
   next-forth : (c : ℕ) (w : List ℕ) → c < d → InRange d w → next_changed d (minus d c) (next_changed d c w) ≡ w
   next-forth c [] h s = refl
-  next-forth c (y ∷ rest) h s =
-      ap (λ z. z ∷ rest) (omega (arith, minus-cases d c h, add-cases d y c, add-cases d (add d y c) (minus d c), s.0))
+  next-forth c (y ∷ rest) h s = grind (arith, minus-cases, add-cases)
 
   next-minus : (w : List ℕ) → InRange d w → next_changed d 1 (next_changed d (minus d 1) w) ≡ w
   next-minus [] s = refl
@@ -32,7 +31,6 @@ module _ (d : ℕ) (five : 5 ≤ d) where
   undone-spur_out (x ∷ []) v s e = absurd cc
   undone-spur_out (x ∷ turn ∷ rest) v s e = elim (cases_eq turn 0) [
     | inl zero_turn ↦
-        let allowed = rw (zero_turn) at e in
         let is : next_changed d x rest ≡ v = cc in
         (x, rw (← is, lt-ltb x d s.0, zero_turn) (ap (λ z. Some (x ∷ 0 ∷ z)) (next-forth x rest s.0 s.1.1)))
     | inr other ↦ let refused = rw (ne_eqb turn 0 other) at e in absurd cc
@@ -56,7 +54,6 @@ module _ (d : ℕ) (five : 5 ≤ d) where
   undone-down (x ∷ []) v s e = absurd cc
   undone-down (x ∷ turn ∷ rest) v s e = elim (cases_eq turn 1) [
     | inl one ↦
-        let allowed = rw (one) at e in
         let is : add d x (minus d 1) ∷ minus d 1 ∷ next_changed d (minus d 1) rest ≡ v = cc in
         let back : pushed d true (add d x (minus d 1) ∷ minus d 1 ∷ next_changed d (minus d 1) rest) ≡ Some (x ∷ 1 ∷ rest) =
         rw (eq-eqb (minus d 1) (minus d 1) refl) (ap₂ (λ z w. Some (z ∷ 1 ∷ w)) (up-down d five x s.0) (next-minus rest s.1.1)) in
@@ -116,5 +113,4 @@ module _ (d : ℕ) (five : 5 ≤ d) where
 
 pub both-ways : (d : ℕ) (w v : List ℕ) → IsTurnWord d w → Reaches d w v → IsTurnWord d v × Reaches d v w
 both-ways d w v t r =
-    let back = steps-back d t.five r.0 w v (in-range-from d w t.in_range) r.1 in
-    (record { five = t.five; in_range = all-from d v back.0 }, back.1)
+    let back = steps-back d t.five r.0 w v (in-range-from d w t.in_range) r.1 in grind (arith, all-from)

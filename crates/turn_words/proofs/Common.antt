@@ -1,9 +1,10 @@
 -- What proofs of this crate cite of its definitions and of other crates, passed on from one place (by tools/imports). Declares nothing.
 pub use Rattle.std.proofs.Common.{All, Bool, List, None, Option, Some, ap, append_assoc, ap₂, arith, cond, drop, eqb, false, get_or, inl, inr, length, ltb, not, refl, replicate, reverse, rules, set, slice_index, subst, suc, sym, take, true, vec_capacity, vec_len, zero, ℕ, [], ◌%◌, ◌&&◌, ◌*◌, ◌++◌, ◌+◌, ◌-◌, ◌<◌, ◌==◌, ◌^◌, ◌↔◌, ◌∙◌, ◌∷◌, ◌≡◌, ◌≢◌, ◌≤◌, ◌⊎◌}
-pub use Rattle.std.proofs.lemmas.Bool.{cases_Bool, cases_eq, cases_lt, eq-eqb, eqb-true, le-ltb, lt-leb, lt-ltb, ne_eqb}
-pub use Rattle.std.proofs.lemmas.List.{append-nil, get_or-set_other, get_or-set_same, get_or-take, get_or_read, length-append, length-replicate, length-reverse, length-set, length-take-le, length_push, replicate-append-replicate, replicate_more, reverse-append, reverse-reverse, same_from_push, take-append-drop, take-replicate, take_all, take_more}
+pub use Rattle.std.proofs.lemmas.Bool.{cases_Bool, cases_eq, cases_lt, eq-eqb, le-ltb, lt-leb, lt-ltb, ne_eqb}
+pub use Rattle.std.proofs.lemmas.Grind.{common_steps}
+pub use Rattle.std.proofs.lemmas.List.{append-nil, get_or-set_other, get_or-set_same, get_or-take, get_or_read, length-append, length-replicate, length-reverse, length-set, length-take-le, replicate-append-replicate, replicate_more, reverse-append, reverse-reverse, take-append-drop, take-replicate, take_all, take_more}
 pub use Rattle.std.specs.Prelude.{Contains, IfSome, option_and_then, option_map}
-pub use Rattle.turn_words.specs.Canonical.{AreReduced, IsCanonical, IsCanonicalOf, IsTurnWord, StandsNowhere, closes_bracket, turns_of}
+pub use Rattle.turn_words.specs.Canonical.{AreReduced, IsCanonical, IsCanonicalOf, IsTurnWord, StandsNowhere, closes_bracket}
 pub use Rattle.turn_words.specs.FormLaws.{NotesAlong, led}
 pub use Rattle.turn_words.specs.HyperStates.{BelongsTo, HyperState, HyperView, IsHyperWheel, LeadOn, empty_state, hyper_next, put_spoke, turn_to, value_at}
 pub use Rattle.turn_words.specs.Lemmas.Across.{across, first_side, minus-minus, one-minus, one-one, second_side, two-down, two-up}

@@ -1,5 +1,5 @@
 -- The loop that finds the spoke of each place.
-use Rattle.turn_words.proofs.Common.{◌≡◌, ◌≢◌, ℕ, ◌+◌, ◌<◌, ◌≤◌, inl, inr, arith, refl, sym, ◌∙◌, ap, zero, suc, cond, ltb, List, [], ◌∷◌, length, get_or, set, cases_eq, cases_lt, lt-ltb, le-ltb, length-set, get_or-set_same, get_or-set_other, IsInside, StandsTwice}
+use Rattle.turn_words.proofs.Common.{◌≡◌, ◌≢◌, ℕ, ◌+◌, ◌<◌, ◌≤◌, inl, inr, arith, sym, ◌∙◌, ap, zero, suc, cond, ltb, List, [], ◌∷◌, length, get_or, set, cases_eq, cases_lt, lt-ltb, le-ltb, length-set, get_or-set_same, get_or-set_other, IsInside, StandsTwice}
 use Rattle.std.proofs.lemmas.List.Sums.{sum_by-set, sum_by-cons}
 use Rattle.std.specs.List.{sum_by}
 use Rattle.turn_words.specs.Private.StoredWheels.{IsInverse}
@@ -84,16 +84,7 @@ module _ (places : List ℕ) (inside : IsInside places) where
   -- a place that had a spoke stands twice
   stands-now : (i : ℕ) (spokes : List ℕ) (twice : ℕ) → i < length places → Filling places i spokes twice →
       get_or spokes (get_or places i 0) 0 < length places → StandsTwice places (get_or places i 0)
-  stands-now i spokes twice lt f full =
-      let old = f.back (get_or places i 0) (inside i lt) full in
-      record {
-        one = get_or spokes (get_or places i 0) 0;
-        other = i;
-        apart = old.0;
-        below = lt;
-        one_place = old.1;
-        other_place = refl;
-      }
+  stands-now i spokes twice lt f full = grind arith
 
   -- the next place, and the least that stands twice
   filling-next : (i : ℕ) (spokes : List ℕ) (twice now : ℕ) → i < length places → Filling places i spokes twice →
@@ -106,14 +97,7 @@ module _ (places : List ℕ) (inside : IsInside places) where
         within = omega arith;
         small = f.small;
         back = λ k k_below filled. let old = f.back k k_below filled in (omega arith, old.1);
-        seen = λ j j_below. elim (cases_lt j i) [
-          | inl old ↦ f.seen j old
-          | inr new ↦
-              let is : j ≡ i = omega arith in
-              let there : get_or spokes (get_or places j 0) 0 ≡ get_or spokes (get_or places i 0) 0 =
-              ap (λ n. get_or spokes (get_or places n 0) 0) is in
-              omega arith
-        ];
+        seen = λ j j_below. grind arith;
         stands = λ _. stands;
         least = λ a b ab b_below e. elim (cases_lt b i) [
           | inl old ↦ let low = f.least a b ab old e in omega arith
@@ -133,15 +117,11 @@ module _ (places : List ℕ) (inside : IsInside places) where
   pub filling-same : (i : ℕ) (spokes : List ℕ) (twice : ℕ) → i < length places → Filling places i spokes twice →
       get_or spokes (get_or places i 0) 0 < length places → twice ≤ get_or places i 0 → Filling places (i + 1) spokes twice
   filling-same i spokes twice lt f full higher =
-      let place_below = inside i lt in
       let within : twice < length places = omega arith in
       filling-next i spokes twice twice lt f full (omega arith) higher within (f.stands within)
 
   filled-le : (n x : ℕ) → filled n x ≤ 1
-  filled-le n x = elim (cases_lt x n) [
-    | inl lt ↦ let e : filled n x ≡ 1 = ap (λ b. cond b 1 0) (lt-ltb x n lt) in omega arith
-    | inr ge ↦ let e : filled n x ≡ 0 = ap (λ b. cond b 1 0) (le-ltb x n ge) in omega arith
-  ]
+  filled-le n x = grind (arith, filled)
 
   sum-le : (n : ℕ) (xs : List ℕ) → sum_by (filled n) xs ≤ length xs
   sum-le n [] = omega arith
@@ -163,11 +143,5 @@ module _ (places : List ℕ) (inside : IsInside places) where
   pub filled-inverse : (spokes : List ℕ) (twice : ℕ) → Filling places (length places) spokes twice → length places ≤ twice
       → IsInverse places spokes
   filled-inverse spokes twice f none =
-      let within = f.within in
       let counted : sum_by (filled (length places)) spokes ≡ length spokes = f.count (omega arith) ∙ sym f.as_long in
-      let each = all-filled (length places) spokes counted in
-      record {
-        as_long = f.as_long;
-        inside = λ place below. each place (omega (arith, f.as_long));
-        back = λ place below. (f.back place below (each place (omega (arith, f.as_long)))).1;
-      }
+      let each = all-filled (length places) spokes counted in grind arith

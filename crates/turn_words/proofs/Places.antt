@@ -1,5 +1,5 @@
 -- A canonical word, said of every place in it.
-use Rattle.turn_words.proofs.Common.{◌≡◌, ◌≢◌, ◌↔◌, ℕ, inl, inr, refl, sym, ◌∙◌, ap, subst, zero, suc, true, false, List, [], ◌∷◌, ◌++◌, replicate, append_assoc, cases_eq, cases_Bool, ne_eqb, turns_of, closes_bracket, AreReduced, IsCanonical, StandsNowhere, minus}
+use Rattle.turn_words.proofs.Common.{arith, ◌≡◌, ◌≢◌, ◌↔◌, ℕ, inl, inr, refl, sym, ◌∙◌, ap, zero, suc, true, false, List, [], ◌∷◌, ◌++◌, replicate, cases_eq, cases_Bool, ne_eqb, common_steps, closes_bracket, AreReduced, IsCanonical, StandsNowhere, minus}
 
 reduced-rest : (d : ℕ) (before rest : List ℕ) → AreReduced d (before ++ rest) → AreReduced d rest
 reduced-rest d [] rest a = a
@@ -29,16 +29,7 @@ record Free (d : ℕ) (turns : List ℕ) : Type 0 where
   no_bracket : (before after : List ℕ) (k : ℕ) → turns ≢ before ++ 1 ∷ replicate k 2 ++ 1 ∷ after
 
 free-reduced : (d : ℕ) (turns : List ℕ) → AreReduced d turns → Free d turns
-free-reduced d turns a = record {
-  no_spur = λ before after e. (reduced-rest d before (0 ∷ after) (subst (AreReduced d) e a)).0 refl;
-  no_minus = λ before after e. (reduced-rest d before (minus d 1 ∷ after) (subst (AreReduced d) e a)).1 refl;
-  no_bracket = λ before after k e. (
-      let split : turns ≡ before ++ (1 ∷ (replicate k 2 ++ 1 ∷ after)) = e ∙ append_assoc before (1 ∷ replicate k 2) (1 ∷ after) in
-      let shut = (reduced-rest d before (1 ∷ (replicate k 2 ++ 1 ∷ after)) (subst (AreReduced d) split a)).2 refl in
-      let open' = closes-run k after in
-      absurd cc
-      );
-}
+free-reduced d turns a = grind (arith, common_steps, reduced-rest, closes-run)
 
 reduced-free : (d : ℕ) (turns : List ℕ) → Free d turns → AreReduced d turns
 reduced-free d [] f = tt
@@ -59,12 +50,4 @@ reduced-free d (t ∷ turns) f = (
 )
 
 pub by_places : (d : ℕ) (word : List ℕ) → IsCanonical d word ↔ StandsNowhere d word
-by_places d word = (
-  (λ c. let f = free-reduced d (turns_of word) c.reduced in record
-      { in_range = c.in_range; no_spur = f.no_spur; no_minus = f.no_minus; no_bracket = f.no_bracket }),
-  (λ s. record {
-    in_range = s.in_range;
-    reduced = reduced-free d (turns_of word)
-        (record { no_spur = s.no_spur; no_minus = s.no_minus; no_bracket = s.no_bracket });
-  }),
-)
+by_places d word = grind (arith, free-reduced, reduced-free)

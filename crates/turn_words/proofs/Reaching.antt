@@ -1,6 +1,6 @@
 -- The steps of a put lead to its word, in front of whatever comes next; so a word reaches what its entries, put one
 -- after another, leave.
-use Rattle.turn_words.proofs.Common.{◌≡◌, ℕ, ◌<◌, ◌≤◌, inl, inr, arith, refl, sym, ◌∙◌, ap, true, false, List, [], ◌∷◌, ◌++◌, reverse, length, Option, Some, None, cases_eq, eq-eqb, ne_eqb, append-nil, length-reverse, option_map, option_and_then, two-up, one-one, one-minus, two-down, minus-minus, InRange, reverse-next, reverse-cons, put-back, cases, spur, flip, close, other, minus-one, add-zero, add_comm, IsGood, open-cases, put-flip, put-close, put-else, good-head, good-tail, Follows, add, minus, flip_steps, close_steps, put_steps, Put, is_open, flipped, closed, put, next_changed, spur_out, pushed, from_place, after_step, after_steps, Reaches, Step, SpurOut, Push}
+use Rattle.turn_words.proofs.Common.{◌≡◌, ℕ, ◌<◌, ◌≤◌, inl, inr, arith, refl, sym, ◌∙◌, ap, true, false, List, [], ◌∷◌, ◌++◌, reverse, length, Option, Some, None, cases_eq, eq-eqb, ne_eqb, common_steps, append-nil, option_map, option_and_then, two-up, one-one, one-minus, two-down, minus-minus, InRange, reverse-next, reverse-cons, put-back, cases, spur, flip, close, other, minus-one, add-zero, add_comm, IsGood, open-cases, put-flip, put-close, put-else, good-head, good-tail, Follows, add, minus, flip_steps, close_steps, put_steps, Put, is_open, flipped, closed, put, next_changed, spur_out, pushed, from_place, after_step, after_steps, Reaches, Step, SpurOut, Push}
 use Rattle.turn_words.proofs.Reading.{read, IsSound, Keeps, state, put-sound, keeps-step}
 
 -- a rule at the place behind a front changes what comes there
@@ -20,9 +20,7 @@ from_place-append rule (x ∷ a) b =
 
 at_end : (rule : List ℕ → Option (List ℕ)) (r w v : List ℕ) → rule w ≡ Some v
     → from_place (length r) rule (reverse r ++ w) ≡ Some (reverse r ++ v)
-at_end rule r w v e =
-    ap (λ n. from_place n rule (reverse r ++ w)) (sym (length-reverse r)) ∙ from_place-append rule (reverse r) w
-    ∙ ap (option_map (λ c. reverse r ++ c)) e
+at_end rule r w v e = grind (arith, common_steps, from_place-append)
 
 -- one list of steps after another
 after-next : (d : ℕ) (a b : List Step) (v : List ℕ) (o : Option (List ℕ)) →
@@ -53,22 +51,16 @@ module _ (d : ℕ) (five : 5 ≤ d) where
 
   push-up : (x : ℕ) (r w : List ℕ) →
       after_step d (Push (length r) true) (reverse (x ∷ r) ++ (minus d 1 ∷ w)) ≡ Some (reverse r ++ (add d x 1 ∷ 1 ∷ next_changed d 1 w))
-  push-up x r w =
-      ap (from_place (length r) (pushed d true)) (reverse-next x r (minus d 1 ∷ w))
-      ∙ at_end (pushed d true) r (x ∷ minus d 1 ∷ w) _ (rw (eq-eqb (minus d 1) (minus d 1) refl) refl)
+  push-up x r w = grind (arith, pushed, reverse-next, at_end)
 
   push-down : (x : ℕ) (r w : List ℕ) →
       after_step d (Push (length r) false) (reverse (x ∷ r) ++ (1 ∷ w)) ≡ Some (reverse r
       ++ (add d x (minus d 1) ∷ minus d 1 ∷ next_changed d (minus d 1) w))
-  push-down x r w =
-      ap (from_place (length r) (pushed d false)) (reverse-next x r (1 ∷ w))
-      ∙ at_end (pushed d false) r (x ∷ 1 ∷ w) _ refl
+  push-down x r w = grind (arith, pushed, reverse-next, at_end)
 
   spur-goes : (x : ℕ) (r w : List ℕ) →
       after_step d (SpurOut (length r)) (reverse (x ∷ r) ++ (0 ∷ w)) ≡ Some (reverse r ++ next_changed d x w)
-  spur-goes x r w =
-      ap (from_place (length r) (spur_out d)) (reverse-next x r (0 ∷ w))
-      ∙ at_end (spur_out d) r (x ∷ 0 ∷ w) _ refl
+  spur-goes x r w = grind (arith, spur_out, reverse-next, at_end)
 
   -- the steps of a flip
   flip-last : (x : ℕ) (r w : List ℕ) → after_steps d (Push (length r) true ∷ [])
@@ -125,21 +117,13 @@ module _ (d : ℕ) (five : 5 ≤ d) where
   next-none (y ∷ w) s = ap (λ z. z ∷ w) (add-zero d y s)
 
   steps-flip : (x : ℕ) (r : List ℕ) → put_steps d (x ∷ r) (minus d 1) ≡ flip_steps d (x ∷ r)
-  steps-flip x r =
-      let one = minus-one d five in
-      rw (ne_eqb (minus d 1) 0 (λ e. absurd (omega arith)), eq-eqb (minus d 1) (minus d 1) refl) refl
+  steps-flip x r = grind (arith, minus-one)
 
   steps-close : (x : ℕ) (r : List ℕ) → is_open (x ∷ r) ≡ true → put_steps d (x ∷ r) 1 ≡ close_steps (x ∷ r)
-  steps-close x r o =
-      let one = minus-one d five in
-      rw (ne_eqb 1 (minus d 1) (λ e. absurd (omega arith)), o) refl
+  steps-close x r o = grind (arith, common_steps, minus-one)
 
   steps-other : (x : ℕ) (r : List ℕ) (t : ℕ) → Follows d (x ∷ r) t → put_steps d (x ∷ r) t ≡ []
-  steps-other x r t f =
-      rw (ne_eqb t 0 f.no_spur, ne_eqb t (minus d 1) f.no_flip) (elim (cases_eq t 1) [
-        | inl e ↦ rw (eq-eqb t 1 e, f.no_close e) refl
-        | inr e ↦ rw (ne_eqb t 1 e) refl
-      ])
+  steps-other x r t f = grind (arith, common_steps)
 
   -- the steps of a put lead to its word, and change what comes next
   pub put-reached : (r : List ℕ) (t : ℕ) (w : List ℕ) → IsGood d r → IsNextBelow d w →

@@ -23,8 +23,7 @@ state u n = record { word = u; change = n }
 module _ (d : ℕ) (five : 5 ≤ d) where
   pub put-sound : (p : Put) (y : ℕ) → IsSound d p → y < d → IsSound d (put d p.word (add d y p.change))
   put-sound p y s h =
-      let kept = put-good d five p.word (add d y p.change) s.good (add-lt d y p.change h s.below) in
-      record { good = kept.0; below = kept.1 }
+      let kept = put-good d five p.word (add d y p.change) s.good (add-lt d y p.change h s.below) in grind arith
 
   next-in-range : (c : ℕ) (w : List ℕ) → c < d → InRange d w → InRange d (next_changed d c w)
   next-in-range c [] h s = tt
@@ -51,7 +50,6 @@ module _ (d : ℕ) (five : 5 ≤ d) where
   keeps-spur_out p (x ∷ []) v s r e = absurd cc
   keeps-spur_out p (x ∷ turn ∷ rest) v s r e = elim (cases_eq turn 0) [
     | inl zero_turn ↦
-        let allowed = rw (zero_turn) at e in
         let is : next_changed d x rest ≡ v = cc in
         rw (← is, zero_turn) (next-in-range x rest r.0 r.1.1, read-spur p x rest s r.0 r.1.1)
     | inr other ↦ let refused = rw (ne_eqb turn 0 other) at e in absurd cc
@@ -60,8 +58,7 @@ module _ (d : ℕ) (five : 5 ≤ d) where
   -- an amount that is added and taken away again
   pub next-back : (c : ℕ) (w : List ℕ) → c < d → InRange d w → next_changed d c (next_changed d (minus d c) w) ≡ w
   next-back c [] h s = refl
-  next-back c (y ∷ rest) h s =
-      ap (λ z. z ∷ rest) (omega (arith, minus-cases d c h, add-cases d y (minus d c), add-cases d (add d y (minus d c)) c, s.0))
+  next-back c (y ∷ rest) h s = grind (arith, minus-cases, add-cases)
 
   keeps-spur_in : (first : ℕ) → Keeps d (spur_in d first)
   keeps-spur_in first p w v s r e = elim (cases_lt first d) [
@@ -94,22 +91,8 @@ module _ (d : ℕ) (five : 5 ≤ d) where
       let b_mid = put-good d five p.word (add d t (minus d 1)) s.good down_below in
       let b_end = put-good d five (put d p.word (add d t (minus d 1))).word
       (add d (minus d 1) (put d p.word (add d t (minus d 1))).change) b_mid.0 (add-lt d (minus d 1) _ (omega arith) b_mid.1) in
-      let sums : add d t (minus d 1) ≡ add d (add d x (minus d 1)) p.change = omega (
-        arith,
-        s.below,
-        h,
-        add-cases d x p.change,
-        add-cases d t (minus d 1),
-        add-cases d x (minus d 1),
-        add-cases d (add d x (minus d 1)) p.change,
-      ) in
-      let change : a.change ≡ add d (minus d 1) b.change = omega (
-        arith,
-        a_end.1,
-        agree.change,
-        add-cases d a.change 1,
-        add-cases d (minus d 1) b.change,
-      ) in
+      let sums : add d t (minus d 1) ≡ add d (add d x (minus d 1)) p.change = grind (arith, add-cases) in
+      let change : a.change ≡ add d (minus d 1) b.change = grind (arith, add-cases) in
       ap (λ q. (read d q rest).word) (ap₂ state agree.word change)
       ∙ sym (read-changed b.word b.change (minus d 1) rest b_end.1 (omega arith) r)
       ∙ ap (λ z. (read d (second_side d p.word z) (next_changed d (minus d 1) rest)).word) sums
@@ -120,7 +103,6 @@ module _ (d : ℕ) (five : 5 ≤ d) where
   keeps-down p (x ∷ turn ∷ rest) v s r e = elim (cases_eq turn 1) [
     | inl one ↦
         let off = minus-one d five in
-        let allowed = rw (one) at e in
         let is : add d x (minus d 1) ∷ minus d 1 ∷ next_changed d (minus d 1) rest ≡ v = cc in
         let minus_below : minus d 1 < d = omega arith in
         rw (← is, one) (
@@ -132,8 +114,7 @@ module _ (d : ℕ) (five : 5 ≤ d) where
 
   pub minus-next : (w : List ℕ) → InRange d w → next_changed d (minus d 1) (next_changed d 1 w) ≡ w
   minus-next [] s = refl
-  minus-next (y ∷ rest) s =
-      ap (λ z. z ∷ rest) (omega (arith, minus-one d five, add-cases d y 1, add-cases d (add d y 1) (minus d 1), s.0))
+  minus-next (y ∷ rest) s = grind (arith, minus-one, add-cases)
 
   -- a push up is a push down read backward
   keeps-up : Keeps d (pushed d true)

@@ -1,5 +1,5 @@
 -- What a flip and a close make of a word that is read from its end, and the steps that they note.
-use Rattle.turn_words.proofs.Common.{◌≡◌, ◌≢◌, ℕ, ◌+◌, ◌-◌, ◌<◌, ◌≤◌, inl, inr, arith, refl, sym, ◌∙◌, ap, ap₂, zero, suc, Bool, true, false, List, [], ◌∷◌, ◌++◌, All, length, reverse, replicate, Option, Some, None, append_assoc, eq-eqb, ne_eqb, append-nil, length-append, length-replicate, length-reverse, in-range-from, in-range-reverse, InRange, IsCons, open-two, open-cases, minus, flip_steps, close_steps, put_steps, pushes, EndsOtherwise, EndsBelow, last_changed, is_open, flipped, closed, with_steps, Step, SpurOut, Push}
+use Rattle.turn_words.proofs.Common.{◌≡◌, ◌≢◌, ℕ, ◌+◌, ◌-◌, ◌<◌, ◌≤◌, inl, inr, arith, refl, sym, ◌∙◌, ap, ap₂, zero, suc, Bool, true, false, List, [], ◌∷◌, ◌++◌, All, length, reverse, replicate, Option, Some, None, append_assoc, eq-eqb, common_steps, append-nil, length-reverse, in-range-from, in-range-reverse, InRange, IsCons, open-two, open-cases, minus, flip_steps, close_steps, put_steps, pushes, EndsOtherwise, EndsBelow, last_changed, is_open, flipped, closed, with_steps, Step, SpurOut, Push}
 use Rattle.turn_words.proofs.RunLists.{cons-behind}
 use Rattle.turn_words.proofs.Table.{flipped-table, closed-table}
 
@@ -12,9 +12,7 @@ with_steps-append (Some s) a b = ap Some (append_assoc s a b)
 pub pushes-next : (o p : Option (List Step)) (up : Bool) (at count : ℕ) → 0 < count → p ≡ with_steps o (Push at up ∷ [])
     → with_steps o (pushes up at count) ≡ with_steps p (pushes up (at - 1) (count - 1))
 pushes-next o p up at zero h e = absurd (omega arith)
-pushes-next o p up at (suc count) h e =
-    let left : count ≡ suc count - 1 = omega arith in
-    sym (with_steps-append o (Push at up ∷ []) (pushes up (at - 1) count)) ∙ ap₂ (λ q n. with_steps q (pushes up (at - 1) n)) (sym e) left
+pushes-next o p up at (suc count) h e = grind (arith, with_steps-append)
 
 -- entries below the degree, read from the end
 back-in-range : (d : ℕ) (w : List ℕ) → All (λ entry. entry < d) w → InRange d (reverse w)
@@ -45,10 +43,7 @@ before-below d c v y w r rest all e split cons =
     go (x ∷ l) c i = i.0
 
 length-behind : (c v x : ℕ) (r : List ℕ) → length (replicate c v ++ x ∷ r) ≡ c + (length r + 1)
-length-behind c v x r =
-    let copies = length-replicate c v in
-    let tail : length (x ∷ r) ≡ length r + 1 = omega arith in
-    length-append (replicate c v) (x ∷ r) ∙ ap₂ ◌+◌ copies tail
+length-behind c v x r = grind (arith, common_steps)
 
 ends-whole : (v x : ℕ) (r : List ℕ) → EndsOtherwise v (x ∷ r) → r ≢ [] → x ≢ v
 ends-whole v x [] ends some = absurd (some refl)
@@ -56,10 +51,7 @@ ends-whole v x (y ∷ r) ends some = ends
 
 -- the spur that is noted
 pub spur-noted : (d t x n : ℕ) (r rest : List ℕ) → t ≡ 0 → r ≡ x ∷ rest → n ≡ length r → SpurOut (n - 1) ∷ [] ≡ put_steps d r t
-spur-noted d t x n r rest none split long =
-    let all = ap length split in
-    let place : n - 1 ≡ length rest = omega arith in
-    ap (λ m. SpurOut m ∷ []) place ∙ sym (ap₂ (put_steps d) split none)
+spur-noted d t x n r rest none split long = grind arith
 
 -- a word whose last entry was changed has one
 pub changed-some : (d by : ℕ) (w v : List ℕ) → reverse v ≡ last_changed d by w → IsCons w → 0 < length v
@@ -79,10 +71,7 @@ module _ (d : ℕ) (five : 5 ≤ d) where
   flip-steps : (k x : ℕ) (r : List ℕ) → (r ≢ [] → x ≢ minus d 2)
       → flip_steps d (replicate k (minus d 2) ++ x ∷ r) ≡ pushes true (k + length r) (suc k)
   flip-steps zero x [] h = refl
-  flip-steps zero x (y ∷ r) h =
-      let zero_more : length (y ∷ r) ≡ 0 + length (y ∷ r) = omega arith in
-      let other = h (λ e. absurd cc) in
-      rw (ne_eqb x (minus d 2) other) (ap (λ n. Push n true ∷ []) zero_more)
+  flip-steps zero x (y ∷ r) h = grind arith
   flip-steps (suc k) x r h =
       let rest = replicate k (minus d 2) ++ x ∷ r in
       let long : length rest ≡ suc k + length r = length-behind k (minus d 2) x r
@@ -140,9 +129,7 @@ module _ (d : ℕ) (five : 5 ≤ d) where
 
   close-steps : (k x : ℕ) (r : List ℕ) → close_steps (replicate k 2 ++ 1 ∷ x ∷ r) ≡ pushes false (k + (length r + 1)) (suc k)
       ++ SpurOut (length r) ∷ []
-  close-steps zero x r =
-      let first : length (x ∷ r) ≡ 0 + (length r + 1) = omega arith in
-      ap (λ n. Push n false ∷ SpurOut (length r) ∷ []) first
+  close-steps zero x r = grind arith
   close-steps (suc k) x r =
       let rest = replicate k 2 ++ 1 ∷ x ∷ r in
       let behind = length-behind k 2 1 (x ∷ r) in

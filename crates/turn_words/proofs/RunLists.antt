@@ -1,5 +1,5 @@
 -- Runs, written out and read from their end.
-use Rattle.turn_words.proofs.Common.{◌≡◌, ◌≢◌, ℕ, ◌+◌, ◌-◌, ◌<◌, ◌≤◌, ◌⊎◌, inl, inr, arith, refl, sym, ◌∙◌, ap, ap₂, zero, suc, List, [], ◌∷◌, ◌++◌, length, reverse, replicate, take, get_or, Option, Some, None, append_assoc, append-nil, reverse-append, length-append, length-replicate, length-reverse, replicate_more, replicate-append-replicate, take_all, take_more, IfSome, IsCons, EndsOtherwise, TopDiffers, written, AreFilled, AreApart}
+use Rattle.turn_words.proofs.Common.{◌≡◌, ◌≢◌, ℕ, ◌+◌, ◌-◌, ◌<◌, ◌≤◌, ◌⊎◌, inl, inr, arith, refl, sym, ◌∙◌, ap, ap₂, zero, suc, List, [], ◌∷◌, ◌++◌, length, reverse, replicate, take, get_or, Option, Some, None, append_assoc, common_steps, append-nil, reverse-append, length-append, length-replicate, length-reverse, replicate_more, replicate-append-replicate, take_all, take_more, IfSome, IsCons, EndsOtherwise, TopDiffers, written, AreFilled, AreApart}
 use Rattle.std.specs.Option.{option_to_list}
 
 -- a run of copies, read from its end
@@ -45,7 +45,6 @@ pub filled-length : (rs : List (ℕ × ℕ)) → AreFilled rs → length rs ≤ 
 filled-length [] f = omega arith
 filled-length (r ∷ rs) f =
     let rest = filled-length rs f.1 in
-    let some = f.0 in
     let long = length-append (replicate r.1 r.0) (written rs) in
     let copies = length-replicate r.1 r.0 in
     omega arith
@@ -88,9 +87,7 @@ back start rs = reverse (start ∷ written rs)
 
 pub back-written : (start : ℕ) (rs ss : List (ℕ × ℕ)) (v c : ℕ) → written ss ≡ written rs ++ replicate c v
     → back start ss ≡ replicate c v ++ back start rs
-back-written start rs ss v c e =
-    ap (λ z. reverse (start ∷ z)) e ∙ reverse-append (start ∷ written rs) (replicate c v)
-    ∙ ap (λ z. z ++ back start rs) (reverse-replicate c v)
+back-written start rs ss v c e = grind (arith, common_steps, written, back, reverse-replicate)
 
 pub back-push : (start : ℕ) (rs : List (ℕ × ℕ)) (r : ℕ × ℕ) → back start (rs ++ r ∷ []) ≡ replicate r.1 r.0 ++ back start rs
 back-push start rs r = back-written start rs (rs ++ r ∷ []) r.0 r.1 (written-push rs r)
@@ -128,18 +125,11 @@ ends-otherwise v start rs f d = elim (from-top rs) [
 -- one value less
 pub written-less : (old mid new : List (ℕ × ℕ)) (v c : ℕ) → old ≡ mid ++ (v, c) ∷ [] → 0 < c → new ≡ mid ++ (v, c - 1) ∷ []
     → written old ≡ written new ++ v ∷ []
-written-less old mid new v c e h first =
-    let whole : c - 1 + 1 ≡ c = omega arith in
-    ap written e ∙ written-push mid (v, c) ∙ ap (λ z. written mid ++ z) (sym (replicate_more (c - 1) v ∙ ap (λ n. replicate n v) whole))
-    ∙ sym (append_assoc (written mid) (replicate (c - 1) v) (v ∷ []))
-    ∙ ap (λ z. z ++ v ∷ []) (sym (ap written first ∙ written-push mid (v, c - 1)))
+written-less old mid new v c e h first = grind (arith, common_steps, written, written-push)
 
 pub apart-less : (old mid new : List (ℕ × ℕ)) (v c : ℕ) → AreApart old → old ≡ mid ++ (v, c) ∷ [] → new ≡ mid ++ (v, c - 1) ∷ []
     → AreApart new
-apart-less old mid new v c a e first =
-    let whole : AreApart (mid ++ (v, c) ∷ []) = rw e at a in
-    let under = apart-front mid (v, c) whole in
-    rw first (apart-push mid (v, c - 1) under.0 under.1)
+apart-less old mid new v c a e first = grind (arith, apart-front, apart-push)
 
 -- a run of one value goes
 pub written-last : (old mid : List (ℕ × ℕ)) (v c : ℕ) → old ≡ mid ++ (v, c) ∷ [] → c ≡ 1 → written old ≡ written mid ++ v ∷ []
@@ -175,16 +165,14 @@ peeled (suc c) zero v a [] na nb h = absurd cc
 peeled (suc c) zero v a (x ∷ b) na nb h = absurd (nb (let q : x ≡ v = cc in q))
 peeled (suc c) (suc e) v a b na nb h =
     let rest : replicate c v ++ a ≡ replicate e v ++ b = cc in
-    let both = peeled c e v a b na nb rest in
-    (ap suc both.0, both.1)
+    let both = peeled c e v a b na nb rest in grind arith
 
 -- a list has one list of runs
 pub one-list : (rs ss : List (ℕ × ℕ)) → AreFilled rs → AreFilled ss → AreApart rs → AreApart ss → written rs ≡ written ss → rs ≡ ss
 one-list [] [] f g a b e = refl
 one-list [] (s ∷ ss) f g a b e =
     let long = filled-length (s ∷ ss) g in
-    let none : length (written (s ∷ ss)) ≡ 0 = ap length (sym e) in
-    absurd (omega arith)
+    let none : length (written (s ∷ ss)) ≡ 0 = ap length (sym e) in grind arith
 one-list (r ∷ rs) [] f g a b e =
     let long = filled-length (r ∷ rs) f in
     let none : length (written (r ∷ rs)) ≡ 0 = ap length e in

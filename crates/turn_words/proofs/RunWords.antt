@@ -1,5 +1,5 @@
 -- A word as it is kept, and what the edits at its end make of it.
-use Rattle.turn_words.proofs.Common.{◌≡◌, ◌≢◌, ℕ, ◌+◌, ◌-◌, ◌<◌, ◌≤◌, ◌^◌, ◌⊎◌, inl, inr, arith, refl, sym, ◌∙◌, ap, ap₂, zero, suc, true, false, eqb, ◌&&◌, List, [], ◌∷◌, ◌++◌, length, reverse, replicate, take, drop, get_or, cases_eq, eq-eqb, ne_eqb, length-append, length-replicate, length-take-le, length_push, get_or-take, take_more, take-append-drop, add-cases, IsCons, open-one, open-two, open-other, add, word_of, IsStoredWord, TopDiffers, is_open, written, AreFilled, AreApart}
+use Rattle.turn_words.proofs.Common.{◌≡◌, ◌≢◌, ℕ, ◌+◌, ◌-◌, ◌<◌, ◌≤◌, ◌^◌, ◌⊎◌, inl, inr, arith, refl, sym, ◌∙◌, ap, ap₂, zero, suc, true, false, eqb, ◌&&◌, List, [], ◌∷◌, ◌++◌, length, reverse, replicate, take, drop, get_or, cases_eq, eq-eqb, ne_eqb, common_steps, length-append, length-take-le, get_or-take, take_more, take-append-drop, add-cases, IsCons, open-one, open-two, open-other, add, word_of, IsStoredWord, TopDiffers, is_open, written, AreFilled, AreApart}
 use Rattle.std.specs.Bool.{Decides}
 use Rattle.turn_words.proofs.RunLists.{cons-behind, written-append, written-push, filled-front, filled-length, apart-push, apart-front, top-differs, differs-top, last-run, back, back-written, back-push, back-cons, back-first, one-list}
 
@@ -14,44 +14,22 @@ reverse-some len start rs h = ap reverse (word-some len start rs h)
 
 -- a word with a run is not empty
 pub some-run : (len : ℕ) (rs : List (ℕ × ℕ)) (r : ℕ × ℕ) → IsStoredWord len (rs ++ r ∷ []) → 0 < len
-some-run len rs r i = elim (cases_eq len 0) [
-  | inl e ↦
-      let none : length (rs ++ r ∷ []) ≡ 0 = ap length (i.none e) in
-      let long = length_push rs r in
-      absurd (omega arith)
-  | inr ne ↦ omega arith
-]
+some-run len rs r i = grind (arith, common_steps)
 
 -- no more runs than entries
 pub runs-few : (len : ℕ) (rs : List (ℕ × ℕ)) → IsStoredWord len rs → AreFilled rs → length rs ≤ len
-runs-few len rs i f = elim (cases_eq len 0) [
-  | inl e ↦ let none : length rs ≡ 0 = ap length (i.none e) in omega arith
-  | inr ne ↦ let long = i.some (omega arith) in let few = filled-length rs f in omega arith
-]
+runs-few len rs i f = grind (arith, filled-length)
 
 -- the length that is kept
 pub word-length : (len start : ℕ) (rs : List (ℕ × ℕ)) → IsStoredWord len rs → length (word_of len start rs) ≡ len
-word-length len start rs i = elim (cases_eq len 0) [
-  | inl e ↦ ap length (word-none len start rs e) ∙ sym e
-  | inr ne ↦
-      let some : 0 < len = omega arith in
-      let long = i.some some in
-      let all : length (start ∷ written rs) ≡ len = omega arith in
-      ap length (word-some len start rs some) ∙ all
-]
+word-length len start rs i = grind (arith, word-none, written, word-some)
 
 stored-made : (len : ℕ) (rs : List (ℕ × ℕ)) → 0 < len → len < 2 ^ 32 → len ≡ length (written rs) + 1 → AreApart rs → IsStoredWord len rs
-stored-made len rs some few long a = record {
-  few = few;
-  none = λ e. absurd (omega arith);
-  some = λ _. long;
-  apart = a;
-}
+stored-made len rs some few long a = grind arith
 
 pub length-written : (rs ss : List (ℕ × ℕ)) (v c : ℕ) → written ss ≡ written rs ++ replicate c v
     → length (written ss) ≡ length (written rs) + c
-length-written rs ss v c e = let copies = length-replicate c v in ap length e ∙ length-append (written rs) (replicate c v)
-    ∙ ap (λ n. length (written rs) + n) copies
+length-written rs ss v c e = grind (arith, common_steps, written)
 
 -- what is left where entries of one value were taken off the end
 pub record TakenOff (len start v c : ℕ) (old new : List (ℕ × ℕ)) : Type 0 where
@@ -61,24 +39,12 @@ pub record TakenOff (len start v c : ℕ) (old new : List (ℕ × ℕ)) : Type 0
 
 pub taken-off : (len start v c : ℕ) (old new : List (ℕ × ℕ)) → IsStoredWord len old → 0 < len → written old ≡ written new
     ++ replicate c v → AreApart new → TakenOff len start v c old new
-taken-off len start v c old new i some e a =
-    let long = i.some some in
-    let few = i.few in
-    let left = length-written new old v c e in
-    record {
-      within = omega arith;
-      stored = stored-made (len - c) new (omega arith) (omega arith) (omega arith) a;
-      word =
-          reverse-some len start old some ∙ back-written start new old v c e
-          ∙ ap (λ z. replicate c v ++ z) (sym (reverse-some (len - c) start new (omega arith)));
-    }
+taken-off len start v c old new i some e a = grind (arith, common_steps, length-written, stored-made, reverse-some, back-written)
 
 -- the last entry, and what is before it
 pub last-of : (len start v c : ℕ) (old mid : List (ℕ × ℕ)) → IsStoredWord len old → old ≡ mid ++ (v, c) ∷ [] → 0 < c
     → reverse (word_of len start old) ≡ v ∷ replicate (c - 1) v ++ back start mid
-last-of len start v c old mid i e h =
-    let stored : IsStoredWord len (mid ++ (v, c) ∷ []) = rw e at i in
-    reverse-some len start old (some-run len mid (v, c) stored) ∙ ap (back start) e ∙ back-first start mid (v, c) h
+last-of len start v c old mid i e h = grind (arith, common_steps, reverse-some, some-run, back, back-first)
 
 -- the last entry was changed
 pub record Changed (len start v x : ℕ) (rest : List ℕ) (new : List (ℕ × ℕ)) : Type 0 where
@@ -91,8 +57,6 @@ pub changed-inside : (len start v x c : ℕ) (old mid one new : List (ℕ × ℕ
     one ≡ mid ++ (v, c - 1) ∷ [] → new ≡ one ++ (x, 1) ∷ [] → Changed len start v x (replicate (c - 1) v ++ back start mid) new
 changed-inside len start v x c old mid one new i e more differs first second =
     let stored : IsStoredWord len (mid ++ (v, c) ∷ []) = rw e at i in
-    let some = some-run len mid (v, c) stored in
-    let long = stored.some some in
     let was = length-written mid (mid ++ (v, c) ∷ []) v c (written-push mid (v, c)) in
     let between = length-written mid (mid ++ (v, c - 1) ∷ []) v (c - 1) (written-push mid (v, c - 1)) in
     let now = length-written one (one ++ (x, 1) ∷ []) x 1 (written-push one (x, 1)) in
@@ -100,41 +64,18 @@ changed-inside len start v x c old mid one new i e more differs first second =
     let apart = apart-front mid (v, c) stored.apart in
     let under : AreApart one = rw first (apart-push mid (v, c - 1) apart.0 apart.1) in
     let top : TopDiffers x one = rw first (top-differs x mid (v, c - 1) differs) in
-    let few = i.few in
-    record {
-      stored = rw second (stored-made len (one ++ (x, 1) ∷ []) some few (omega arith) (apart-push one (x, 1) under top));
-      word =
-          reverse-some len start new some ∙ ap (back start) second ∙ back-push start one (x, 1)
-          ∙ ap (λ z. x ∷ back start z) first ∙ ap (λ z. x ∷ z) (back-push start mid (v, c - 1));
-    }
+    let few = i.few in grind (arith, stored-made, apart-push, reverse-some, back, back-push)
 
 -- the one entry of a run
 pub changed-alone : (len start v x c : ℕ) (old mid new : List (ℕ × ℕ)) → IsStoredWord len old → old ≡ mid ++ (v, c) ∷ [] → c ≡ 1 →
     written new ≡ written mid ++ replicate 1 x → AreApart new → Changed len start v x (replicate (c - 1) v ++ back start mid) new
 changed-alone len start v x c old mid new i e one is a =
-    let stored : IsStoredWord len (mid ++ (v, c) ∷ []) = rw e at i in
-    let some = some-run len mid (v, c) stored in
-    let long = stored.some some in
-    let was = length-written mid (mid ++ (v, c) ∷ []) v c (written-push mid (v, c)) in
-    let now = length-written mid new x 1 is in
-    let few = i.few in
-    let none : c - 1 ≡ 0 = omega arith in
-    record {
-      stored = stored-made len new some few (omega arith) a;
-      word =
-          reverse-some len start new some ∙ back-written start mid new x 1 is
-          ∙ ap (λ n. x ∷ replicate n v ++ back start mid) (sym none);
-    }
+    grind (arith, common_steps, some-run, length-written, written-push, stored-made, reverse-some, back-written, back)
 
 -- the word under a run of 1 has room for another run
 pub under-short : (len v c : ℕ) (old mid : List (ℕ × ℕ)) → IsStoredWord len old → old ≡ mid ++ (v, c) ∷ [] → 0 < c
     → length (written mid) + 1 < 2 ^ 32
-under-short len v c old mid i e h =
-    let stored : IsStoredWord len (mid ++ (v, c) ∷ []) = rw e at i in
-    let long = stored.some (some-run len mid (v, c) stored) in
-    let was = length-written mid (mid ++ (v, c) ∷ []) v c (written-push mid (v, c)) in
-    let few = i.few in
-    omega arith
+under-short len v c old mid i e h = grind (arith, common_steps, some-run, length-written, written-push)
 
 pub under-apart : (len v c : ℕ) (old mid : List (ℕ × ℕ)) → IsStoredWord len old → old ≡ mid ++ (v, c) ∷ [] → AreApart mid
 under-apart len v c old mid i e = let stored : IsStoredWord len (mid ++ (v, c) ∷ []) = rw e at i in (apart-front mid (v, c) stored.apart).0
@@ -179,9 +120,7 @@ module _ (len start : ℕ) (rs : List (ℕ × ℕ)) (i : IsStoredWord len rs) (f
   open-at-none not_one not_two = sym (seen ∙ open-other top.0 (replicate (top.1 - 1) top.0 ++ back start below) not_one not_two)
 
   under-twos : top.0 ≡ 2 → is_open (reverse (word_of len start rs)) ≡ is_open (back start below)
-  under-twos two =
-      ap is_open (end ∙ back-push start below top) ∙ ap (λ n. is_open (replicate top.1 n ++ back start below)) two
-      ∙ open-twos top.1 (back start below) (back-cons start below)
+  under-twos two = grind (arith, common_steps, back-push, back, open-twos, back-cons)
 
   pub open-at-start : top.0 ≡ 2 → length rs < 2 → false ≡ is_open (reverse (word_of len start rs))
   open-at-start two short =
@@ -216,27 +155,13 @@ module _ (len start : ℕ) (rs : List (ℕ × ℕ)) (i : IsStoredWord len rs) (f
 -- two words that are kept alike are equal
 pub same-words : (len other start first : ℕ) (rs ss : List (ℕ × ℕ)) → len ≡ other → (len ≡ 0) ⊎ (start ≡ first) → rs ≡ ss
     → word_of len start rs ≡ word_of other first ss
-same-words len other start first rs ss long begins runs =
-    ap₂ (λ n z. word_of n start z) long runs ∙ elim begins [
-      | inl none ↦ word-none other start ss (sym long ∙ none) ∙ sym (word-none other first ss (sym long ∙ none))
-      | inr same ↦ ap (λ n. word_of other n ss) same
-    ]
+same-words len other start first rs ss long begins runs = grind (arith, word-none)
 
 -- equal words are kept alike
 pub same-runs : (len other start first : ℕ) (rs ss : List (ℕ × ℕ)) → IsStoredWord len rs → IsStoredWord other ss → AreFilled rs
     → AreFilled ss →
     word_of len start rs ≡ word_of other first ss → (len ≡ other) × ((len ≡ 0) ⊎ (start ≡ first)) × (rs ≡ ss)
-same-runs len other start first rs ss i j f g e =
-    let long : len ≡ other = sym (word-length len start rs i) ∙ ap length e ∙ word-length other first ss j in
-    elim (cases_eq len 0) [
-      | inl none ↦ (long, inl none, i.none none ∙ sym (j.none (sym long ∙ none)))
-      | inr ne ↦
-          let whole : start ∷ written rs ≡ first ∷ written ss =
-          sym (word-some len start rs (omega arith)) ∙ e ∙ word-some other first ss (omega arith) in
-          let begins : start ≡ first = cc in
-          let turns : written rs ≡ written ss = cc in
-          (long, inr begins, one-list rs ss f g i.apart j.apart turns)
-    ]
+same-runs len other start first rs ss i j f g e = grind (arith, word-length, written, word-some, one-list)
 
 -- the runs written out, one run on
 pub written-next : (rs : List (ℕ × ℕ)) (k : ℕ) → k < length rs → written (take (k + 1) rs) ≡ written (take k rs)
@@ -249,8 +174,7 @@ written-within rs k h =
     let next = length-written (take k rs) (take (k + 1) rs) (get_or rs k (0, 0)).0 (get_or rs k (0, 0)).1 (written-next rs k h) in
     let whole : length (written rs) ≡ length (written (take (k + 1) rs)) + length (written (drop (k + 1) rs)) =
     ap (λ z. length (written z)) (sym (take-append-drop (k + 1) rs)) ∙ ap length (written-append (take (k + 1) rs) (drop (k + 1) rs))
-    ∙ length-append (written (take (k + 1) rs)) (written (drop (k + 1) rs)) in
-    omega arith
+    ∙ length-append (written (take (k + 1) rs)) (written (drop (k + 1) rs)) in grind arith
 
 -- no run is empty
 pub filled-at : (rs : List (ℕ × ℕ)) (k : ℕ) → AreFilled rs → k < length rs → 0 < (get_or rs k (0, 0)).1

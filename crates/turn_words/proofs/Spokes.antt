@@ -1,5 +1,5 @@
 -- A list of spokes leads to the canonical word of its turn word, and the steps that are noted along it lead there too.
-use Rattle.turn_words.proofs.Common.{◌≡◌, ℕ, ◌+◌, ◌%◌, ◌==◌, ◌<◌, ◌⊎◌, inl, inr, arith, refl, sym, ◌∙◌, ap, ap₂, Bool, true, false, not, List, [], ◌∷◌, ◌++◌, All, length, reverse, slice_index, Some, cases_eq, eq-eqb, ne_eqb, append-nil, IsCanonicalOf, IsTurnWord, led, NotesAlong, HyperState, empty_state, value_at, turn_to, put_spoke, hyper_next, IsHyperWheel, BelongsTo, LeadOn, in-range-from, all-from, good_word, turn_below, next_belongs, length-next, hyper_starts, InRange, put-good, add-cases, minus-cases, add-lt, minus-lt, add, minus, put_steps, put, place_round, turns_after, turn_word_of, turns_from, next_changed, after_steps, IsWheel, Step}
+use Rattle.turn_words.proofs.Common.{◌≡◌, ℕ, ◌+◌, ◌%◌, ◌==◌, ◌<◌, ◌⊎◌, arith, refl, sym, ◌∙◌, ap, Bool, true, false, not, List, [], ◌∷◌, ◌++◌, All, length, reverse, Some, eq-eqb, ne_eqb, append-nil, IsCanonicalOf, IsTurnWord, led, NotesAlong, HyperState, empty_state, value_at, turn_to, put_spoke, hyper_next, IsHyperWheel, BelongsTo, LeadOn, in-range-from, all-from, good_word, turn_below, next_belongs, length-next, hyper_starts, InRange, put-good, add-cases, minus-cases, add-lt, minus-lt, add, minus, put_steps, put, place_round, turns_after, turn_word_of, turns_from, next_changed, after_steps, IsWheel, Step}
 use Rattle.turn_words.proofs.Reaching.{IsNextBelow, next-below, after_steps-append}
 use Rattle.turn_words.proofs.Acts.{puts-lead}
 
@@ -25,10 +25,7 @@ word-in-range places (i ∷ spokes) wheel s = (wheel.inside i s.0, turns-in-rang
 
 pub turns : (places spokes : List ℕ) → IsHyperWheel places → All (λ spoke. spoke < length places) spokes
     → IsTurnWord (length places) (turn_word_of places spokes)
-turns places spokes own s = record {
-  five = own.five;
-  in_range = all-from (length places) _ (word-in-range places spokes own.wheel (in-range-from (length places) spokes s));
-}
+turns places spokes own s = grind (arith, all-from, word-in-range, in-range-from)
 
 -- where a word stands: at the vertex or in the middle
 abbrev pub Stands : List ℕ → Bool → Type 0
@@ -41,10 +38,7 @@ stands-is word false e = ne_eqb (length word % 2) 0 (λ zero. absurd (omega arit
 
 -- each word stands somewhere
 stands : (word : List ℕ) → Stands word (length word % 2 == 0)
-stands word = elim (cases_eq (length word % 2) 0) [
-  | inl e ↦ rw (eq-eqb (length word % 2) 0 e) e
-  | inr e ↦ rw (ne_eqb (length word % 2) 0 e) (omega arith)
-]
+stands word = grind arith
 
 stands-value : (places word : List ℕ) (at_vertex : Bool) (i : ℕ) → Stands word at_vertex
     → value_at places word i ≡ place_round places at_vertex i
@@ -57,18 +51,7 @@ stands-next w v false e h = omega arith
 
 -- the turn against the number is the turn against the last spoke, changed
 turned : (d v l n : ℕ) → v < d → l < d → n < d → add d v (minus d (add d l (minus d n))) ≡ add d (add d v (minus d l)) n
-turned d v l n hv hl hn =
-    let inner = add-lt d l (minus d n) hl (minus-lt d n hn) in
-    omega (
-      arith,
-      minus-cases d n hn,
-      minus-cases d l hl,
-      add-cases d l (minus d n),
-      minus-cases d (add d l (minus d n)) inner,
-      add-cases d v (minus d (add d l (minus d n))),
-      add-cases d v (minus d l),
-      add-cases d (add d v (minus d l)) n,
-    )
+turned d v l n hv hl hn = grind (arith, add-lt, minus-lt, minus-cases, add-cases)
 
 -- a state whose number is counted from the last spoke reads the turns after it
 pub record Counts (places : List ℕ) (s : HyperState) (at_vertex : Bool) (last n : ℕ) : Type 0 where
@@ -90,8 +73,7 @@ counts-next places s at_vertex i b stands below =
       last_below = below;
       n_below = (put-good (length places) b.own.five (reverse s.word) (turn_to places s i) (good_word places s b)
           (turn_below places s i b below)).1;
-      number = ap (λ v. add (length places) v (minus (length places) (put (length places) (reverse s.word) (turn_to places s i)).change))
-          (stands-value places (hyper_next places s i).word (not at_vertex) i next_stands);
+      number = grind (arith, put, stands-value);
     }
 
 -- the turn after the last spoke, changed, is the turn against the number
@@ -99,21 +81,14 @@ pub counts-turn : (places : List ℕ) (s : HyperState) (at_vertex : Bool) (last 
     → i < length places →
     add (length places) (add (length places) (place_round places at_vertex i)
     (minus (length places) (place_round places at_vertex last))) n ≡ turn_to places s i
-counts-turn places s at_vertex last n i c below =
-    let d = length places in
-    let wheel = c.belongs.own.wheel in
-    sym (ap₂ (λ v m. add d v (minus d m)) (stands-value places s.word at_vertex i c.stands) c.number
-    ∙ turned d (place_round places at_vertex i) (place_round places at_vertex last) n (place-below places at_vertex i wheel below)
-    (place-below places at_vertex last wheel c.last_below) c.n_below)
+counts-turn places s at_vertex last n i c below = grind (arith, stands-value, turned, place-below)
 
 -- the turns after the last spoke, the first of them changed, are those from the state
 counts-from : (places : List ℕ) (s : HyperState) (at_vertex : Bool) (last n : ℕ) (spokes : List ℕ) → Counts places s at_vertex last n
     → InRange (length places) spokes →
     next_changed (length places) n (turns_after places at_vertex last spokes) ≡ turns_from places s spokes
 counts-from places s at_vertex last n [] c range = refl
-counts-from places s at_vertex last n (i ∷ spokes) c range =
-    ap₂ (λ t a. t ∷ turns_after places (not a) i spokes) (counts-turn places s at_vertex last n i c range.0)
-    (sym (stands-is s.word at_vertex c.stands))
+counts-from places s at_vertex last n (i ∷ spokes) c range = grind (arith, counts-turn, stands-is)
 
 -- the steps of a spoke lead on, in front of the turns of those that come next
 lead-front : (places : List ℕ) (s : HyperState) (i : ℕ) (steps : List Step) (w : List ℕ) → LeadOn places s i steps
@@ -127,15 +102,7 @@ lead-to-next : (places : List ℕ) (s : HyperState) (i : ℕ) (spokes : List ℕ
     → InRange (length places) (i ∷ spokes) → LeadOn places s i steps →
     after_steps (length places) steps (s.word ++ turns_from places s (i ∷ spokes))
     ≡ Some ((hyper_next places s i).word ++ turns_from places (hyper_next places s i) spokes)
-lead-to-next places s i spokes steps b range l =
-    let d = length places in
-    let at_vertex = length s.word % 2 == 0 in
-    let later = turns_after places (not at_vertex) i spokes in
-    let below = next-below d later (turns-in-range places (not at_vertex) i spokes b.own.wheel range.0 range.1) in
-    let counts = counts-next places s at_vertex i b (stands s.word) range.0 in
-    lead-front places s i steps later l below
-    ∙ ap (λ w. Some ((hyper_next places s i).word ++ w))
-    (counts-from places (hyper_next places s i) (not at_vertex) i (put_spoke places s i).change spokes counts range.1)
+lead-to-next places s i spokes steps b range l = grind (arith, next-below, turns-in-range, counts-next, stands, lead-front, counts-from)
 
 -- the steps that are noted along spokes lead from the state's word, with their turns behind it, to the word of the last state
 pub along : (places : List ℕ) (s : HyperState) (spokes : List ℕ) (steps : List Step) → BelongsTo places s
@@ -166,20 +133,13 @@ leads places s (i ∷ spokes) b range =
 turn-word-from : (places spokes : List ℕ) → IsHyperWheel places → InRange (length places) spokes
     → turns_from places empty_state spokes ≡ turn_word_of places spokes
 turn-word-from places [] own range = refl
-turn-word-from places (i ∷ spokes) own range =
-    let d = length places in
-    let inside = own.wheel.inside i range.0 in
-    let zero_below : 0 < d = omega arith in
-    ap (λ t. t ∷ turns_after places false i spokes)
-    (omega (arith, minus-cases d 0 zero_below, add-cases d (slice_index places i) (minus d 0)))
+turn-word-from places (i ∷ spokes) own range = grind (arith, minus-cases, add-cases)
 
 pub notes-lead : (places spokes : List ℕ) (steps : List Step) → IsHyperWheel places → All (λ spoke. spoke < length places) spokes →
     NotesAlong hyper_next LeadOn places empty_state spokes steps
     → after_steps (length places) steps (turn_word_of places spokes) ≡ Some (led hyper_next places empty_state spokes).word
 notes-lead places spokes steps own all notes =
-    let range = in-range-from (length places) spokes all in
-    rw (← turn-word-from places spokes own range)
-    (along places empty_state spokes steps (hyper_starts.belongs places own) range notes)
+    let range = in-range-from (length places) spokes all in grind (arith, turn-word-from, along)
 
 pub canonical : (places spokes : List ℕ) → IsHyperWheel places → All (λ spoke. spoke < length places) spokes →
     IsCanonicalOf (length places) (turn_word_of places spokes) (led hyper_next places empty_state spokes).word

@@ -1,14 +1,11 @@
 -- The table of the five cases, with the word written from its start.
-use Rattle.turn_words.proofs.Common.{◌≡◌, ◌≢◌, ℕ, ◌≤◌, inl, inr, refl, sym, ◌∙◌, ap, ap₂, zero, suc, true, List, [], ◌∷◌, ◌++◌, reverse, replicate, append_assoc, cases_Bool, reverse-append, reverse-reverse, reverse-cons, Follows, IsCons, open-cases, open-two, flipped-run, flipped-end, closed-two, put-flip, put-close, put-else, add, minus, Put, is_open, flipped, closed, put, put_last}
+use Rattle.turn_words.proofs.Common.{arith, ◌≡◌, ◌≢◌, ℕ, ◌≤◌, inl, inr, refl, sym, ◌∙◌, ap, ap₂, zero, suc, true, List, [], ◌∷◌, ◌++◌, reverse, replicate, append_assoc, cases_Bool, common_steps, reverse-append, reverse-reverse, reverse-cons, Follows, IsCons, open-cases, open-two, flipped-run, flipped-end, closed-two, put-flip, put-close, put-else, add, minus, Put, is_open, flipped, closed, put, put_last}
 use Rattle.turn_words.specs.FiveCases.{FiveCases}
 use Rattle.turn_words.proofs.RunLists.{reverse-replicate}
 
 -- a front, an entry and a run, read from the end
 reverse-run : (v : List ℕ) (x k y : ℕ) → reverse (v ++ x ∷ replicate k y) ≡ replicate k y ++ x ∷ reverse v
-reverse-run v x k y =
-    reverse-append v (x ∷ replicate k y) ∙ ap (λ z. z ++ reverse v)
-    (reverse-cons x (replicate k y) ∙ ap (λ z. z ++ (x ∷ [])) (reverse-replicate k y))
-    ∙ append_assoc (replicate k y) (x ∷ []) (reverse v)
+reverse-run v x k y = grind (arith, common_steps, reverse-cons, reverse-replicate)
 
 reverse-bracket : (v : List ℕ) (x z k y : ℕ) → reverse (v ++ x ∷ z ∷ replicate k y) ≡ replicate k y ++ z ∷ x ∷ reverse v
 reverse-bracket v x z k y =
@@ -62,8 +59,7 @@ module _ (d : ℕ) (five : 5 ≤ d) where
   -- a put from the end, seen from the start
   seen : (w u v : List ℕ) (t n : ℕ) → put d (reverse w) t ≡ record { word = u; change = n } → reverse v ≡ u
       → put_last d w t ≡ record { word = v; change = n }
-  seen w u v t n e back =
-      ap (λ q. record_put (reverse q.word) q.change) e ∙ ap (λ z. record_put z n) (ap reverse (sym back) ∙ reverse-reverse v)
+  seen w u v t n e back = grind (arith, common_steps)
 
   pub five_cases : FiveCases d
   five_cases = record {

@@ -1,5 +1,5 @@
 -- What a recorder tells after more steps were noted, one after another.
-use Rattle.turn_words.proofs.Common.{◌≡◌, sym, ◌∙◌, ap, subst, List, [], ◌++◌, Option, Some, None, append_assoc, with_steps, TellsMore, Step}
+use Rattle.turn_words.proofs.Common.{arith, ◌≡◌, sym, subst, List, ◌++◌, Option, Some, None, common_steps, with_steps, TellsMore, Step}
 
 -- steps are noted
 pub tells-steps : (Such : List Step → Type 0) (o p : Option (List Step)) (steps : List Step) → p ≡ with_steps o steps → Such steps
@@ -13,18 +13,12 @@ pub tells-both : (A B C : List Step → Type 0) (o p q : Option (List Step)) →
 tells-both A B C None None q first second h = second
 tells-both A B C None (Some s) q first second h = absurd cc
 tells-both A B C (Some s) None q first second h = absurd (let e = first.1 in cc)
-tells-both A B C (Some s) (Some t) q first second h = (
-  first.0 ++ second.0,
-  second.1 ∙ (let is : t ≡ s ++ first.0 = let e = first.1 in cc in ap (λ u. Some (u ++ second.0)) is)
-      ∙ ap Some (append_assoc s first.0 second.0),
-  h first.0 second.0 first.2 second.2,
-)
+tells-both A B C (Some s) (Some t) q first second h = grind (arith, common_steps)
 
 -- steps are noted by `with_steps` after others
 pub tells-on : (o p q : Option (List Step)) (steps : List Step) → TellsMore (λ _. Unit {0}) o p → q ≡ with_steps p steps
     → TellsMore (λ _. Unit {0}) o q
-tells-on o p q steps t e =
-    tells-both (λ _. Unit {0}) (λ _. Unit {0}) (λ _. Unit {0}) o p q t (tells-steps (λ _. Unit {0}) p q steps e tt) (λ a b x y. tt)
+tells-on o p q steps t e = grind (arith, common_steps, tells-both, tells-steps)
 
 -- what is told stays the same
 pub tells-still : (o p q : Option (List Step)) → TellsMore (λ _. Unit {0}) o p → q ≡ p → TellsMore (λ _. Unit {0}) o q

@@ -1,5 +1,5 @@
 -- A turn word reaches one canonical word: the one that is left when its entries are put one after another.
-use Rattle.turn_words.proofs.Common.{◌≡◌, ◌↔◌, ℕ, ◌+◌, ◌<◌, ◌≤◌, arith, refl, sym, ◌∙◌, ap, ap₂, subst, zero, suc, List, [], ◌∷◌, ◌++◌, All, length, reverse, take, get_or, reverse-reverse, take_more, take_all, IsCanonical, IsCanonicalOf, IsTurnWord, canonical-from, good-from-canonical, in-range-from, InRange, IsGood, add, put, Reaches}
+use Rattle.turn_words.proofs.Common.{◌≡◌, ◌↔◌, ℕ, ◌+◌, ◌<◌, ◌≤◌, arith, refl, sym, ◌∙◌, ap, ap₂, subst, zero, suc, List, [], ◌∷◌, ◌++◌, All, length, reverse, take, get_or, common_steps, reverse-reverse, take_more, IsCanonical, IsCanonicalOf, IsTurnWord, canonical-from, good-from-canonical, in-range-from, InRange, IsGood, add, put, Reaches}
 use Rattle.turn_words.proofs.Reading.{read, IsSound, state}
 use Rattle.turn_words.proofs.Backward.{both-ways}
 use Rattle.turn_words.proofs.Reaching.{reached-good, left-reached, read-sound, start-sound, after_steps-append, read-append}
@@ -84,5 +84,4 @@ reads-more d w i items new change turn next t lt f turn_is new_is next_is longer
     }
 
 pub reads-end : (d : ℕ) (w : List ℕ) (i : ℕ) (items : List ℕ) (change : ℕ) → i ≡ length w → ReadsTo d w i items change → items ≡ left d w
-reads-end d w i items change e f =
-    sym (reverse-reverse items) ∙ ap (λ q. reverse q.word) (sym (ap (read d (state [] 0)) (sym (take_all i w (omega arith))) ∙ f.left_is))
+reads-end d w i items change e f = grind (arith, common_steps, read)

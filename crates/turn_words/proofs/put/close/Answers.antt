@@ -25,11 +25,7 @@ change_last-requires-clause-below g c =
     c.requires.in_range c.take_run-twos.ensures.word c.pop.ensures.word (some g (goal.at.change_last-requires-clause-below g c).After-pop)
 
 pub change_last-requires-clause-by : goal.change_last-requires-clause-by
-change_last-requires-clause-by g c =
-    let one = minus-one c.args.degree c.requires.degree in
-    let is = c.negative_modulo.ensures.negative in
-    let five = c.requires.degree in
-    (omega arith, omega arith)
+change_last-requires-clause-by g c = grind (arith, minus-one)
 
 pub push_run-requires-clause-some : goal.push_run-requires-clause-some
 push_run-requires-clause-some g c =

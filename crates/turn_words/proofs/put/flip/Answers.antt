@@ -1,11 +1,9 @@
-use Rattle.turn_words.proofs.Common.{◌≡◌, ◌∙◌, ap, sym, subst, ◌++◌, reverse, replicate, length-reverse, minus, EndsOtherwise}
+use Rattle.turn_words.proofs.Common.{arith, ◌≡◌, ◌∙◌, ap, sym, subst, ◌++◌, reverse, replicate, length-reverse, minus, EndsOtherwise}
 use Rattle.turn_words.proofs.Rewrites.{behind-below, flip-written, flip-noted}
 use Rattle.turn_words.proofs.put.flip.Goals as goal
 
 pub change_last-requires-clause-below : goal.change_last-requires-clause-below
-change_last-requires-clause-below g c =
-    behind-below c.args.degree c.take_run-twos.result c.negative_modulo.result c.args.word.now.word
-    (reverse c.take_run-twos.new.self.word) c.requires.in_range c.take_run-twos.ensures.word c.take_run-twos.ensures.whole
+change_last-requires-clause-below g c = grind (arith, behind-below)
 
 pub returns-clause-word : goal.returns-clause-word
 returns-clause-word g c =

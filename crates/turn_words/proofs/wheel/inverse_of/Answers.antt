@@ -20,14 +20,11 @@ loop-spoke-preserved c =
       | else-index-degree+then-place-twice w ↦ let differs =
           w.if-index-degree.false in rw (w.spokes-is, w.twice-is)
           (filling-twice places c.requires.inside i spokes c.loop-spoke.twice below f (omega arith) w.if-place-twice.true)
-      | else-index-degree+else-place-twice w ↦ let differs =
-          w.if-index-degree.false in rw (w.spokes-is, w.twice-is)
+      | else-index-degree+else-place-twice w ↦ rw (w.spokes-is, w.twice-is)
           (filling-same places c.requires.inside i spokes c.loop-spoke.twice below f (omega arith) w.if-place-twice.false)
     ]
 
 pub returns-clause-inverse : goal.returns-clause-inverse
 returns-clause-inverse c =
-    let same : length c.args.places.now ≡ c.loop-spoke.spoke = omega arith in
-    let f : Filling c.args.places.now (length c.args.places.now) c.loop-spoke.spokes.items c.loop-spoke.twice =
-    rw same c.loop-spoke.invariant in
+    let f : Filling c.args.places.now (length c.args.places.now) c.loop-spoke.spokes.items c.loop-spoke.twice = grind arith in
     filled-inverse c.args.places.now c.requires.inside c.loop-spoke.spokes.items c.loop-spoke.twice f c.if-twice-degree.false

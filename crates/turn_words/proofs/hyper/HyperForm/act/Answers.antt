@@ -1,16 +1,10 @@
-use Rattle.turn_words.proofs.Common.{arith, ◌≡◌, ◌∙◌, ap, ap₂, sym, length, reverse, HyperView, turn_to, value_at, add, minus, put_steps, rewrite_steps, put, with_steps}
+use Rattle.turn_words.proofs.Common.{arith, ◌≡◌, ◌∙◌, ap, ap₂, length, reverse, HyperView, turn_to, value_at, add, minus, put}
 use Rattle.turn_words.proofs.Acts.{notes-put, change-below, belongs-next}
 use Rattle.turn_words.proofs.hyper.HyperForm.act.Goals as goal
 use Rattle.turn_words.proofs.hyper.HyperForm.act.Goals.{After-sum_modulo-turn, After-put_uncounted-put}
 
 turn : (g : _) (c : After-sum_modulo-turn g) → c.sum_modulo-turn.result ≡ turn_to c.args.wheel.now c.args.self.now.state c.args.spoke.0
-turn g c =
-    let places = c.args.wheel.now in
-    let degree = c.degree-degree.ensures.degree in
-    let word = ap (λ (v : HyperView). v.state.word) c.self.view_is in
-    c.sum_modulo-turn.ensures.sum ∙ ap (λ d. add d c.value_of.result c.negative_modulo-before.result) degree
-    ∙ ap₂ (add (length places)) (c.value_of.ensures.value ∙ ap (λ w. value_at places w c.args.spoke.0) word)
-    (c.negative_modulo-before.ensures.negative ∙ ap₂ minus degree (ap (λ (v : HyperView). v.state.number) c.self.view_is))
+turn g c = grind arith
 
 -- the word to which the turn is put
 before : (g : _) (c : After-put_uncounted-put g) → c.reserve.new.self.word ≡ c.args.self.now.state.word
@@ -18,32 +12,13 @@ before g c = c.in_ok-reserve.ensures.word ∙ ap (λ (v : HyperView). v.state.wo
 
 change : (g : _) (c : After-put_uncounted-put g) →
     c.put_uncounted-put.result.change ≡ (put (length c.args.wheel.now) (reverse c.args.self.now.state.word) c.sum_modulo-turn.result).change
-change g c =
-    c.put_uncounted-put.ensures.change ∙ ap₂ (λ d w. (put d (reverse w) c.sum_modulo-turn.result).change) c.degree-degree.ensures.degree
-    (before g c)
+change g c = grind (arith, put, before)
 
 pub negative_modulo-requires : goal.negative_modulo-requires
-negative_modulo-requires g c =
-    let turned = turn g (goal.at.negative_modulo-requires g c).After-sum_modulo-turn in
-    let below = change-below c.args.wheel.now c.args.self.now.state c.args.spoke.0 c.sum_modulo-turn.result c.requires.belongs
-    c.requires.spoke turned in
-    let degree = c.degree-degree.ensures.degree in
-    let changed = change g (goal.at.negative_modulo-requires g c).After-put_uncounted-put in
-    omega arith
+negative_modulo-requires g c = grind (arith, turn, change-below, change)
 
 pub returns-clause-notes : goal.returns-clause-notes
-returns-clause-notes g c =
-    let places = c.args.wheel.now in
-    let state = c.args.self.now.state in
-    let turned = turn g (goal.at.returns-clause-notes g c).After-sum_modulo-turn in
-    let steps : rewrite_steps c.len-len.result c.put_uncounted-put.result.rewrite ≡ put_steps (length places) (reverse state.word)
-    c.sum_modulo-turn.result =
-    ap (λ n. rewrite_steps n c.put_uncounted-put.result.rewrite) (c.len-len.ensures.length ∙ ap length (sym c.in_ok-reserve.ensures.word))
-    ∙ c.put_uncounted-put.ensures.rewrite ∙ ap₂ (λ d w. put_steps d (reverse w) c.sum_modulo-turn.result) c.degree-degree.ensures.degree
-    (before g (goal.at.returns-clause-notes g c).After-put_uncounted-put) in
-    notes-put places state c.args.spoke.0 c.sum_modulo-turn.result (g.R.Recorder.noted c.args.recorder.now)
-    (g.R.Recorder.noted c.note_rewrite.new.recorder) c.requires.belongs turned
-    (c.in_ok-note_rewrite.ensures.noted ∙ ap (with_steps (g.R.Recorder.noted c.args.recorder.now)) steps)
+returns-clause-notes g c = grind (arith, turn, before, notes-put)
 
 pub returns-clause-belongs : goal.returns-clause-belongs
 returns-clause-belongs g c =
