@@ -1,5 +1,5 @@
 -- Edits of a list that is cut in three, and of one whose entries move to another.
-use Rattle.segmented_pool.proofs.Common.{inserted, cut, spliced, ◌≡◌, ℕ, ◌+◌, ◌-◌, ◌<◌, ◌≤◌, List, ◌∷◌, ◌++◌, length, take, drop, get_or, refl, sym, ap, ◌∙◌, arith, append_assoc, get_or-append, common_steps, take-append-le, drop-append-le, get_or-append-add, length-take-le, drop-drop}
+use Rattle.segmented_pool.proofs.Common.{inserted, cut, spliced, ◌≡◌, ℕ, ◌+◌, ◌-◌, ◌<◌, ◌≤◌, List, ◌∷◌, ◌++◌, length, take, drop, get_or, sym, ap, ◌∙◌, arith, append_assoc, get_or-append, common_steps, take-append-le, drop-append-le, get_or-append-add, length-take-le, drop-drop}
 use Rattle.std.proofs.Math.Seq.{take-append-add, drop-append-add, take-append_seam, drop-append_seam}
 
 module _ (a p b : List ℕ) where
@@ -40,8 +40,7 @@ module _ (list : List ℕ) (place : ℕ) (within : place ≤ length list) where
       ap (λ (k : ℕ). take k (take place list ++ drop to list)) (sym len) ∙ take-append_seam (take place list) (drop to list) in
       let second : drop (place + more) (take place list ++ drop to list) ≡ drop (to + more) list =
       ap (λ (k : ℕ). drop (k + more) (take place list ++ drop to list)) (sym len)
-      ∙ drop-append-add (take place list) (drop to list) more ∙ drop-drop more to list in
-      rw (first, second) refl
+      ∙ drop-append-add (take place list) (drop to list) more ∙ drop-drop more to list in grind arith
 
 -- one entry more of another list goes in behind the last one
 pub inserted_last : (list : List ℕ) (n value : ℕ) → n < length list → get_or list n 0 ≡ value

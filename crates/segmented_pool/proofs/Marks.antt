@@ -27,11 +27,7 @@ mark_before ps mark next is i s = grind (arith, common_steps, add-one, length_mo
 
 -- a segment that has entries before it is not the first one
 pub some_before : (ps : List (List ℕ)) (mark : Mark) → IsMark ps mark → 0 < mark.start → 0 < mark.index
-some_before ps mark is lt = positive mark.index (omega (arith, is.start))
-  where
-    positive : (k : ℕ) → 0 < length (concat (take k ps)) → 0 < k
-    positive zero h = absurd (omega arith)
-    positive (suc k) h = omega arith
+some_before ps mark is lt = grind arith
 
 pub mark_stays : (old new : List (List ℕ)) (mark : Mark) → IsMark old mark → take mark.index new ≡ take mark.index old
     → mark.index < length new → IsMark new mark

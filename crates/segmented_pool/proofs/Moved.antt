@@ -1,5 +1,5 @@
 -- Entries that go from one chain of a pool to another.
-use Rattle.segmented_pool.proofs.Common.{list_is, list_under-is, Chains, under, IsUnder, IsEdit, list_under, inserted, cut, ◌≡◌, ◌≢◌, ℕ, ◌+◌, ◌-◌, ◌<◌, ◌≤◌, List, [], ◌++◌, length, take, drop, get_or, Option, Some, None, is_some, sym, ap, ◌∙◌, arith, common_steps, length-drop, get_or-drop, take-append-drop}
+use Rattle.segmented_pool.proofs.Common.{list_under-is, Chains, under, IsUnder, IsEdit, list_under, inserted, cut, ◌≡◌, ◌≢◌, ℕ, ◌+◌, ◌-◌, ◌<◌, ◌≤◌, List, [], ◌++◌, length, take, drop, get_or, Option, Some, None, is_some, sym, ap, ◌∙◌, arith, common_steps, length-drop, get_or-drop, take-append-drop}
 use Rattle.segmented_pool.proofs.Lists.{entry_behind_cut, cut_again, inserted_last}
 
 -- so many entries from a place of a chain on lie in another chain, which was none before
@@ -18,19 +18,9 @@ pub moved_none : (old new : Chains) (name taken place : ℕ) → IsUnder old.lis
     → IsEdit old.lists new.lists taken (Some []) → new.spare + 1 ≡ old.spare → IsMoved old new name taken place 0
 moved_none old new name taken place is_live none edit spare =
     let list = list_under old.lists name in
-    let has : under old.lists name ≡ Some list = list_is old.lists name is_live in
-    let ne : name ≢ taken = λ e. let both = sym none ∙ ap (λ (k : ℕ). under old.lists k) (sym e) ∙ has in cc in
     let same : place + 0 ≡ place = omega arith in
     let all : take place list ++ drop (place + 0) list ≡ list = ap (λ (k : ℕ). take place list ++ drop k list) same
-    ∙ take-append-drop place list in
-    record {
-      was = none;
-      apart = ne;
-      here = edit.others name ne ∙ has ∙ ap (λ (l : List ℕ). Some l) (sym all);
-      there = edit.here;
-      others = λ other a b. edit.others other b;
-      spare = spare;
-    }
+    ∙ take-append-drop place list in grind arith
 
 module _ (old new : Chains) (name taken place moved : ℕ) (is : IsMoved old new name taken place moved) where
   abbrev list : List ℕ
@@ -51,8 +41,7 @@ module _ (old new : Chains) (name taken place moved : ℕ) (is : IsMoved old new
       → IsMoved old after name taken place (moved + 1)
   moved_more read mid after value same within lt reads first spare second spare' =
       let other : taken ≢ name = λ e. is.apart (sym e) in
-      let mid_taken : under mid.lists taken ≡ Some (take moved (drop place list)) = first.others taken other
-      ∙ ap (λ (v : Chains). under v.lists taken) same ∙ is.there in
+      let mid_taken : under mid.lists taken ≡ Some (take moved (drop place list)) = grind (arith, under) in
       let mid_name : under mid.lists name ≡ Some (cut list place (place + moved + 1)) =
       first.here ∙ ap (λ (v : Chains). Some (cut (list_under v.lists name) place (place + 1))) same
       ∙ ap (λ (l : List ℕ). Some (cut l place (place + 1))) (list_under-is new.lists name _ is.here)

@@ -10,11 +10,7 @@ pub only_list : (lists : List (Option (List ℕ))) (list : List ℕ) (name : ℕ
 only_list lists list name view live = grind (arith, first)
 
 edited : (list new : List ℕ) (name : ℕ) → IsUnder (Some list ∷ []) name → IsEdit (Some list ∷ []) (Some new ∷ []) name (Some new)
-edited list new zero live = record { here = refl; others = stays }
-  where
-    stays : (other : ℕ) → (other ≡ 0 → ⊥) → under (Some new ∷ []) other ≡ under (Some list ∷ []) other
-    stays zero ne = absurd (ne refl)
-    stays (suc other) ne = refl
+edited list new zero live = grind (arith, under)
 edited list new (suc name) live = cc
 
 pub only_edit : (lists lists' : List (Option (List ℕ))) (list new wanted : List ℕ) (name : ℕ) → Some list ∷ [] ≡ lists

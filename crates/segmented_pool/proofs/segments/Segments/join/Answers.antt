@@ -34,8 +34,7 @@ edited : (c : goal.After-self-1) → AreSegments c.splice.new.self.lists (row c)
 edited c =
     let segment : Segment =
     record { chain = c.index-segment.result.now.chain; len = c.index-segment.result.now.len + c.remove-other.result.len } in
-    let items : c.remove-other.new.self.items ≡ remove c.self.inside.row.items (suc c.args.index) =
-    c.remove-other.ensures.items ∙ ap (λ (k : ℕ). remove c.self.inside.row.items k) (add-one c.args.index) in
+    let items : c.remove-other.new.self.items ≡ remove c.self.inside.row.items (suc c.args.index) = grind (arith, add-one) in
     subst (λ (l : List Segment). AreSegments c.splice.new.self.lists (set l c.args.index segment)
     (joined_at c.args.self.now.parts c.args.index))
     (sym items)
