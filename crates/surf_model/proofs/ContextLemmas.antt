@@ -51,23 +51,17 @@ first_answer f (Some x) y e = (x, refl, e)
 pub list_in_context : (mesh : FaceList) (moves : List Move) (walk next before after : List ℕ) → 0 < length walk
     → apply_all mesh walk moves ≡ Some next
     → apply_all mesh (before ++ walk ++ after) (all_raised (length before) moves) ≡ Some (before ++ next ++ after)
-list_in_context mesh [] walk next before after start e =
-    let same : walk ≡ next = cc in
-    ap (λ (l : List ℕ). Some (before ++ l ++ after)) same
+list_in_context mesh [] walk next before after start e = grind arith
 list_in_context mesh (move ∷ moves) walk next before after start e =
     let told = first_answer (λ x. apply_all mesh x moves) (apply mesh walk move) next e in
     let one = in_context mesh walk told.0 before after move start told.1 in
-    let more = list_in_context mesh moves told.0 next before after (stays_walk mesh walk told.0 move start told.1) told.2 in
-    rw one more
+    let more = list_in_context mesh moves told.0 next before after (stays_walk mesh walk told.0 move start told.1) told.2 in grind arith
 
 -- lists of moves one after another
 pub one_after_another : (mesh : FaceList) (moves others : List Move) (walk between next : List ℕ)
     → apply_all mesh walk moves ≡ Some between → apply_all mesh between others ≡ Some next
     → apply_all mesh walk (moves ++ others) ≡ Some next
-one_after_another mesh [] others walk between next e f =
-    let same : walk ≡ between = cc in
-    rw same f
+one_after_another mesh [] others walk between next e f = grind arith
 one_after_another mesh (move ∷ moves) others walk between next e f =
     let told = first_answer (λ x. apply_all mesh x moves) (apply mesh walk move) between e in
-    let more = one_after_another mesh moves others told.0 between next told.2 f in
-    rw told.1 more
+    let more = one_after_another mesh moves others told.0 between next told.2 f in grind arith

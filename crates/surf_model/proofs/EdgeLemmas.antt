@@ -1,5 +1,5 @@
 -- Edges of a mesh without its table: both ways, between used vertices, and round each face.
-use Rattle.surf_model.proofs.Common.{◌≡◌, ◌≢◌, ◌⊎◌, inl, inr, ℕ, ◌<◌, Bool, true, false, eqb, List, [], length, get_or, refl, sym, ◌∙◌, subst, arith, eqb-true, nat_tests, Any-from_list_any, list_any-from_Any, list_any, Contains, IsSide, tail_of, head_of, FaceList, FaceSide, IsFace, IsFaceList, face_at, all_sides, next_corner, joins, is_edge, is_used, Side}
+use Rattle.surf_model.proofs.Common.{◌≡◌, ◌≢◌, ◌⊎◌, inl, inr, ℕ, ◌<◌, Bool, true, false, eqb, List, [], length, get_or, refl, sym, ◌∙◌, subst, arith, nat_tests, Any-from_list_any, list_any-from_Any, list_any, Contains, IsSide, tail_of, head_of, FaceList, FaceSide, IsFace, IsFaceList, face_at, all_sides, next_corner, joins, is_edge, is_used, Side}
 use Rattle.surf_model.proofs.NumberLemmas.{face_side}
 use Rattle.surf_model.proofs.TableLemmas.{joins_swap, list_any_agree, joins_names, names, names_mesh, face_side_in, next_within}
 
@@ -48,10 +48,7 @@ step_edge mesh f false t in_list in_face =
     let m : ℕ = length (face_at mesh f) in
     let back : ℕ = next_corner false m t in
     let there : is_edge mesh (get_or (face_at mesh f) back 0) (get_or (face_at mesh f) (next_corner true m back) 0) ≡ true =
-    ring_edge mesh f back in_list (back_within m t in_face) in
-    edge_swap mesh (get_or (face_at mesh f) t 0) (get_or (face_at mesh f) back 0)
-    ∙ subst (λ (k : ℕ). is_edge mesh (get_or (face_at mesh f) back 0) (get_or (face_at mesh f) k 0) ≡ true) (there_and_back m t in_face)
-    there
+    ring_edge mesh f back in_list (back_within m t in_face) in grind (arith, edge_swap, there_and_back)
 
 pub corner_used : (mesh : FaceList) (f t : ℕ) → f < length mesh.faces → t < length (face_at mesh f)
     → is_used mesh (get_or (face_at mesh f) t 0) ≡ true
@@ -67,5 +64,4 @@ used_below mesh v h is =
     let face = Any-from_list_any (λ (face : List ℕ). list_any (λ corner. eqb corner v) face) mesh.faces is in
     let corner = Any-from_list_any (λ corner. eqb corner v) face.1 face.4 in
     let is_face : IsFace mesh.count face.1 = subst (IsFace mesh.count) face.3 (h.faces face.0 face.1 face.2) in
-    let below : get_or face.1 corner.0 corner.1 < mesh.count = is_face.in_range corner.0 corner.1 corner.2 in
-    omega (arith, below, corner.3, eqb-true corner.1 v corner.4)
+    let below : get_or face.1 corner.0 corner.1 < mesh.count = is_face.in_range corner.0 corner.1 corner.2 in grind arith

@@ -1,5 +1,5 @@
 -- What reading and growing a stored list of edges needs, said of the plain lists.
-use Rattle.surf_model.proofs.Common.{◌≡◌, ℕ, zero, suc, ◌+◌, ◌-◌, ◌<◌, ◌≤◌, List, [], ◌∷◌, ◌++◌, length, map, get_or, take, drop, refl, ap, sym, ◌∙◌, subst, arith, length-append, get_or-map, get_or-take, get_or-drop, length-take-le, length-drop, length-map, length_push, sum_by-cons, sum_by, DartEdge, dart_edge_in, dart_count, dart_of, zipped_edges, stored_edges, IsEdgeList, parts, EndsRise, EdgeEnds, SideEntry, MOST_SIDES, DartName}
+use Rattle.surf_model.proofs.Common.{◌≡◌, ℕ, zero, suc, ◌+◌, ◌-◌, ◌<◌, ◌≤◌, List, [], ◌∷◌, ◌++◌, length, map, get_or, take, drop, refl, ap, sym, ◌∙◌, subst, arith, common_steps, get_or-map, get_or-take, get_or-drop, length-take-le, length-drop, length-map, sum_by-cons, sum_by, DartEdge, dart_edge_in, dart_count, dart_of, zipped_edges, stored_edges, IsEdgeList, parts, EdgeEnds, SideEntry, MOST_SIDES, DartName}
 use Rattle.surf_model.proofs.PartsLemmas.{length-parts, get_or-parts, part_within, parts-push, EndsRise-push, sum_by-parts}
 use Rattle.surf_model.proofs.FilterLemmas.{map-map}
 
@@ -40,16 +40,12 @@ dart_count-zipped (pair ∷ pairs) (p ∷ ps) h =
 
 pub length-edges : (pairs : List EdgeEnds) (stops : List ℕ) (darts : List DartName) (edges : List DartEdge) → IsEdgeList pairs stops darts
     → stored_edges pairs stops darts ≡ edges → length edges ≡ length stops
-length-edges pairs stops darts edges h seen =
-    ap (λ (es : List DartEdge). length es) (sym seen)
-    ∙ length-zipped pairs (parts 0 stops darts) (h.each_edge ∙ sym (length-parts 0 stops darts)) ∙ length-parts 0 stops darts
+length-edges pairs stops darts edges h seen = grind (arith, length-zipped, parts, length-parts)
 
 pub dart_count-edges : (pairs : List EdgeEnds) (stops : List ℕ) (darts : List DartName) (edges : List DartEdge)
     → IsEdgeList pairs stops darts
     → stored_edges pairs stops darts ≡ edges → dart_count edges ≡ length darts
-dart_count-edges pairs stops darts edges h seen =
-    ap dart_count (sym seen) ∙ dart_count-zipped pairs (parts 0 stops darts) (h.each_edge ∙ sym (length-parts 0 stops darts))
-    ∙ (omega (arith, sum_by-parts 0 stops darts h.rising))
+dart_count-edges pairs stops darts edges h seen = grind (arith, dart_count-zipped, parts, length-parts, sum_by-parts)
 
 -- where edge k lies among the vectors
 pub record LiesAsEdge (edges : List DartEdge) (pairs : List EdgeEnds) (stops : List ℕ) (darts : List DartName) (k : ℕ) : Type 0 where
@@ -104,24 +100,11 @@ lies_as_edge pairs stops darts edges k h seen l =
 pub edge_list-push : (pairs : List EdgeEnds) (stops : List ℕ) (darts new : List DartName) (ends : EdgeEnds) (m : ℕ)
     → IsEdgeList pairs stops darts
     → 0 < length new → m ≡ length darts + length new → m ≤ MOST_SIDES → IsEdgeList (pairs ++ ends ∷ []) (stops ++ m ∷ []) (darts ++ new)
-edge_list-push pairs stops darts new ends m h some is room =
-    let whole : m ≡ length (darts ++ new) = omega (arith, is, length-append darts new) in
-    record {
-      each_edge = omega (arith, h.each_edge, length_push pairs ends, length_push stops m);
-      rising = subst (EndsRise 0 (stops ++ m ∷ [])) whole (EndsRise-push 0 stops (length darts) m h.rising (omega (arith, is)));
-      few_edges = omega (arith, h.few_edges, some, is, whole, length_push stops m);
-      few_sides = omega (arith, room, whole);
-    }
+edge_list-push pairs stops darts new ends m h some is room = grind (arith, common_steps, EndsRise-push)
 
 pub stored-push : (pairs : List EdgeEnds) (stops : List ℕ) (darts : List DartName) (sides : List SideEntry) (ends : EdgeEnds) (m : ℕ)
     → IsEdgeList pairs stops darts
     → m ≡ length darts + length sides
     → stored_edges (pairs ++ ends ∷ []) (stops ++ m ∷ []) (darts ++ map (λ side. side.dart) sides)
     ≡ stored_edges pairs stops darts ++ record { low = ends.low.0; high = ends.high.0; darts = map dart_of sides } ∷ []
-stored-push pairs stops darts sides ends m h is =
-    let new : List DartName = map (λ (side : SideEntry). side.dart) sides in
-    let size : length new ≡ length sides = length-map sides (λ (side : SideEntry). side.dart) in
-    ap (zipped_edges (pairs ++ ends ∷ [])) (parts-push 0 stops darts new (length darts) m h.rising refl (omega (arith, is, size)))
-    ∙ zipped-push pairs (parts 0 stops darts) ends new (h.each_edge ∙ sym (length-parts 0 stops darts))
-    ∙ ap (λ ds. let e : DartEdge = record { low = ends.low.0; high = ends.high.0; darts = ds } in stored_edges pairs stops darts
-    ++ e ∷ []) (map-map (λ (d : DartName). d.0) (λ (side : SideEntry). side.dart) sides)
+stored-push pairs stops darts sides ends m h is = grind (arith, common_steps, parts-push, zipped-push, parts, length-parts, map-map)

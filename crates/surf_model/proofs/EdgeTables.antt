@@ -1,5 +1,5 @@
 -- Each face list has a table of its edges: pair after pair of vertices, the edges among them.
-use Rattle.surf_model.proofs.Common.{◌≡◌, ◌⊎◌, inl, inr, ℕ, zero, suc, ◌<◌, Bool, true, List, [], ◌∷◌, ◌++◌, length, get_or, refl, sym, ◌∙◌, subst, arith, cases_Bool, cases_eq, cases_lt, both_ways, nat_tests, get_or_append_left, length-map, All-nil, All-cons, All-append, All-weaker, list_any_at, Any-push, all_pairs_push, list_any, filter, All, AllPairs, Any, Edge, IsEdgeOf, IsPairBefore, IsTableOf, side_name, FaceList, FaceSide, IsFaceList, all_sides, joins, is_edge}
+use Rattle.surf_model.proofs.Common.{◌≡◌, ◌⊎◌, inl, inr, ℕ, zero, suc, ◌<◌, Bool, true, List, [], ◌∷◌, ◌++◌, length, get_or, refl, sym, ◌∙◌, arith, cases_Bool, cases_eq, cases_lt, both_ways, nat_tests, common_steps, get_or_append_left, All-nil, All-cons, All-append, All-weaker, list_any_at, Any-push, all_pairs_push, list_any, filter, All, AllPairs, Any, Edge, IsEdgeOf, IsPairBefore, IsTableOf, side_name, FaceList, FaceSide, IsFaceList, all_sides, joins, is_edge}
 use Rattle.std.proofs.lemmas.List.{length-append}
 use Rattle.std.specs.Prelude.{map}
 use Rattle.surf_model.proofs.EdgeLemmas.{edge_swap, tail_used, head_used, ends_differ, used_below}
@@ -18,12 +18,7 @@ some_passes p (x ∷ xs) h = elim (cases_Bool (p x)) [
 
 pair_is_edge : (mesh : FaceList) (u v : ℕ) → u < v → is_edge mesh u v ≡ true → IsEdgeOf mesh (edge_of_pair mesh u v)
 unfolding is_edge edge_of_pair
-pair_is_edge mesh u v less is =
-    record {
-      ordered = less;
-      sides = refl;
-      some_side = omega (arith, some_passes (joins u v) (all_sides mesh) is, length-map (filter (joins u v) (all_sides mesh)) side_name);
-    }
+pair_is_edge mesh u v less is = grind (arith, common_steps, some_passes)
 
 -- the edges of the pairs before (a, b)
 record IsTableBefore (mesh : FaceList) (a b : ℕ) (table : List Edge) : Type 0 where
@@ -72,19 +67,7 @@ pair_more mesh a b table h less is =
 
 pair_skipped : (mesh : FaceList) (a b : ℕ) (table : List Edge) → IsTableBefore mesh a b table → (a < b → is_edge mesh a b ≡ true → ⊥)
     → IsTableBefore mesh a (suc b) table
-pair_skipped mesh a b table h none =
-    record {
-      edges = h.edges;
-      before =
-          All-weaker (λ (f : Edge). IsPairBefore f.low f.high a b) (λ (f : Edge). IsPairBefore f.low f.high a (suc b))
-          (λ f p. before_more f.low f.high a b p) table h.before;
-      rising = h.rising;
-      complete = λ u v l is_uv p. elim (before_cases u v a b p) [
-        | inl old ↦ h.complete u v l is_uv old
-        | inr same ↦ absurd (none (omega (arith, l, same.0, same.1))
-            (subst (λ (x : ℕ). is_edge mesh x b ≡ true) same.0 (subst (λ (y : ℕ). is_edge mesh u y ≡ true) same.1 is_uv)))
-      ];
-    }
+pair_skipped mesh a b table h none = grind (arith, before_more, before_cases)
 
 row : (mesh : FaceList) (a b : ℕ) (table : List Edge) → IsTableBefore mesh a 0 table → (more : List Edge) × IsTableBefore mesh a b more
 row mesh a zero table h = (table, h)

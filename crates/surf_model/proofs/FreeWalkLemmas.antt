@@ -1,5 +1,5 @@
 -- Spur moves leave a walk the same up to spurs, so walks without spurs to which they lead are equal.
-use Rattle.surf_model.proofs.Common.{◌≡◌, ℕ, suc, ◌<◌, List, [], ◌∷◌, ◌++◌, length, refl, ap, sym, ◌∙◌, subst, arith, append_assoc, All-nil, All-cons, All-append, All-map, All, Some, FaceList, HasNoSpur, IsSpurMove, AreFreelyEqual, apply, apply_all, raised, all_raised, inverse_of, sides_of_move, way_back, Move, Insert, Remove, Across}
+use Rattle.surf_model.proofs.Common.{◌≡◌, ℕ, suc, ◌<◌, List, [], ◌∷◌, ◌++◌, length, ap, sym, ◌∙◌, arith, common_steps, All-nil, All-cons, All-append, All-map, All, Some, FaceList, HasNoSpur, IsSpurMove, AreFreelyEqual, apply, apply_all, raised, all_raised, inverse_of, sides_of_move, way_back, Move, Insert, Remove, Across}
 use Rattle.surf_model.proofs.ReplacementLemmas.{by_replacing}
 use Rattle.surf_model.proofs.ContextLemmas.{first_answer, stays_walk}
 use Rattle.surf_model.proofs.StackLemmas.{AreSame, all_put, same_after, spur_same, same_equal}
@@ -7,23 +7,14 @@ use Rattle.surf_model.proofs.StackLemmas.{AreSame, all_put, same_after, spur_sam
 -- a spur in the middle of a walk
 spur_inside : (before after : List ℕ) (here via : ℕ)
     → AreSame (before ++ (here ∷ via ∷ here ∷ []) ++ after) (before ++ (here ∷ []) ++ after)
-spur_inside before after here via =
-    let one : before ++ (here ∷ via ∷ here ∷ []) ++ after ≡ before ++ (here ∷ via ∷ here ∷ after) =
-    append_assoc before (here ∷ via ∷ here ∷ []) after in
-    let two : before ++ (here ∷ []) ++ after ≡ before ++ (here ∷ after) = append_assoc before (here ∷ []) after in
-    subst (λ (l : List ℕ). AreSame l (before ++ (here ∷ []) ++ after)) (sym one)
-    (subst (λ (l : List ℕ). AreSame (before ++ (here ∷ via ∷ here ∷ after)) l) (sym two)
-    (same_after before (here ∷ via ∷ here ∷ after) (here ∷ after) (spur_same here via after)))
+spur_inside before after here via = grind (arith, common_steps, same_after, spur_same)
 
 spur_move_same : (mesh : FaceList) (walk next : List ℕ) (move : Move) → 0 < length walk → IsSpurMove move
     → apply mesh walk move ≡ Some next → AreSame walk next
 spur_move_same mesh walk next (Insert at via) start spur e stack n =
     let r = (by_replacing mesh walk next (Insert at via) start).0 e in
     let here : ℕ = r.replaces.0 in
-    let from : walk ≡ r.before ++ (here ∷ []) ++ r.after = r.walk_is ∙ ap (λ (l : List ℕ). r.before ++ l ++ r.after) r.replaces.2 in
-    let to : next ≡ r.before ++ (here ∷ via.0 ∷ here ∷ []) ++ r.after =
-    r.next_is ∙ ap (λ (l : List ℕ). r.before ++ l ++ r.after) r.replaces.3 in
-    ap (all_put stack) from ∙ sym (spur_inside r.before r.after here via.0 stack n) ∙ sym (ap (all_put stack) to)
+    let to : next ≡ r.before ++ (here ∷ via.0 ∷ here ∷ []) ++ r.after = grind arith in grind (arith, spur_inside)
 spur_move_same mesh walk next (Remove at via) start spur e stack n =
     let r = (by_replacing mesh walk next (Remove at via) start).0 e in
     let here : ℕ = r.replaces.0 in
@@ -35,9 +26,7 @@ spur_move_same mesh walk next (Across at face corner forward taken) start spur e
 
 pub spur_list_same : (mesh : FaceList) (moves : List Move) (walk next : List ℕ) → 0 < length walk → All IsSpurMove moves
     → apply_all mesh walk moves ≡ Some next → AreSame walk next
-spur_list_same mesh [] walk next start spurs e stack n =
-    let same : walk ≡ next = cc in
-    rw same refl
+spur_list_same mesh [] walk next start spurs e stack n = grind arith
 spur_list_same mesh (move ∷ moves) walk next start spurs e stack n =
     let told = first_answer (λ x. apply_all mesh x moves) (apply mesh walk move) next e in
     let one : AreSame walk told.0 = spur_move_same mesh walk told.0 move start (spurs 0 move (omega arith)) told.1 in
@@ -47,8 +36,7 @@ spur_list_same mesh (move ∷ moves) walk next start spurs e stack n =
 -- walks without spurs that spur moves join are equal
 pub one_reduced_walk : (mesh : FaceList) (first second : List ℕ) → 0 < length first → AreFreelyEqual mesh first second → HasNoSpur first
     → HasNoSpur second → first ≡ second
-one_reduced_walk mesh first second start free h k =
-    same_equal first second h k (spur_list_same mesh free.0 first second start free.1 free.2)
+one_reduced_walk mesh first second start free h k = grind (arith, same_equal, spur_list_same)
 
 -- spur moves stay spur moves in a longer walk, and on the way back
 spur_raised : (n : ℕ) (move : Move) → IsSpurMove move → IsSpurMove (raised n move)

@@ -36,11 +36,7 @@ links mesh walk w = linked_from mesh walk (λ k l. w.edges k (omega arith))
 
 pub walk_from : (mesh : FaceList) (walk : List ℕ) → 0 < length walk → All (λ v. IsTrue (is_used mesh v)) walk → Linked mesh walk
     → IsWalk mesh walk
-walk_from mesh walk start used linked = record {
-  starts = start;
-  used = used;
-  edges = λ k l. linked_at mesh walk k linked (omega arith);
-}
+walk_from mesh walk start used linked = grind (arith, linked_at)
 
 -- walks put together at a vertex, and taken apart there
 pub together : (mesh : FaceList) (x : ℕ) (front rest : List ℕ) → Linked mesh (front ++ x ∷ []) → Linked mesh (x ∷ rest)
@@ -80,8 +76,7 @@ none_yet P k d l = absurd (omega arith)
 
 pub round_used : (mesh : FaceList) (f : ℕ) (rising : Bool) (t k : ℕ) → f < length mesh.faces → t < length (face_at mesh f)
     → All (λ v. IsTrue (is_used mesh v)) (corners_from (face_at mesh f) rising t k)
-round_used mesh f rising t zero l b = all_more (λ v. IsTrue (is_used mesh v)) (get_or (face_at mesh f) t 0) []
-    (corner_used mesh f t l b) (none_yet (λ v. IsTrue (is_used mesh v)))
+round_used mesh f rising t zero l b = grind (arith, all_more, corner_used, none_yet)
 round_used mesh f rising t (suc k) l b =
     all_more (λ v. IsTrue (is_used mesh v)) (get_or (face_at mesh f) t 0)
     (corners_from (face_at mesh f) rising (next_corner rising (length (face_at mesh f)) t) k)

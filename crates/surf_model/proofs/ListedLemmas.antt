@@ -1,5 +1,5 @@
 -- The entries of the list of all sides are the sides of the mesh, and two entries with one edge are partners.
-use Rattle.surf_model.proofs.Common.{◌≡◌, ◌≢◌, ◌⊎◌, inl, inr, ℕ, suc, ◌+◌, ◌-◌, ◌<◌, ◌≤◌, true, List, [], ◌∷◌, ◌++◌, length, get_or, refl, ap, sym, ◌∙◌, subst, arith, nat_tests, All-nil, All-append, All-weaker, All-filter, filter_passes, AllPairs-filter, AllPairs-cons, enumerate_from, All, AllPairs, filter, flat_map, IsSide, tail_of, head_of, side_name, FaceList, FaceSide, face_at, all_sides, sides_of_face, joins, ArePartners, Side}
+use Rattle.surf_model.proofs.Common.{◌≡◌, ◌≢◌, ◌⊎◌, inl, ℕ, suc, ◌+◌, ◌-◌, ◌<◌, ◌≤◌, true, List, [], ◌∷◌, ◌++◌, length, get_or, ap, sym, ◌∙◌, subst, arith, nat_tests, All-nil, All-append, All-weaker, All-filter, filter_passes, AllPairs-filter, AllPairs-cons, enumerate_from, All, AllPairs, filter, flat_map, IsSide, tail_of, head_of, side_name, FaceList, FaceSide, face_at, all_sides, sides_of_face, joins, ArePartners}
 use Rattle.surf_model.proofs.NumberLemmas.{face_side, length-sides_of_face, get_or-sides_of_face}
 
 -- a side of the faces from number n on
@@ -13,28 +13,10 @@ abbrev sides_from : ℕ → List (List ℕ) → List FaceSide
 sides_from n faces = flat_map (λ (p : ℕ × List ℕ). sides_of_face p.0 p.1) (enumerate_from n faces)
 
 first_face_sides : (n : ℕ) (face : List ℕ) (faces : List (List ℕ)) → All (IsFrom n (face ∷ faces)) (sides_of_face n face)
-first_face_sides n face faces t d l =
-    let few : t < length face = omega (arith, l, length-sides_of_face n face) in
-    let none : n - n ≡ 0 = omega arith in
-    let here : face ≡ get_or (face ∷ faces) (n - n) [] = ap (λ k. get_or (face ∷ faces) k []) (sym none) in
-    subst (IsFrom n (face ∷ faces)) (sym (get_or-sides_of_face n face t d few)) (record {
-      from = omega arith;
-      face = omega arith;
-      place = subst (λ f. t < length f) here few;
-      is = ap (λ f. face_side n f t) here;
-    })
+first_face_sides n face faces t d l = grind (arith, length-sides_of_face, get_or-sides_of_face, face_side)
 
 from_later : (n : ℕ) (face : List ℕ) (faces : List (List ℕ)) (s : FaceSide) → IsFrom (n + 1) faces s → IsFrom n (face ∷ faces) s
-from_later n face faces s h =
-    let next : s.face - n ≡ suc (s.face - (n + 1)) = omega (arith, h.from) in
-    let same : get_or faces (s.face - (n + 1)) [] ≡ get_or (face ∷ faces) (s.face - n) [] =
-    ap (λ k. get_or (face ∷ faces) k []) (sym next) in
-    record {
-      from = omega (arith, h.from);
-      face = omega (arith, h.from, h.face);
-      place = subst (λ f. s.at < length f) same h.place;
-      is = h.is ∙ ap (λ f. face_side s.face f s.at) same;
-    }
+from_later n face faces s h = grind (arith, face_side)
 
 all_from : (n : ℕ) (faces : List (List ℕ)) → All (IsFrom n faces) (sides_from n faces)
 all_from n [] = All-nil (IsFrom n [])
@@ -54,8 +36,7 @@ unfolding all_sides
 all_listed mesh =
     All-weaker (IsFrom 0 mesh.faces) (IsListed mesh)
     (λ s h.
-    let same : get_or mesh.faces (s.face - 0) [] ≡ face_at mesh s.face =
-    ap (λ k. get_or mesh.faces k []) (let e : s.face - 0 ≡ s.face = omega arith in e) in
+    let same : get_or mesh.faces (s.face - 0) [] ≡ face_at mesh s.face = grind arith in
     let is : s ≡ face_side s.face (face_at mesh s.face) s.at = h.is ∙ ap (λ f. face_side s.face f s.at) same in
     record {
       side = record { face = omega (arith, h.face); place = subst (λ f. s.at < length f) same h.place };
@@ -78,20 +59,14 @@ AllPairs-append R (x ∷ xs) ys h k between =
     (λ i d l. between (suc i) d (omega (arith, l))))
 
 face_rises : (n : ℕ) (face : List ℕ) → AllPairs IsBefore (sides_of_face n face)
-face_rises n face i j d b l =
-    let few : j < length face = omega (arith, l, length-sides_of_face n face) in
-    let first : get_or (sides_of_face n face) i d ≡ face_side n face i = get_or-sides_of_face n face i d (omega (arith, b, few)) in
-    let second : get_or (sides_of_face n face) j d ≡ face_side n face j = get_or-sides_of_face n face j d few in
-    subst (λ s. IsBefore s (get_or (sides_of_face n face) j d)) (sym first)
-    (subst (IsBefore (face_side n face i)) (sym second) (inr (refl, b)))
+face_rises n face i j d b l = grind (arith, length-sides_of_face, face_side, get_or-sides_of_face)
 
 faces_rise : (n : ℕ) (faces : List (List ℕ)) → AllPairs IsBefore (sides_from n faces)
 faces_rise n [] = λ i j d b l. absurd (omega (arith, l))
 faces_rise n (face ∷ faces) =
     AllPairs-append IsBefore (sides_of_face n face) (sides_from (n + 1) faces) (face_rises n face) (faces_rise (n + 1) faces)
     (λ t d l.
-    let here : get_or (sides_of_face n face) t d ≡ face_side n face t =
-    get_or-sides_of_face n face t d (omega (arith, l, length-sides_of_face n face)) in
+    let here : get_or (sides_of_face n face) t d ≡ face_side n face t = grind (arith, get_or-sides_of_face, length-sides_of_face) in
     subst (λ s. All (IsBefore s) (sides_from (n + 1) faces)) (sym here)
     (All-weaker (IsFrom (n + 1) faces) (IsBefore (face_side n face t)) (λ s h. inl (omega (arith, h.from))) (sides_from (n + 1) faces)
     (all_from (n + 1) faces)))
@@ -101,10 +76,7 @@ unfolding all_sides
 sides_rise mesh = faces_rise 0 mesh.faces
 
 differ : (s t : FaceSide) → IsBefore s t → side_name s ≢ side_name t
-differ s t h same =
-    let face : s.face ≡ t.face = ap (λ (x : Side). x.face.0) same in
-    let at : s.at ≡ t.at = ap (λ (x : Side). x.at) same in
-    elim h [ inl less ↦ omega (arith, less, face) | inr less ↦ omega (arith, less.1, at) ]
+differ s t h same = grind arith
 
 both_join : (u v : ℕ) (s t : FaceSide) → joins u v s ≡ true → joins u v t ≡ true → ((s.tail ≡ t.tail) × (s.head ≡ t.head))
     ⊎ ((s.tail ≡ t.head) × (s.head ≡ t.tail))
@@ -129,13 +101,4 @@ partners_listed mesh u v s t two =
     let first : Joins mesh u v s = all 0 s (omega arith) in
     let second : Joins mesh u v t = all 1 s (omega arith) in
     let rise : AllPairs IsBefore (s ∷ t ∷ []) = subst (AllPairs IsBefore) two
-    (AllPairs-filter IsBefore (joins u v) (all_sides mesh) (sides_rise mesh)) in
-    record {
-      first = first.listed.side;
-      second = second.listed.side;
-      different = differ s t (rise 0 1 s (omega arith) (omega arith));
-      one_edge = elim (both_join u v s t first.joins second.joins) [
-        | inl same ↦ inl (sym first.listed.tail ∙ same.0 ∙ second.listed.tail, sym first.listed.head ∙ same.1 ∙ second.listed.head)
-        | inr turned ↦ inr (sym first.listed.tail ∙ turned.0 ∙ second.listed.head, sym first.listed.head ∙ turned.1 ∙ second.listed.tail)
-      ];
-    }
+    (AllPairs-filter IsBefore (joins u v) (all_sides mesh) (sides_rise mesh)) in grind (arith, differ, both_join)

@@ -53,13 +53,7 @@ same_list (e ∷ es) (f ∷ fs) h k to from =
 
 -- edges with the same ends are one
 same_edge : (mesh : FaceList) (e f : Edge) → IsEdgeOf mesh e → IsEdgeOf mesh f → e.low ≡ f.low → e.high ≡ f.high → e ≡ f
-same_edge mesh e f h k low high =
-    let sides : e.sides ≡ f.sides =
-    h.sides ∙ ap (λ a. map side_name (filter (joins a e.high) (all_sides mesh))) low
-    ∙ ap (λ b. map side_name (filter (joins f.low b) (all_sides mesh))) high ∙ sym k.sides in
-    ap (λ a. let x : Edge = record { low = a; high = e.high; sides = e.sides } in x) low
-    ∙ ap (λ b. let x : Edge = record { low = f.low; high = b; sides = e.sides } in x) high
-    ∙ ap (λ ss. let x : Edge = record { low = f.low; high = f.high; sides = ss } in x) sides
+same_edge mesh e f h k low high = grind arith
 
 same_ends : (a b c d : ℕ) (s : FaceSide) → joins a b s ≡ true → joins c d s ≡ true → a < b → c < d → (a ≡ c) × (b ≡ d)
 same_ends a b c d s h k up more = grind (arith, nat_tests)
@@ -124,12 +118,7 @@ sides_from n (face ∷ faces) =
 -- the sides of the list are sides of the mesh
 pub all_are_sides : (mesh : FaceList) → All (λ (s : FaceSide). IsSide mesh (side_name s)) (all_sides mesh)
 unfolding all_sides
-all_are_sides mesh =
-    All-weaker (IsFrom 0 mesh.faces) (λ (s : FaceSide). IsSide mesh (side_name s))
-    (λ s h.
-    let same : s.face - 0 ≡ s.face = omega arith in
-    record { face = omega (arith, h.face); place = subst (λ k. s.at < length (get_or mesh.faces k [])) same h.place })
-    (flat_map (λ (p : ℕ × List ℕ). sides_of_face p.0 p.1) (enumerate_from 0 mesh.faces)) (sides_from 0 mesh.faces)
+all_are_sides mesh = grind (arith, sides_from)
 
 pub side_from_table : (mesh : FaceList) (table : List Edge) (side : Side) → IsTableOf mesh table
     → Any (λ (edge : Edge). Contains edge.sides side) table → IsSide mesh side

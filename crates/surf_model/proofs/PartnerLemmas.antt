@@ -1,5 +1,5 @@
 -- Which sides are the two sides of one edge, said of the table of the mesh.
-use Rattle.surf_model.proofs.Common.{◌≡◌, ◌⊎◌, inl, inr, ℕ, suc, ◌+◌, ◌-◌, ◌<◌, Bool, true, List, [], ◌∷◌, ◌++◌, length, get_or, take, refl, ap, sym, ◌∙◌, subst, arith, length-append, cases_lt, nat_tests, length-map, get_or-map, get_or_default, get_or_append_left, get_or-append_right, All-filter, filter_passes, All-contains, AllPairs-filter, sum_by-cons, enumerate_from, AllPairs, Any, Contains, filter, flat_map, sum_by, IsSide, side_number, tail_of, head_of, Edge, IsTableOf, IsEdgeOf, side_name, edge_in, FaceList, FaceSide, face_at, all_sides, joins, ArePartners, Side}
+use Rattle.surf_model.proofs.Common.{◌≡◌, ◌⊎◌, inl, inr, ℕ, suc, ◌+◌, ◌-◌, ◌<◌, Bool, true, List, [], ◌∷◌, ◌++◌, length, get_or, take, ap, sym, ◌∙◌, subst, arith, length-append, cases_lt, nat_tests, length-map, get_or-map, get_or_default, get_or_append_left, get_or-append_right, All-filter, filter_passes, All-contains, AllPairs-filter, sum_by-cons, enumerate_from, AllPairs, Any, Contains, filter, flat_map, sum_by, IsSide, side_number, tail_of, head_of, Edge, IsTableOf, IsEdgeOf, side_name, edge_in, FaceList, FaceSide, face_at, all_sides, joins, ArePartners, Side}
 use Rattle.surf_model.proofs.NumberLemmas.{face_side, sides_at, length-sides_of_face, get_or-sides_of_face}
 use Rattle.surf_model.proofs.TableLemmas.{face_side_in, Contains-filter}
 
@@ -61,14 +61,7 @@ unfolding all_sides
 whole_side mesh k d l =
     let found : IsNumberOf 0 mesh.faces k (get_or (all_sides mesh) k d) = side_at_number 0 mesh.faces k d l in
     let start : 0 + found.place ≡ found.place = omega arith in
-    let is : get_or (all_sides mesh) k d ≡ face_side found.place (face_at mesh found.place) found.at =
-    found.is ∙ ap (λ f. face_side f (face_at mesh found.place) found.at) start in
-    subst (IsWholeSide mesh k) (sym is) (record {
-      side_of = record { face = found.in_list; place = found.in_face };
-      number = found.number;
-      tail = refl;
-      head = refl;
-    })
+    grind arith
 
 -- the two vertices at the ends of a side, in either order
 abbrev pub HasSideEnds : FaceList → ℕ → ℕ → Side → Type 0
@@ -117,8 +110,7 @@ edge_has_side mesh edge side h in_mesh ends =
     let p : FaceSide → Bool = joins edge.low edge.high in
     let whole : FaceSide = face_side side.face.0 (face_at mesh side.face.0) side.at in
     let all : Contains (all_sides mesh) whole = face_side_in mesh side.face.0 side.at in_mesh.face in_mesh.place in
-    let kept : Contains (filter p (all_sides mesh)) whole =
-    Contains-filter p (all_sides mesh) whole (ends_join edge.low edge.high whole ends) all in
+    let kept : Contains (filter p (all_sides mesh)) whole = grind (arith, Contains-filter, ends_join) in
     subst (λ (xs : List Side). Contains xs side) (sym h.sides) (
       kept.0,
       omega (arith, kept.1, length-map (filter p (all_sides mesh)) side_name),
@@ -139,9 +131,7 @@ edge_sides_rise mesh edge h i j d less l =
     λ a b e s t. omega (arith, (whole_side mesh a e (omega arith)).number, (whole_side mesh b e t).number) in
     let here : side_number mesh (side_name (get_or sides i no_side)) < side_number mesh (side_name (get_or sides j no_side)) =
     AllPairs-filter (λ (s t : FaceSide). side_number mesh (side_name s) < side_number mesh (side_name t)) p (all_sides mesh) rise i j
-    no_side less few in
-    subst (λ x. side_number mesh x < side_number mesh (get_or edge.sides j d)) (sym (is i (omega arith)))
-    (subst (λ x. side_number mesh (side_name (get_or sides i no_side)) < side_number mesh x) (sym (is j few)) here)
+    no_side less few in grind (arith, no_side)
 
 -- the edge of a side, by its place in the table
 pub record IsEdgeOfSide (mesh : FaceList) (table : List Edge) (side : Side) : Type 0 where
@@ -160,14 +150,7 @@ edge_of_side mesh table side h in_mesh =
     let found = All-contains (λ (s : FaceSide). Any (λ (e : Edge). joins e.low e.high s ≡ true) table) (all_sides mesh) whole h.complete
     all in
     let is : edge_in table found.0 ≡ found.1 = get_or_default table found.0 _ found.1 found.2 ∙ found.3 in
-    let joined : joins (edge_in table found.0).low (edge_in table found.0).high whole ≡ true =
-    subst (λ (e : Edge). joins e.low e.high whole ≡ true) (sym is) found.4 in
-    record {
-      edge = found.0;
-      in_table = found.2;
-      ends = joins_ends (edge_in table found.0).low (edge_in table found.0).high (tail_of mesh side) (head_of mesh side) whole joined
-          refl refl;
-    }
+    grind (arith, joins_ends, head_of)
 
 -- two sides with the same ends
 pub ends_agree : (t h u v low high : ℕ) → ((t ≡ low) × (h ≡ high)) ⊎ ((t ≡ high) × (h ≡ low)) → ((t ≡ u) × (h ≡ v)) ⊎ ((t ≡ v) × (h ≡ u))
@@ -188,10 +171,4 @@ partners_of_edge mesh table k i j d h l less few =
     let is : IsEdgeOf mesh edge = table_edge mesh table k h l in
     let first : IsSideOfEdge mesh edge (get_or edge.sides i d) = side_of_edge mesh edge i d is (omega arith) in
     let second : IsSideOfEdge mesh edge (get_or edge.sides j d) = side_of_edge mesh edge j d is few in
-    let apart = edge_sides_rise mesh edge is i j d less few in
-    record {
-      first = first.side_of;
-      second = second.side_of;
-      different = λ same. omega (arith, ap (side_number mesh) same);
-      one_edge = ends_same _ _ _ _ edge.low edge.high first.ends second.ends;
-    }
+    let apart = edge_sides_rise mesh edge is i j d less few in grind (arith, ends_same)

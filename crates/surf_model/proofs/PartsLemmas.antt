@@ -1,5 +1,5 @@
 -- A list of lists kept as one list and the places where its parts end.
-use Rattle.surf_model.proofs.Common.{◌≡◌, inl, inr, ℕ, zero, suc, ◌+◌, ◌-◌, ◌*◌, ◌/◌, ◌<◌, ◌≤◌, List, [], ◌∷◌, ◌++◌, length, get_or, take, drop, refl, ap, sym, subst, ◌∙◌, add-one, arith, cases_lt, take-append-le, drop-append-le, length-take-le, length-drop, take_all, drop_at, get_or_append_left, get_or_push, length_push, sum_by-cons, sum_by, parts, EndsRise, last_end, IsInPart, IsPartList, MOST_SIDES}
+use Rattle.surf_model.proofs.Common.{◌≡◌, inl, inr, ℕ, zero, suc, ◌+◌, ◌-◌, ◌*◌, ◌/◌, ◌<◌, ◌≤◌, List, [], ◌∷◌, ◌++◌, length, get_or, take, drop, refl, ap, sym, subst, ◌∙◌, add-one, arith, cases_lt, common_steps, take-append-le, drop-append-le, length-take-le, length-drop, get_or_append_left, length_push, sum_by-cons, sum_by, parts, EndsRise, last_end, IsInPart, IsPartList, MOST_SIDES}
 
 pub length-parts : {A : Type 0} (from : ℕ) (ends : List ℕ) (xs : List A) → length (parts from ends xs) ≡ length ends
 length-parts from [] xs = refl
@@ -25,18 +25,13 @@ pub part_within : (from : ℕ) (ends : List ℕ) (n f : ℕ) → EndsRise from e
 part_within from [] n f h l = absurd (omega arith)
 part_within from (end ∷ ends) n zero h l = record { rises = h.0; within = ends_within end ends n h.1 }
 part_within from (end ∷ ends) n (suc f) h l =
-    let rest = part_within end ends n f h.1 (omega arith) in
-    record { rises = rest.rises; within = rest.within }
+    let rest = part_within end ends n f h.1 (omega arith) in grind arith
 
 -- one more part at the end
 pub parts-push : {A : Type 0} (from : ℕ) (ends : List ℕ) (xs ys : List A) (n m : ℕ) → EndsRise from ends n → length xs ≡ n
     → m ≡ n + length ys
     → parts from (ends ++ m ∷ []) (xs ++ ys) ≡ parts from ends xs ++ ys ∷ []
-parts-push {A} from [] xs ys n m h e k =
-    let start : from ≡ length xs = omega (arith, h) in
-    let size : m - from ≡ length ys = omega (arith, h) in
-    let rest : drop from (xs ++ ys) ≡ ys = drop_at xs ys from (sym start) in
-    rw (size, rest, take_all (length ys) ys (omega arith)) refl
+parts-push {A} from [] xs ys n m h e k = grind (arith, common_steps)
 parts-push {A} from (end ∷ ends) xs ys n m h e k =
     let w = ends_within end ends n h.1 in
     let le : from ≤ length xs = omega (arith, h.0, w) in
@@ -69,9 +64,7 @@ start-push : (ends : List ℕ) (m k : ℕ) → k ≤ length ends → get_or (0 �
 start-push ends m k l = get_or_append_left (0 ∷ ends) (m ∷ []) 0 k (omega (arith, l))
 
 pub last_end-push : (ends : List ℕ) (m : ℕ) → last_end (ends ++ m ∷ []) ≡ m
-last_end-push ends m =
-    ap (λ n. get_or (0 ∷ (ends ++ m ∷ [])) n 0) (length_push ends m)
-    ∙ start_after (ends ++ m ∷ []) (length ends) ∙ get_or_push ends m 0 (length ends) refl
+last_end-push ends m = grind (arith, common_steps, start_after)
 
 -- the last part ends where all end
 pub last_part_end : (ends : List ℕ) (k : ℕ) → k + 1 ≡ length ends → get_or ends k 0 ≡ last_end ends
@@ -87,18 +80,10 @@ EndsRise-last ends n = rises_to 0 ends n
 
 -- a place lies in the same part where another is put last, or in that one
 pub in_part-push : (ends : List ℕ) (m place part : ℕ) → IsInPart ends place part → IsInPart (ends ++ m ∷ []) place part
-in_part-push ends m place part h = record {
-  there = omega (arith, h.there, length_push ends m);
-  from = omega (arith, h.from, start-push ends m part (omega (arith, h.there)));
-  to = omega (arith, h.to, get_or_append_left ends (m ∷ []) 0 part h.there);
-}
+in_part-push ends m place part h = grind (arith, common_steps, start-push)
 
 pub in_last_part : (ends : List ℕ) (m place : ℕ) → last_end ends ≤ place → place < m → IsInPart (ends ++ m ∷ []) place (length ends)
-in_last_part ends m place from to = record {
-  there = omega (arith, length_push ends m);
-  from = omega (arith, from, start-push ends m (length ends) (omega arith));
-  to = omega (arith, to, get_or_push ends m 0 (length ends) refl);
-}
+in_last_part ends m place from to = grind (arith, common_steps, start-push)
 
 pub part_list-push : (ends marks more : List ℕ) (m : ℕ) → IsPartList ends marks → last_end ends < m → m ≤ MOST_SIDES
     → length more ≡ (m + 15) / 16

@@ -1,5 +1,5 @@
 -- The table of moves is a table of replacements.
-use Rattle.surf_model.proofs.Common.{◌≡◌, ℕ, zero, suc, ◌+◌, ◌-◌, ◌<◌, ◌≤◌, Bool, true, false, not, List, [], ◌∷◌, ◌++◌, length, take, drop, get_or, refl, ap, sym, ◌∙◌, arith, append_assoc, length-append, and_parts, ltb-true, leb-true, eqb-true, lt-ltb, le-leb, eq-eqb, take-append-drop, take_at, drop_at, drop-drop, drop_more, take_more, length-take-le, get_or-append-add, ◌==◌, nat_eq, nat_lt, nat_le, Some, None, FaceList, face_at, corners_from, next_corner, is_edge, apply, replaced, same_walk, IsReplacement, darts, Move, Insert, Remove, Across, VertexName}
+use Rattle.surf_model.proofs.Common.{◌≡◌, ℕ, zero, suc, ◌+◌, ◌-◌, ◌<◌, ◌≤◌, Bool, true, false, not, List, [], ◌∷◌, ◌++◌, length, take, drop, get_or, refl, ap, sym, ◌∙◌, arith, append_assoc, and_parts, ltb-true, leb-true, eqb-true, lt-ltb, le-leb, common_steps, take-append-drop, drop-drop, drop_more, length-take-le, ◌==◌, nat_lt, nat_le, Some, None, FaceList, face_at, corners_from, next_corner, is_edge, apply, replaced, same_walk, IsReplacement, darts, Move, Insert, Remove, Across, VertexName}
 use Rattle.std.specs.Prelude.{◌↔◌, ◌&&◌, cond}
 use lib.Pointwise.{bytes_decides}
 
@@ -22,23 +22,12 @@ record AreParts (walk before part after : List ℕ) (at n : ℕ) : Type 0 where
 
 parts_of : (walk before part after : List ℕ) (at n : ℕ) → walk ≡ before ++ part ++ after → length before ≡ at → length part ≡ n
     → AreParts walk before part after at n
-parts_of walk before part after at n e p q =
-    let whole : walk ≡ before ++ (part ++ after) = e ∙ append_assoc before part after in
-    let behind : drop at walk ≡ part ++ after = ap (drop at) whole ∙ drop_at before (part ++ after) at p in
-    record {
-      front = ap (take at) whole ∙ take_at before (part ++ after) at p;
-      middle = ap (take n) behind ∙ take_at part after n q;
-      rest = sym (drop-drop n at walk) ∙ ap (drop n) behind ∙ drop_at part after n q;
-      long = omega (arith, ap length whole, length-append before (part ++ after), length-append part after, p, q);
-    }
+parts_of walk before part after at n e p q = grind (arith, common_steps)
 
 -- the entries of the part of such a list
 entry_of_part : (walk before part after : List ℕ) (at k : ℕ) → walk ≡ before ++ part ++ after → length before ≡ at
     → get_or walk (at + k) 0 ≡ get_or (part ++ after) k 0
-entry_of_part walk before part after at k e p =
-    ap (λ (l : List ℕ). get_or l (at + k) 0) (e ∙ append_assoc before part after)
-    ∙ ap (λ (n : ℕ). get_or (before ++ (part ++ after)) (n + k) 0) (sym p)
-    ∙ get_or-append-add before (part ++ after) k 0
+entry_of_part walk before part after at k e p = grind (arith, common_steps)
 
 pub length-corners_from : (ring : List ℕ) (forward : Bool) (corner k : ℕ) → length (corners_from ring forward corner k) ≡ k + 1
 length-corners_from ring forward corner zero = refl
@@ -56,14 +45,7 @@ one_there walk at h = ap (take 1) (drop_more walk at 0 h)
 
 three_there : (walk : List ℕ) (at : ℕ) → at + 2 < length walk
     → take 3 (drop at walk) ≡ get_or walk at 0 ∷ get_or walk (at + 1) 0 ∷ get_or walk (at + 2) 0 ∷ []
-three_there walk at h =
-    let second : at + 1 + 1 ≡ at + 2 = omega arith in
-    ap (take 3) (
-    drop_more walk at 0 (omega arith)
-    ∙ ap (λ (l : List ℕ). get_or walk at 0 ∷ l) (drop_more walk (at + 1) 0 (omega arith))
-    ∙ ap (λ (n : ℕ). get_or walk at 0 ∷ get_or walk (at + 1) 0 ∷ drop n walk) second
-    ∙ ap (λ (l : List ℕ). get_or walk at 0 ∷ get_or walk (at + 1) 0 ∷ l) (drop_more walk (at + 2) 0 h)
-    )
+three_there walk at h = grind (arith, common_steps)
 
 gives_replacement : (mesh : FaceList) (walk next : List ℕ) (move : Move) → 0 < length walk → apply mesh walk move ≡ Some next
     → IsReplacement mesh move walk next
@@ -147,33 +129,8 @@ put_together walk before other others after at n f r o = rw (f, r, o) refl
 replacement_gives : (mesh : FaceList) (walk next : List ℕ) (move : Move) → IsReplacement mesh move walk next
     → apply mesh walk move ≡ Some next
 unfolding apply
-replacement_gives mesh walk next (Insert at via) r =
-    let a : ℕ = r.replaces.0 in
-    let reads : r.part ≡ a ∷ [] = r.replaces.2 in
-    let parts = parts_of walk r.before r.part r.after at 1 r.walk_is r.place (ap length reads) in
-    let here : get_or walk at 0 ≡ a =
-    ap (λ (n : ℕ). get_or walk n 0) (let e : at ≡ at + 0 = omega arith in e)
-    ∙ entry_of_part walk r.before r.part r.after at 0 r.walk_is r.place
-    ∙ ap (λ (l : List ℕ). get_or (l ++ r.after) 0 0) reads in
-    let place : nat_le at (darts walk) ≡ true = le-leb at (darts walk) (omega (arith, parts.long)) in
-    let edge : is_edge mesh (get_or walk at 0) via.0 ≡ true = ap (λ (v : ℕ). is_edge mesh v via.0) here ∙ r.replaces.1 in
-    let whole = put_together walk r.before r.other (get_or walk at 0 ∷ via.0 ∷ get_or walk at 0 ∷ []) r.after at 1 parts.front parts.rest
-    (ap (λ (v : ℕ). v ∷ via.0 ∷ v ∷ []) here ∙ sym r.replaces.3) in
-    rw (place, edge) (ap Some (whole ∙ sym r.next_is))
-replacement_gives mesh walk next (Remove at via) r =
-    let a : ℕ = r.replaces.0 in
-    let reads : r.part ≡ a ∷ via.0 ∷ a ∷ [] = r.replaces.1 in
-    let parts = parts_of walk r.before r.part r.after at 3 r.walk_is r.place (ap length reads) in
-    let entry : (k : ℕ) → get_or walk (at + k) 0 ≡ get_or (a ∷ via.0 ∷ a ∷ r.after) k 0 =
-    λ k. entry_of_part walk r.before r.part r.after at k r.walk_is r.place ∙ ap (λ (l : List ℕ). get_or (l ++ r.after) k 0) reads in
-    let here : get_or walk at 0 ≡ a = ap (λ (n : ℕ). get_or walk n 0) (let e : at ≡ at + 0 = omega arith in e) ∙ entry 0 in
-    let place : nat_le (at + 2) (darts walk) ≡ true = le-leb (at + 2) (darts walk) (omega (arith, parts.long)) in
-    let same : nat_eq (get_or walk at 0) (get_or walk (at + 2) 0) ≡ true =
-    eq-eqb (get_or walk at 0) (get_or walk (at + 2) 0) (here ∙ sym (entry 2)) in
-    let middle : nat_eq (get_or walk (at + 1) 0) via.0 ≡ true = eq-eqb (get_or walk (at + 1) 0) via.0 (entry 1) in
-    let whole = put_together walk r.before r.other (get_or walk at 0 ∷ []) r.after at 3 parts.front parts.rest
-    (ap (λ (v : ℕ). v ∷ []) here ∙ sym r.replaces.2) in
-    rw (place, same, middle) (ap Some (whole ∙ sym r.next_is))
+replacement_gives mesh walk next (Insert at via) r = grind (arith, common_steps, parts_of, entry_of_part, put_together)
+replacement_gives mesh walk next (Remove at via) r = grind (arith, common_steps, parts_of, entry_of_part, put_together)
 replacement_gives mesh walk next (Across at face corner forward taken) r =
     let ring : List ℕ = face_at mesh face.0 in
     let way : List ℕ = corners_from ring forward corner taken in
@@ -198,27 +155,10 @@ pub spur_in : (mesh : FaceList) (walk next : List ℕ) (at : ℕ) (via : VertexN
     → apply mesh walk (Insert at via) ≡ Some next
     → next ≡ take (at + 1) walk ++ via.0 ∷ get_or walk at 0 ∷ drop (at + 1) walk
 unfolding apply
-spur_in mesh walk next at via start e =
-    let here : ℕ = get_or walk at 0 in
-    let told = given (nat_le at (darts walk) && is_edge mesh here via.0) _ next e in
-    let tests = and_parts (nat_le at (darts walk)) (is_edge mesh here via.0) told.0 in
-    let within : at < length walk = omega (arith, start, leb-true at (darts walk) tests.0) in
-    let rest : List ℕ = drop (at + 1) walk in
-    told.1
-    ∙ append_assoc (take at walk) (here ∷ via.0 ∷ here ∷ []) rest
-    ∙ sym (append_assoc (take at walk) (here ∷ []) (via.0 ∷ here ∷ rest))
-    ∙ ap (λ (l : List ℕ). l ++ via.0 ∷ here ∷ rest) (sym (take_more walk at 0 within))
+spur_in mesh walk next at via start e = grind (arith, common_steps, given)
 
 pub spur_out : (mesh : FaceList) (walk next : List ℕ) (at : ℕ) (via : VertexName) → 0 < length walk
     → apply mesh walk (Remove at via) ≡ Some next
     → next ≡ take (at + 1) walk ++ drop (at + 3) walk
 unfolding apply
-spur_out mesh walk next at via start e =
-    let here : ℕ = get_or walk at 0 in
-    let place : Bool = nat_le (at + 2) (darts walk) in
-    let same : Bool = here == get_or walk (at + 2) 0 in
-    let middle : Bool = get_or walk (at + 1) 0 == via.0 in
-    let told = given (place && same && middle) _ next e in
-    let ends = and_parts place same (and_parts (place && same) middle told.0).0 in
-    let within : at < length walk = omega (arith, start, leb-true (at + 2) (darts walk) ends.0) in
-    told.1 ∙ ap (λ (l : List ℕ). l ++ drop (at + 3) walk) (sym (take_more walk at 0 within))
+spur_out mesh walk next at via start e = grind (arith, common_steps, given)

@@ -1,5 +1,5 @@
 -- Reading the corners of a face: where k steps lead, and that as many more the other way lead to the same corner.
-use Rattle.surf_model.proofs.Common.{◌≡◌, inl, inr, ℕ, zero, suc, ◌+◌, ◌-◌, ◌<◌, ◌≤◌, Bool, true, false, not, List, [], ◌∷◌, ◌++◌, length, get_or, refl, ap, sym, ◌∙◌, arith, cases_lt, nat_tests, next_corner, corners_from}
+use Rattle.surf_model.proofs.Common.{◌≡◌, inl, inr, ℕ, zero, suc, ◌+◌, ◌-◌, ◌<◌, ◌≤◌, Bool, true, false, not, List, [], ◌∷◌, ◌++◌, length, get_or, refl, ap, ◌∙◌, arith, cases_lt, nat_tests, next_corner, corners_from}
 
 -- the corner that k steps from corner t lead to, of m corners
 abbrev pub corner_after : Bool → ℕ → ℕ → ℕ → ℕ
@@ -59,13 +59,8 @@ falls_past m t (suc k) h l p = elim (cases_lt 0 t) [
 
 -- k steps one way and the other steps the other way lead to the same corner
 meet_rising : (m t k : ℕ) → t < m → k ≤ m → corner_after true m t k ≡ corner_after false m t (m - k)
-meet_rising m t k h l = elim (cases_lt (t + k) m) [
-  | inl within ↦ rises m t k h within ∙ sym (falls_past m t (m - k) h (omega arith) (omega arith) ∙ omega arith)
-  | inr past ↦ rises_past m t k h l past ∙ sym (falls m t (m - k) h (omega arith) ∙ omega arith)
-]
+meet_rising m t k h l = grind (arith, rises, falls_past, rises_past, falls)
 
 pub meet : (rising : Bool) (m t k : ℕ) → t < m → k ≤ m → corner_after rising m t k ≡ corner_after (not rising) m t (m - k)
 meet true m t k h l = meet_rising m t k h l
-meet false m t k h l =
-    let back : m - (m - k) ≡ k = omega arith in
-    sym (meet_rising m t (m - k) h (omega arith) ∙ ap (corner_after false m t) back)
+meet false m t k h l = grind (arith, meet_rising)

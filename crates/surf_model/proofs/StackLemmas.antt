@@ -35,9 +35,7 @@ no_spur_below x stack h k l =
 
 no_spur_more : (v u x : ℕ) (rest : List ℕ) → v ≢ x → HasNoSpur (u ∷ x ∷ rest) → HasNoSpur (v ∷ u ∷ x ∷ rest)
 no_spur_more v u x rest n h zero l = n
-no_spur_more v u x rest n h (suc k) l =
-    let up : suc (k + 2) ≡ suc k + 2 = omega arith in
-    subst (λ (n : ℕ). get_or (v ∷ u ∷ x ∷ rest) (suc k) 0 ≢ get_or (v ∷ u ∷ x ∷ rest) n 0) up (h k (omega arith))
+no_spur_more v u x rest n h (suc k) l = grind arith
 
 few_no_spur : (stack : List ℕ) → length stack ≤ 2 → HasNoSpur stack
 few_no_spur stack h k l = absurd (omega arith)
@@ -58,10 +56,7 @@ all_put_keeps (v ∷ vs) stack h = all_put_keeps vs (put_on stack v) (put_keeps 
 -- the one law: there and back leaves the stack as it was
 pub there_and_back : (u v : ℕ) (below : List ℕ) → HasNoSpur (u ∷ below) → put_on (put_on (u ∷ below) v) u ≡ u ∷ below
 there_and_back u v [] h = put_same v u u [] refl
-there_and_back u v (x ∷ []) h = elim (cases_eq x v) [
-  | inl e ↦ ap (λ (s : List ℕ). put_on s u) (put_same u x v [] e)
-  | inr n ↦ ap (λ (s : List ℕ). put_on s u) (put_other u x v [] n) ∙ put_same v u u (x ∷ []) refl
-]
+there_and_back u v (x ∷ []) h = grind (arith, put_same, put_other)
 there_and_back u v (x ∷ y ∷ rest) h = elim (cases_eq x v) [
   | inl e ↦ ap (λ (s : List ℕ). put_on s u) (put_same u x v (y ∷ rest) e) ∙ put_other x y u rest (λ same. h 0 (omega arith) (sym same))
   | inr n ↦ ap (λ (s : List ℕ). put_on s u) (put_other u x v (y ∷ rest) n) ∙ put_same v u u (x ∷ y ∷ rest) refl
@@ -76,21 +71,17 @@ abbrev pub AreSame : List ℕ → List ℕ → Type 0
 AreSame xs ys = (stack : List ℕ) → HasNoSpur stack → all_put stack xs ≡ all_put stack ys
 
 pub same_after : (front xs ys : List ℕ) → AreSame xs ys → AreSame (front ++ xs) (front ++ ys)
-same_after front xs ys h stack n =
-    all_put-append front xs stack ∙ h (all_put stack front) (all_put_keeps front stack n) ∙ sym (all_put-append front ys stack)
+same_after front xs ys h stack n = grind (arith, all_put-append, all_put_keeps)
 
 pub same_before : (xs ys rest : List ℕ) → AreSame xs ys → AreSame (xs ++ rest) (ys ++ rest)
-same_before xs ys rest h stack n =
-    all_put-append xs rest stack ∙ ap (λ (s : List ℕ). all_put s rest) (h stack n) ∙ sym (all_put-append ys rest stack)
+same_before xs ys rest h stack n = grind (arith, all_put-append)
 
 -- a spur leaves what its vertex leaves
 pub spur_same : (a b : ℕ) (rest : List ℕ) → AreSame (a ∷ b ∷ a ∷ rest) (a ∷ rest)
 spur_same a b rest stack n =
     let top = top_put stack a in
     let clean : HasNoSpur (a ∷ top.0) = subst HasNoSpur top.1 (put_keeps stack a n) in
-    let back : put_on (put_on (put_on stack a) b) a ≡ put_on stack a =
-    subst (λ (s : List ℕ). put_on (put_on s b) a ≡ s) (sym top.1) (there_and_back a b top.0 clean) in
-    ap (λ (s : List ℕ). all_put s rest) back
+    let back : put_on (put_on (put_on stack a) b) a ≡ put_on stack a = grind (arith, there_and_back) in grind arith
 
 -- a list turned round onto another
 abbrev pub turned_onto : List ℕ → List ℕ → List ℕ
@@ -145,7 +136,6 @@ no_spur_turned vs h k l same =
     let n : ℕ = length vs in
     let long : length (turned_onto vs []) ≡ n = length-turned_onto vs [] ∙ omega arith in
     let j : ℕ = n - 1 - (k + 2) in
-    let few : k + 2 < n = omega arith in
     let here : n - 1 - j ≡ k + 2 = omega arith in
     let there : n - 1 - (j + 2) ≡ k = omega arith in
     let one : get_or (turned_onto vs []) (k + 2) 0 ≡ get_or vs j 0 =

@@ -1,5 +1,5 @@
 -- What the functions on stored face lists need, said of the plain lists.
-use Rattle.surf_model.proofs.Common.{◌≡◌, ℕ, ◌+◌, ◌-◌, ◌<◌, ◌≤◌, List, [], ◌∷◌, ◌++◌, length, get_or, take, drop, ap, ap₂, sym, subst, ◌∙◌, arith, length-append, take-append-drop, take_all, drop_all, get_or-take, get_or-drop, length-take-le, length-drop, length-map, map-append, length_push, take-map, drop-map, All-push, All-same, All, first_side, FaceList, PendingFace, face_at, total_sides, IsFace, parts, EndsRise, last_end, IsNumbering, numbers, MOST_SIDES, VertexName}
+use Rattle.surf_model.proofs.Common.{◌≡◌, ℕ, ◌+◌, ◌-◌, ◌<◌, ◌≤◌, List, [], ◌∷◌, ◌++◌, length, get_or, take, drop, ap, ap₂, sym, subst, ◌∙◌, arith, length-append, common_steps, take-append-drop, take_all, drop_all, get_or-take, get_or-drop, length-take-le, length-drop, length-map, map-append, length_push, take-map, drop-map, All-push, All-same, All, first_side, FaceList, PendingFace, face_at, total_sides, IsFace, parts, EndsRise, last_end, IsNumbering, numbers, MOST_SIDES, VertexName}
 use Rattle.surf_model.specs.StoredFaces.{stored_mesh, IsStored, stored_pending, IsStoredPending}
 use Rattle.surf_model.proofs.PartsLemmas.{length-parts, get_or-parts, part_within, parts-push, EndsRise-push, EndsRise-last, sum_by-parts, sum_by-take-parts, last_end-push}
 
@@ -44,10 +44,7 @@ lies_at count ends corners mesh f h seen l =
 
 pub total_sides-stored_mesh : (count : ℕ) (ends : List ℕ) (corners : List VertexName) → EndsRise 0 ends (length corners)
     → total_sides (stored_mesh count ends corners) ≡ length corners
-total_sides-stored_mesh count ends corners h =
-    let long : length (numbers corners) ≡ length corners = length-map corners (λ v. v.0) in
-    let rises : EndsRise 0 ends (length (numbers corners)) = rw long h in
-    omega (arith, long, sum_by-parts 0 ends (numbers corners) rises)
+total_sides-stored_mesh count ends corners h = grind (arith, common_steps, sum_by-parts)
 
 -- the numbers of a part of the corners
 pub numbers-part : (n s : ℕ) (corners : List VertexName) → numbers (take n (drop s corners)) ≡ take n (drop s (numbers corners))
@@ -96,10 +93,7 @@ IsStored-push count ends corners face m h ok room e =
     All-same (IsFace count) _ _ (ap (λ (mesh : FaceList). mesh.faces) (stored_mesh-push count ends corners face m h.rising e)) faces in
     record {
       mesh = record { faces = all_faces };
-      small = record {
-        few_vertices = h.small.few_vertices;
-        few_sides = omega (arith, all_total, whole, e, total, room);
-      };
+      small = grind arith;
       rising = rises_whole;
       few_corners = omega (arith, whole, e, total, room);
       few_faces = omega (arith, h.few_faces, polygon, length-append corners face, length_push ends m);
@@ -112,14 +106,7 @@ numbering count ends corners mesh h seen =
     let many : length mesh.faces ≡ length ends = length-faces count ends corners mesh seen in
     let last : last_end ends ≡ length corners = EndsRise-last ends (length corners) h.rising in
     let lies : (f : ℕ) → f < length ends → LiesAt mesh ends corners f =
-    λ f l. lies_at count ends corners mesh f h seen (omega (arith, l, many)) in
-    record {
-      each_face = sym many;
-      starts = λ f l. sym (lies f l).first;
-      ends = λ f l. omega (arith, (lies f l).first, (lies f l).size, (lies f l).rises);
-      rising = subst (EndsRise 0 ends) (sym last) h.rising;
-      few = omega (arith, last, h.few_corners);
-    }
+    λ f l. lies_at count ends corners mesh f h seen (omega (arith, l, many)) in grind arith
 
 -- ---- a face list, and the corners of a face that is not yet in it
 
@@ -136,9 +123,7 @@ total_sides-pending count ends corners seen h is =
 
 pub length-pending : (count : ℕ) (ends : List ℕ) (corners : List VertexName) (seen : PendingFace) → stored_pending count ends corners ≡ seen
     → length seen.pending ≡ length corners - last_end ends
-length-pending count ends corners seen is =
-    ap (λ (p : PendingFace). length p.pending) (sym is) ∙ length-map (drop (last_end ends) corners) (λ v. v.0)
-    ∙ length-drop (last_end ends) corners
+length-pending count ends corners seen is = grind (arith, common_steps)
 
 -- the corners behind the list are those of its last face
 pub record IsClosed (count : ℕ) (ends : List ℕ) (corners : List VertexName) (old : PendingFace) : Type 0 where

@@ -1,5 +1,5 @@
 -- What the table of a mesh says of its edges and of its vertices.
-use Rattle.surf_model.proofs.Common.{◌≡◌, ◌⊎◌, inl, inr, ℕ, zero, suc, ◌+◌, ◌<◌, Bool, true, false, ◌||◌, eqb, List, [], ◌∷◌, length, map, get_or, refl, ap, sym, ◌∙◌, subst, arith, false_from_ne_true, cases_Bool, cond-true, cond-false, or_cases, or_left, or_right, nat_tests, same_from_decides, length-map, get_or-map, get_or_default, Contains-append_left, Contains-append_right, Any-from_list_any, list_any-from_Any, list_any_at, list_any-append, get_or-map-range_with_len, length-range_with_len, list_any, enumerate_from, range_with_len, All, Any, Contains, filter, flat_map, Edge, IsTableOf, IsEdgeOf, HasEnds, IsEndOf, side_name, FaceList, FaceSide, face_at, all_sides, sides_of_face, next_corner, joins, is_edge, is_used, Side}
+use Rattle.surf_model.proofs.Common.{◌≡◌, ◌⊎◌, inl, inr, ℕ, zero, suc, ◌+◌, ◌<◌, Bool, true, false, ◌||◌, eqb, List, [], ◌∷◌, length, map, get_or, refl, ap, sym, ◌∙◌, subst, arith, false_from_ne_true, cases_Bool, cond-true, cond-false, or_cases, or_left, or_right, nat_tests, same_from_decides, common_steps, length-map, get_or-map, get_or_default, Contains-append_left, Contains-append_right, Any-from_list_any, list_any-from_Any, list_any_at, list_any-append, get_or-map-range_with_len, length-range_with_len, list_any, enumerate_from, range_with_len, All, Any, Contains, filter, flat_map, Edge, IsTableOf, IsEdgeOf, HasEnds, IsEndOf, side_name, FaceList, FaceSide, face_at, all_sides, sides_of_face, next_corner, joins, is_edge, is_used}
 use Rattle.surf_model.proofs.NumberLemmas.{face_side, length-sides_of_face, get_or-sides_of_face}
 
 -- a side has the vertex at one of its ends
@@ -32,9 +32,7 @@ names_joins a b v s h e = grind (arith, nat_tests)
 
 -- some side of the mesh joins the ends of an edge of its table
 side_of_edge : (mesh : FaceList) (e : Edge) → IsEdgeOf mesh e → list_any (joins e.low e.high) (all_sides mesh) ≡ true
-side_of_edge mesh e h =
-    list_any_from_filter (joins e.low e.high) (all_sides mesh)
-    (omega (arith, h.some_side, ap (λ xs. length xs) h.sides, length-map (filter (joins e.low e.high) (all_sides mesh)) side_name))
+side_of_edge mesh e h = grind (arith, common_steps, list_any_from_filter)
 
 pub edge_from_table : (mesh : FaceList) (table : List Edge) (u v : ℕ) → IsTableOf mesh table → Any (HasEnds u v) table
     → is_edge mesh u v ≡ true
@@ -88,8 +86,7 @@ names_face v f face =
           let any = Any-from_list_any (λ corner. eqb corner v) face h in
           let t : ℕ = any.0 in
           let read : get_or face t 0 ≡ any.1 = get_or_default face t 0 any.1 any.2 ∙ any.3 in
-          let here : names v (side t) ≡ true = or_left (eqb (get_or face t 0) v) (eqb (get_or face (next_corner true m t) 0) v)
-          (subst (λ x. eqb x v ≡ true) (sym read) any.4) in
+          let here : names v (side t) ≡ true = grind (arith, or_left) in
           list_any_at (names v) (sides_of_face f face) t (side t) (omega (arith, any.2, long))
           (subst (λ s. names v s ≡ true) (sym (get_or-map-range_with_len side 0 m t t (side t) any.2 (omega arith))) here),
     )
@@ -125,8 +122,7 @@ end_from_used mesh table v h is =
 
 pub Contains-filter : {A : Type 0} (p : A → Bool) (xs : List A) (x : A) → p x ≡ true → Contains xs x → Contains (filter p xs) x
 Contains-filter p [] x passes h = absurd (omega (arith, h.1))
-Contains-filter p (y ∷ ys) x passes (zero, l, is) =
-    subst (λ zs. Contains zs x) (sym (cond-true (p y) (y ∷ filter p ys) (filter p ys) (ap p is ∙ passes))) (0, omega arith, is)
+Contains-filter p (y ∷ ys) x passes (zero, l, is) = grind arith
 Contains-filter p (y ∷ ys) x passes (suc k, l, is) =
     let rest : Contains (filter p ys) x = Contains-filter p ys x passes (k, omega arith, is) in
     elim (cases_Bool (p y)) [
@@ -164,7 +160,6 @@ has_side mesh table f t h in_list in_face =
     let has : Contains (all_sides mesh) (face_side f (face_at mesh f) t) = face_side_in mesh f t in_list in_face in
     let found = h.complete has.0 (face_side f (face_at mesh f) t) has.1 in
     let e : Edge = found.1 in
-    let is : IsEdgeOf mesh e = subst (IsEdgeOf mesh) found.3 (h.edges found.0 e found.2) in
     let joined : joins e.low e.high (face_side f (face_at mesh f) t) ≡ true =
     subst (λ (s : FaceSide). joins e.low e.high s ≡ true) has.2 found.4 in
     let kept : Contains (filter (joins e.low e.high) (all_sides mesh)) (face_side f (face_at mesh f) t) =
@@ -175,11 +170,4 @@ has_side mesh table f t h in_list in_face =
       get_or-map side_name (filter (joins e.low e.high) (all_sides mesh)) kept.0 (face_side f (face_at mesh f) t)
           (side_name (face_side f (face_at mesh f) t)) kept.1
           ∙ ap side_name kept.2,
-    ) in (
-      found.0,
-      e,
-      found.2,
-      found.3,
-      subst (λ (xs : List Side). Contains xs (record { face = record { 0 = f }; at = t })) (sym is.sides)
-          named,
-    )
+    ) in grind arith

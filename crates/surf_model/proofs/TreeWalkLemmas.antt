@@ -30,10 +30,8 @@ one_way_up parent v [] [] h k = refl
 one_way_up parent v [] (x ∷ others) h k = absurd (let e : None ≡ Some x = sym h ∙ k.0 in cc)
 one_way_up parent v (x ∷ rest) [] h k = absurd (let e : None ≡ Some x = sym k ∙ h.0 in cc)
 one_way_up parent v (x ∷ rest) (y ∷ others) h k =
-    let read : Some x ≡ Some y = sym h.0 ∙ k.0 in
     let e : x ≡ y = cc in
-    let more : rest ≡ others = one_way_up parent x rest others h.1 (subst (λ (z : ℕ). IsWayUp parent z others) (sym e) k.1) in
-    cc
+    let more : rest ≡ others = one_way_up parent x rest others h.1 (subst (λ (z : ℕ). IsWayUp parent z others) (sym e) k.1) in grind arith
 
 -- the way down to v that is the way up turned round, without the root
 abbrev down_to : ℕ → List ℕ → List ℕ
@@ -78,9 +76,7 @@ along_rest parent u v walk h k l =
 tree_walk : (parent : ℕ → Option ℕ) (rank : ℕ → ℕ) → RankFalls parent rank → (walk : List ℕ) (u : ℕ) (rest others : List ℕ)
     → IsAlongTree parent (u ∷ walk)
     → IsWayUp parent u rest → IsWayUp parent (last_of u walk) others → AreSame (u ∷ walk) (up_and_down u rest (last_of u walk) others)
-tree_walk parent rank falls [] u rest others along h k =
-    let e : rest ≡ others = one_way_up parent u rest others h k in
-    subst (λ (l : List ℕ). AreSame (u ∷ []) (up_and_down u rest u l)) e (same_back (up_and_down u rest u rest) (u ∷ []) (home u rest))
+tree_walk parent rank falls [] u rest others along h k = grind (arith, one_way_up, same_back, home)
 tree_walk parent rank falls (v ∷ walk) u rest others along h k =
     let way = some_way_up parent rank falls (rank v) v (omega arith) in
     let end : ℕ = last_of v walk in
@@ -123,8 +119,7 @@ one_tree_walk parent rank falls (u ∷ walk) (v ∷ other) h k a b c d e =
     let second_way : AreSame (v ∷ other) (up_and_down v one.0 (last_of v other) two.0) =
     tree_walk parent rank falls other v one.0 two.0 b (subst (λ (x : ℕ). IsWayUp parent x one.0) start one.1)
     (subst (λ (x : ℕ). IsWayUp parent x two.0) close two.1) in
-    let shape : up_and_down v one.0 (last_of v other) two.0 ≡ up_and_down u one.0 end two.0 =
-    ap (λ (x : ℕ). up_and_down v one.0 x two.0) (sym close) ∙ ap (λ (x : ℕ). up_and_down x one.0 end two.0) (sym start) in
+    let shape : up_and_down v one.0 (last_of v other) two.0 ≡ up_and_down u one.0 end two.0 = grind arith in
     same_equal (u ∷ walk) (v ∷ other) c d
     (same_step (u ∷ walk) (up_and_down u one.0 end two.0) (v ∷ other) first_way
     (same_back (v ∷ other) (up_and_down u one.0 end two.0) (subst (λ (l : List ℕ). AreSame (v ∷ other) l) shape second_way)))

@@ -1,5 +1,5 @@
 -- What a move leaves: a walk with the same ends, from which the move back leads home.
-use Rattle.surf_model.proofs.Common.{◌≡◌, ℕ, ◌+◌, ◌-◌, ◌<◌, Bool, not, List, [], ◌∷◌, ◌++◌, length, get_or, refl, ap, sym, ◌∙◌, subst, arith, append_assoc, length-append, get_or-append-add, get_or_append_left, All-append, IsTrue, All, Some, FaceList, face_at, corners_from, is_used, apply, apply_all, Replaces, place_of, inverse_of, sides_of_move, way_back, IsWalk, HaveCommonEnds, Move, Insert, Remove, Across}
+use Rattle.surf_model.proofs.Common.{◌≡◌, ℕ, ◌+◌, ◌-◌, ◌<◌, Bool, not, List, [], ◌∷◌, ◌++◌, length, get_or, refl, ap, sym, ◌∙◌, subst, arith, append_assoc, length-append, common_steps, get_or-append-add, get_or_append_left, All-append, IsTrue, All, Some, FaceList, face_at, corners_from, is_used, apply, apply_all, Replaces, place_of, inverse_of, sides_of_move, way_back, IsWalk, HaveCommonEnds, Move, Insert, Remove, Across}
 use Rattle.std.proofs.Math.Bool.{not-not}
 use Rattle.surf_model.proofs.ReplacementLemmas.{by_replacing}
 use Rattle.surf_model.proofs.ContextLemmas.{stays_walk, first_answer, one_after_another}
@@ -69,24 +69,18 @@ alike mesh (Across at face corner forward taken) part other h =
 other_linked : (mesh : FaceList) (move : Move) (part other : List ℕ) → Replaces mesh move part other → Linked mesh other
 other_linked mesh (Insert at via) part other h = rw h.3 (h.1, (edge_swap mesh via.0 h.0 ∙ h.1, tt))
 other_linked mesh (Remove at via) part other h = rw h.2 tt
-other_linked mesh (Across at face corner forward taken) part other h =
-    rw h.4 (round_linked mesh face.0 (not forward) corner (length (face_at mesh face.0) - taken) h.0 h.1)
+other_linked mesh (Across at face corner forward taken) part other h = grind (arith, round_linked)
 
 abbrev IsUsed : FaceList → ℕ → Type 0
 IsUsed mesh v = IsTrue (is_used mesh v)
 
 other_used : (mesh : FaceList) (move : Move) (part other : List ℕ) → Replaces mesh move part other → All (IsUsed mesh) part
     → All (IsUsed mesh) other
-other_used mesh (Insert at via) part other h used =
-    let here : IsTrue (is_used mesh h.0) = tail_used mesh h.0 via.0 h.1 in
-    rw h.3
-    (all_more (IsUsed mesh) h.0 (via.0 ∷ h.0 ∷ []) here
-    (all_more (IsUsed mesh) via.0 (h.0 ∷ []) (head_used mesh h.0 via.0 h.1) (all_more (IsUsed mesh) h.0 [] here (none_yet (IsUsed mesh)))))
+other_used mesh (Insert at via) part other h used = grind (arith, tail_used, all_more, head_used, none_yet)
 other_used mesh (Remove at via) part other h used =
     let all : All (IsUsed mesh) (h.0 ∷ via.0 ∷ h.0 ∷ []) = subst (All (IsUsed mesh)) h.1 used in
     rw h.2 (all_more (IsUsed mesh) h.0 [] (all 0 0 (omega arith)) (none_yet (IsUsed mesh)))
-other_used mesh (Across at face corner forward taken) part other h used =
-    rw h.4 (round_used mesh face.0 (not forward) corner (length (face_at mesh face.0) - taken) h.0 h.1)
+other_used mesh (Across at face corner forward taken) part other h used = grind (arith, round_used)
 
 -- the walk taken apart before the first entry of the part, and before its last
 pub at_first : (before part after rest : List ℕ) (x : ℕ) → part ≡ x ∷ rest → before ++ part ++ after ≡ before ++ (x ∷ (rest ++ after))
@@ -104,8 +98,7 @@ replaced_linked mesh before part other after a linked h =
     let rest : Linked mesh (a.last ∷ after) =
     rest_of mesh a.last (before ++ a.part_front) after
     (subst (Linked mesh) (at_last before part after a.part_front a.last a.part_ends) h) in
-    let more : Linked mesh (a.other_front ++ a.last ∷ after) =
-    together mesh a.last a.other_front after (subst (Linked mesh) a.other_ends linked) rest in
+    let more : Linked mesh (a.other_front ++ a.last ∷ after) = grind (arith, together) in
     let same : a.other_front ++ a.last ∷ after ≡ a.first ∷ (a.other_rest ++ after) =
     sym (at_last [] other after a.other_front a.last a.other_ends) ∙ at_first [] other after a.other_rest a.first a.other_begins in
     let whole : Linked mesh (before ++ (a.first ∷ (a.other_rest ++ after))) =
@@ -141,9 +134,7 @@ abbrev end_of : List ℕ → ℕ
 end_of xs = get_or xs (length xs - 1) 0
 
 end_behind : (front rest : List ℕ) → 0 < length rest → end_of (front ++ rest) ≡ end_of rest
-end_behind front rest some =
-    let place : length (front ++ rest) - 1 ≡ length front + (length rest - 1) = rw length-append (omega arith) in
-    ap (λ (k : ℕ). get_or (front ++ rest) k 0) place ∙ get_or-append-add front rest (length rest - 1) 0
+end_behind front rest some = grind (arith, common_steps)
 
 same_start : (x : ℕ) (front rest others : List ℕ) → get_or (front ++ (x ∷ rest)) 0 0 ≡ get_or (front ++ (x ∷ others)) 0 0
 same_start x [] rest others = refl
@@ -181,8 +172,7 @@ replaces_back mesh (Insert at via) before part other after linked h = (h.0, h.3,
 replaces_back mesh (Remove at via) before part other after linked h =
     let open_walk : Linked mesh (before ++ (h.0 ∷ (via.0 ∷ h.0 ∷ after))) =
     subst (Linked mesh) (at_first before part after (via.0 ∷ h.0 ∷ []) h.0 h.1) linked in
-    let spur : Linked mesh (h.0 ∷ via.0 ∷ h.0 ∷ after) = rest_of mesh h.0 before (via.0 ∷ h.0 ∷ after) open_walk in
-    (h.0, spur.0, h.2, h.1)
+    let spur : Linked mesh (h.0 ∷ via.0 ∷ h.0 ∷ after) = rest_of mesh h.0 before (via.0 ∷ h.0 ∷ after) open_walk in grind arith
 replaces_back mesh (Across at face corner forward taken) before part other after linked h =
     let ring : List ℕ = face_at mesh face.0 in
     let left : length ring - (length ring - taken) ≡ taken = omega (arith, h.2) in (
@@ -216,29 +206,22 @@ undone mesh walk next move w e =
 -- the same of lists of moves
 pub list_keeps_walk : (mesh : FaceList) (moves : List Move) (walk next : List ℕ) → IsWalk mesh walk
     → apply_all mesh walk moves ≡ Some next → IsWalk mesh next
-list_keeps_walk mesh [] walk next w e =
-    let same : walk ≡ next = cc in
-    subst (IsWalk mesh) same w
+list_keeps_walk mesh [] walk next w e = grind arith
 list_keeps_walk mesh (move ∷ moves) walk next w e =
     let told = first_answer (λ x. apply_all mesh x moves) (apply mesh walk move) next e in
     list_keeps_walk mesh moves told.0 next (keeps_walk mesh walk told.0 move w told.1) told.2
 
 pub list_keeps_ends : (mesh : FaceList) (moves : List Move) (walk next : List ℕ) → 0 < length walk → apply_all mesh walk moves ≡ Some next
     → HaveCommonEnds walk next
-list_keeps_ends mesh [] walk next start e =
-    let same : walk ≡ next = cc in
-    record { starts = ap (λ (l : List ℕ). get_or l 0 0) same; ends = ap end_of same }
+list_keeps_ends mesh [] walk next start e = grind arith
 list_keeps_ends mesh (move ∷ moves) walk next start e =
     let told = first_answer (λ x. apply_all mesh x moves) (apply mesh walk move) next e in
     let one = keeps_ends mesh walk told.0 move start told.1 in
-    let more = list_keeps_ends mesh moves told.0 next (stays_walk mesh walk told.0 move start told.1) told.2 in
-    record { starts = one.starts ∙ more.starts; ends = one.ends ∙ more.ends }
+    let more = list_keeps_ends mesh moves told.0 next (stays_walk mesh walk told.0 move start told.1) told.2 in grind arith
 
 pub list_undone : (mesh : FaceList) (moves : List Move) (walk next : List ℕ) → IsWalk mesh walk → apply_all mesh walk moves ≡ Some next
     → apply_all mesh next (way_back mesh moves) ≡ Some walk
-list_undone mesh [] walk next w e =
-    let same : walk ≡ next = cc in
-    ap Some (sym same)
+list_undone mesh [] walk next w e = grind arith
 list_undone mesh (move ∷ moves) walk next w e =
     let told = first_answer (λ x. apply_all mesh x moves) (apply mesh walk move) next e in
     let most : apply_all mesh next (way_back mesh moves) ≡ Some told.0 =

@@ -13,9 +13,7 @@ loop-k-preserved c =
     let link : SideEntry = link_to c.args.edge next in
     let is : m ≡ get_or darts k 0 = c.dart-dart.ensures in
     let few : k < length darts = omega (arith, c.loop-k-test.true, c.sides-sides.ensures) in
-    let follows : get_or darts (next_corner true (length darts) k) 0 ≡ next.0 =
-    ap (λ n. get_or darts (next_corner true n k) 0) (sym c.sides-sides.ensures)
-    ∙ ap (λ i. get_or darts i 0) (sym c.corner_after.ensures.corner) ∙ sym c.dart-next.ensures in
+    let follows : get_or darts (next_corner true (length darts) k) 0 ≡ next.0 = grind arith in
     let below : get_or darts k 0 < length links = omega (arith, c.requires.sides k 0 few, c.loop-k.invariant.each) in
     let written : IsLinked edges (set links m link) m =
     subst (λ n. IsLinked edges (set links n link) n) (sym is)

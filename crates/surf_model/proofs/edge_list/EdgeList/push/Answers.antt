@@ -1,19 +1,11 @@
-use Rattle.surf_model.proofs.Common.{◌≡◌, ◌+◌, ◌≤◌, ◌∷◌, [], ◌++◌, List, length, map, ap, ◌∙◌, arith, rules, length-append, length-map, DartEdge, dart_of, SideEntry, MOST_SIDES, DartName}
+use Rattle.surf_model.proofs.Common.{◌≡◌, ◌+◌, ◌≤◌, ◌∷◌, [], ◌++◌, List, length, map, arith, rules, common_steps, length-map, SideEntry, MOST_SIDES, DartName}
 use Rattle.surf_model.proofs.EdgeListLemmas.{edge_list-push, stored-push, dart_count-edges}
 use Rattle.surf_model.proofs.edge_list.EdgeList.push.Goals as goal
 use Rattle.surf_model.proofs.edge_list.EdgeList.push.Goals.{After-len}
 
 -- the sides of the new edge end behind those that there were
 end : (c : After-len) → c.len.result ≡ length c.self.inside.darts.items + length c.args.sides.now
-end c =
-    omega (
-      arith,
-      c.len.ensures,
-      c.append.new.darts.ok.0,
-      ap (λ (ds : List DartName). length ds) c.in_ok-append.ensures.ok,
-      length-append c.self.inside.darts.items (map (λ (side : SideEntry). side.dart) c.args.sides.now),
-      length-map c.args.sides.now (λ (side : SideEntry). side.dart),
-    )
+end c = grind (arith, common_steps)
 
 few : (c : After-len) → c.len.result ≤ MOST_SIDES
 few c = omega (arith, end c, c.requires.room, dart_count-edges _ _ _ c.args.self.now c.self.invariant c.self.view_is)
@@ -33,12 +25,4 @@ invariant_of-self-2 c =
     c.self.invariant (omega (arith, size, c.requires.some)) (omega (arith, size, end len)) (few len))
 
 pub returns : goal.returns
-returns c =
-    let i = c.self.inside in
-    let pairs : c.push.new.self.items ≡ i.pairs.items ++ c.args.ends ∷ [] = search rules in
-    let stops : c.push-2.new.self.items ≡ i.stops.items ++ c.len.result ∷ [] = search rules in
-    rw (pairs, stops, c.in_ok-append.ensures.ok) (stored-push i.pairs.items i.stops.items i.darts.items c.args.sides.now c.args.ends
-    c.len.result c.self.invariant (end (goal.at.returns c).After-len)
-    ∙ ap (λ (edges : List DartEdge). let e : DartEdge =
-    record { low = c.args.ends.low.0; high = c.args.ends.high.0; darts = map dart_of c.args.sides.now } in edges ++ e ∷ [])
-    c.self.view_is)
+returns c = grind (arith, stored-push, end)

@@ -8,20 +8,17 @@ start-requires c = (lies_at _ _ _ c.args.self.now c.args.face.0 c.self.invariant
 
 pub overflow_add-start : goal.overflow_add-start
 overflow_add-start c =
-    let here = lies_at _ _ _ c.args.self.now c.args.face.0 c.self.invariant c.self.view_is c.requires.face in
-    omega (arith, c.start.ensures, here.rises, here.within, here.size, c.requires.corner, c.self.invariant.few_corners)
+    let here = lies_at _ _ _ c.args.self.now c.args.face.0 c.self.invariant c.self.view_is c.requires.face in grind arith
 
 pub index-requires : goal.index-requires
 index-requires c =
-    let here = lies_at _ _ _ c.args.self.now c.args.face.0 c.self.invariant c.self.view_is c.requires.face in
-    omega (arith, c.start.ensures, here.rises, here.within, here.size, c.requires.corner, c.self.inside.corners.ok.0)
+    let here = lies_at _ _ _ c.args.self.now c.args.face.0 c.self.invariant c.self.view_is c.requires.face in grind arith
 
 pub returns : goal.returns
 returns c =
     let corners = c.self.inside.corners.items in
     let here = lies_at _ _ _ c.args.self.now c.args.face.0 c.self.invariant c.self.view_is c.requires.face in
-    let below : c.start.result + c.args.t < length corners =
-    omega (arith, c.start.ensures, here.rises, here.within, here.size, c.requires.corner) in
+    let below : c.start.result + c.args.t < length corners = grind arith in
     ap (λ (v : VertexName). v.0) c.index.ensures
     ∙ sym (get_or-map (λ (v : VertexName). v.0) corners (c.start.result + c.args.t) c.index.result.now 0 below)
     ∙ ap (λ k. get_or (numbers corners) (k + c.args.t) 0) c.start.ensures

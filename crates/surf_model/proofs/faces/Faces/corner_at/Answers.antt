@@ -10,8 +10,7 @@ pub returns : goal.returns
 returns c = λ side h n.
     let corners = c.self.inside.corners.items in
     let here = lies_at _ _ _ c.args.self.now side.face.0 c.self.invariant c.self.view_is h.face in
-    let below : c.args.dart.0 < length corners =
-    omega (arith, c.requires, total_sides-seen _ _ _ c.args.self.now c.self.invariant c.self.view_is) in
+    let below : c.args.dart.0 < length corners = grind (arith, total_sides-seen) in
     let place : c.args.dart.0 ≡ get_or (0 ∷ c.self.inside.parts) side.face.0 0 + side.at = omega (arith, n, here.first) in
     ap (λ (v : VertexName). v.0) c.index.ensures
     ∙ sym (get_or-map (λ (v : VertexName). v.0) corners c.args.dart.0 c.index.result.now 0 below)

@@ -7,8 +7,7 @@ start-requires c = (lies_at _ _ _ c.args.self.now c.args.side.face.0 c.self.inva
 
 pub overflow_add-result : goal.overflow_add-result
 overflow_add-result c =
-    let here = lies_at _ _ _ c.args.self.now c.args.side.face.0 c.self.invariant c.self.view_is c.requires.face in
-    omega (arith, c.start.ensures, here.rises, here.within, here.size, c.requires.place, c.self.invariant.few_corners)
+    let here = lies_at _ _ _ c.args.self.now c.args.side.face.0 c.self.invariant c.self.view_is c.requires.face in grind arith
 
 pub returns-clause-number : goal.returns-clause-number
 returns-clause-number c =

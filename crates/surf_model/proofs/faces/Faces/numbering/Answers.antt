@@ -1,4 +1,4 @@
-use Rattle.surf_model.proofs.Common.{sym, subst, Ok, Err, Result, IfOk, IsFaceList, IsNumbering}
+use Rattle.surf_model.proofs.Common.{arith, sym, subst, Ok, Err, Result, IfOk, IsNumbering}
 use Rattle.surf_model.proofs.StoredLemmas.{numbering}
 use Rattle.surf_model.proofs.faces.Faces.numbering.Goals as goal
 
@@ -13,5 +13,4 @@ returns-clause-numbering c =
     c.copy.result c.copy.ensures
 
 pub returns-clause-valid : goal.returns-clause-valid
-returns-clause-valid c = weaker _ (λ _. IsFaceList c.args.self.now) (λ parts is. subst IsFaceList c.self.view_is c.self.invariant.mesh)
-    c.copy.result c.copy.ensures
+returns-clause-valid c = grind (arith, weaker)

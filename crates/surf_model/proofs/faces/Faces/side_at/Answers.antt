@@ -17,11 +17,4 @@ returns c =
     let f = c.part_at-face.result in
     let few : f < length c.args.self.now.faces = omega
     (arith, c.part_at-face.ensures.there, length-faces _ _ _ c.args.self.now c.self.view_is) in
-    let here = lies_at _ _ _ c.args.self.now f c.self.invariant c.self.view_is few in
-    record {
-      side = record {
-        face = few;
-        place = omega (arith, here.size, c.part_at-face.ensures.to, c.part_at-face.ensures.from, c.start.ensures);
-      };
-      number = omega (arith, here.first, c.part_at-face.ensures.from, c.start.ensures);
-    }
+    let here = lies_at _ _ _ c.args.self.now f c.self.invariant c.self.view_is few in grind arith

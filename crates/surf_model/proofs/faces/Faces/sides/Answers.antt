@@ -13,5 +13,4 @@ overflow_sub-result c = omega (arith, c.start.ensures, c.end.ensures.rises)
 
 pub returns : goal.returns
 returns c =
-    let here = lies_at _ _ _ c.args.self.now c.args.face.0 c.self.invariant c.self.view_is c.requires in
-    omega (arith, c.start.ensures, c.end.ensures.end, here.size)
+    let here = lies_at _ _ _ c.args.self.now c.args.face.0 c.self.invariant c.self.view_is c.requires in grind arith

@@ -17,15 +17,13 @@ push-requires-clause-room c =
 pub invariant_of-self-2 : goal.invariant_of-self-2
 invariant_of-self-2 c =
     let i = c.self.inside in
-    let whole : last_end i.parts + (c.len.result - c.total.result) ≡ length i.corners.items =
-    omega (arith, c.len.ensures, c.total.ensures, c.self.invariant.within, i.corners.ok.0) in
+    let whole : last_end i.parts + (c.len.result - c.total.result) ≡ length i.corners.items = grind arith in
     rw c.in_ok-push.ensures.ok (close_face i.count i.parts i.corners.items c.args.self.now _ c.self.invariant c.self.view_is
     c.requires.face c.requires.room whole).stored
 
 pub returns-clause-ok : goal.returns-clause-ok
 returns-clause-ok c =
     let i = c.self.inside in
-    let whole : last_end i.parts + (c.len.result - c.total.result) ≡ length i.corners.items =
-    omega (arith, c.len.ensures, c.total.ensures, c.self.invariant.within, i.corners.ok.0) in
+    let whole : last_end i.parts + (c.len.result - c.total.result) ≡ length i.corners.items = grind arith in
     rw c.in_ok-push.ensures.ok (close_face i.count i.parts i.corners.items c.args.self.now _ c.self.invariant c.self.view_is
     c.requires.face c.requires.room whole).seen

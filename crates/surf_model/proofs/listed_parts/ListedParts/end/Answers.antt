@@ -9,5 +9,4 @@ returns c =
     let few : k < length i.ends.items = subst (λ (ends : List ℕ). k < length ends) (sym c.self.view_is) c.requires in
     let here : IsPartWithin 0 i.ends.items (last_end i.ends.items) k =
     part_within 0 i.ends.items (last_end i.ends.items) k c.self.invariant.rising few in
-    let read : c.index.result.now ≡ get_or i.ends.items k 0 = get_or_read i.ends.items k _ few c.index.ensures 0 in
-    rw (← c.self.view_is) (record { end = read; rises = omega (arith, here.rises, read); within = omega (arith, here.within, read) })
+    let read : c.index.result.now ≡ get_or i.ends.items k 0 = get_or_read i.ends.items k _ few c.index.ensures 0 in grind arith

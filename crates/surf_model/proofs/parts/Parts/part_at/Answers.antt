@@ -1,4 +1,4 @@
-use Rattle.surf_model.proofs.Common.{◌+◌, ◌*◌, ◌/◌, ◌<◌, ℕ, zero, suc, sym, subst, arith, IsInPart, last_end}
+use Rattle.surf_model.proofs.Common.{◌+◌, ◌*◌, ◌/◌, ◌<◌, ℕ, zero, suc, subst, arith, IsInPart}
 use Rattle.std.proofs.Math.Nat.{mul-div-le, lt-mul-div-succ}
 use Rattle.surf_model.proofs.JoinedPartsLemmas.{last_end-joined, in_first, in_listed}
 use Rattle.surf_model.proofs.parts.Parts.part_at.Goals as goal
@@ -8,14 +8,7 @@ positive zero c place h = absurd (omega arith)
 positive (suc s) c place h = omega arith
 
 pub part_at-requires : goal.part_at-requires
-part_at-requires c =
-    let i = c.self.inside in
-    omega (
-      arith,
-      subst (λ ends. c.args.place < last_end ends) (sym c.self.view_is) c.requires,
-      last_end-joined i.size i.count i.rest,
-      c.if-place-listed.true,
-    )
+part_at-requires c = grind (arith, last_end-joined)
 
 pub returns-then-place-listed : goal.returns-then-place-listed
 returns-then-place-listed c =
