@@ -11,6 +11,7 @@ pub use Rattle.homotopy_arrays.specs.Classes.{AreClassed, AreClassesIn, AreCut, 
 pub use Rattle.homotopy_arrays.specs.Compact.{AreDecidedOnAny, IsCompactFault, IsCompactKept, IsDecideAnyFault, of_compact_fault}
 pub use Rattle.homotopy_arrays.specs.Decisions.{AreAnsweredOn, AreDecided, IsAskedFault, IsDecideFault, IsKept}
 pub use Rattle.homotopy_arrays.specs.Homologies.{AreLong, AreShown, IsHomologyFault, IsHomologyFaultOfPair, ShowsWalks, answer_by}
+pub use Rattle.homotopy_arrays.specs.HomologyJudgements.{IsArrayVerdict, IsVerifyHomologyFault, IsVerifyHomologyFaultOn, JudgesNumbers, JudgesNumbersOn}
 pub use Rattle.homotopy_arrays.specs.Judgements.{IsFaultOfMoves, IsFaultOfSpelling, IsFaultOfText, IsFaultOfWalks, IsVerdictOnMoves, IsVerifyFault, Judges, JudgesSpelt, JudgesText, JudgesWalks, of_certificate_fault}
 pub use Rattle.homotopy_arrays.specs.MeshArrays.{AreArraysOf, counts_fault, face_fault, mesh_in, unless}
 unfoldable pub use Rattle.homotopy_arrays.specs.MeshArrays.{faces_behind, mesh_of}
@@ -29,7 +30,7 @@ pub use Rattle.std.proofs.lemmas.Option.{get_or_from_slice_get, none-some}
 pub use Rattle.std.proofs.lemmas.Result.{err_from_is_err_and}
 pub use Rattle.std.specs.Global.{Vec}
 pub use Rattle.std.specs.List.{list_all}
-pub use Rattle.std.specs.Prelude.{All, Err, IfOk, MatchOption, MatchResult, None, Ok, Option, Result, Some, flat_map, if◌then◌else◌, is_some, nat_lt, option_map, slice_get, sum_by}
+pub use Rattle.std.specs.Prelude.{All, Err, IfOk, MatchOption, MatchResult, None, Ok, Option, Result, Some, flat_map, if◌then◌else◌, is_some, nat_lt, option_map, slice_get, sum_by, ℤ}
 pub use Rattle.surf_model.specs.FaceLists.{FaceList, IsFace, PendingFace, total_sides}
 pub use Rattle.surf_model.specs.OrientableSurfaces.{IsOrientableSurface}
 pub use Rattle.surf_model.specs.Walks.{HaveCommonEnds, IsWalk, darts}

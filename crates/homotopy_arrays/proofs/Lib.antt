@@ -8,3 +8,4 @@ pub mod CertificateLemmas
 pub mod JudgementLemmas
 pub mod CertificationLemmas
 pub mod HomologyLemmas
+pub mod HomologyJudgementLemmas

@@ -9,3 +9,4 @@ pub mod Classes
 pub mod Judgements
 pub mod Certifications
 pub mod Homologies
+pub mod HomologyJudgements
