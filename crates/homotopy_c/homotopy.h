@@ -7,7 +7,7 @@
  * A SURFACE is a mesh that is a surface, in one piece or in several: no edge is in more than two sides of faces, and the corners at each
  * vertex make one ring, or one fan where the vertex is on the boundary. `homotopy_decide_any` takes any surface, closed or with boundary,
  * orientable or not, and `homotopy_mesh_new_any` keeps one. The other questions take orientable closed ones: each edge is in two sides, and
- * the faces can be turned so that each edge is run both ways. `homotopy_verify` takes any mesh.
+ * the faces can be turned so that each edge is run both ways. `homotopy_verify` and `homotopy_verify_homology` take any mesh.
  *
  * A WALK is an array of the numbers of the vertices that it passes, one after another joined by edges. A walk of one vertex stays there.
  * Two walks with the same first and the same last vertex are homotopic where one can be moved over the surface to the other. A closed walk
@@ -93,6 +93,8 @@ enum homotopy_code {
     HOMOTOPY_EXTRA_LINE = 44,       /* a line stands behind the last one [line] */
     HOMOTOPY_LARGE_PEAK = 45,       /* the peak in its head is more than 16,000,000 [line] */
 
+    HOMOTOPY_UNKNOWN_ANSWER = 46,   /* the answer that numbers are to show is neither HOMOLOGOUS nor NOT_HOMOLOGOUS [answer] */
+
     /* the certificate is rejected: of a list of moves, which are counted from 1 */
     HOMOTOPY_REJECTED_PEAK = 50,       /* the first walk has more darts than the peak */
     HOMOTOPY_REJECTED_MOVE_PLACE = 51, /* the walk does not reach so far [move] */
@@ -108,6 +110,14 @@ enum homotopy_code {
     HOMOTOPY_REJECTED_EDGE = 60,       /* the labels at an edge meet no rule [lower vertex, higher vertex] */
     HOMOTOPY_REJECTED_WORD = 61,       /* the word of a walk is another one [walk] */
     HOMOTOPY_REJECTED_EQUAL = 62,      /* both words are right, and are equal */
+    /* and of numbers, of which places are counted from 0 */
+    HOMOTOPY_REJECTED_COUNT = 63,      /* they are not one for each face, or of a cocycle one for each corner */
+    HOMOTOPY_REJECTED_LARGE = 64,      /* a number is larger in size than 2,147,483,647 [place] */
+    HOMOTOPY_REJECTED_UNEVEN = 65,     /* two sides of one edge have numbers that do not agree */
+    HOMOTOPY_REJECTED_BOUNDARY = 66,   /* of a chain: its sides at an edge do not add up to what the first walk runs more there
+                                        * [lower vertex, higher vertex] */
+    HOMOTOPY_REJECTED_SUM = 67,        /* of a cocycle: round a face it does not add up to 0 [face] */
+    HOMOTOPY_REJECTED_ZERO = 68,       /* of a cocycle: it adds up to the same along both walks */
 
     HOMOTOPY_CERTIFY_SIDES = 70, /* the surface has more sides than a certificate is made on, 16,384 [sides] */
     HOMOTOPY_CERTIFY_DARTS = 71, /* the walks together have more darts than one is made for, 512 [darts] */
@@ -257,6 +267,18 @@ void homotopy_verify(
     const uint32_t *first, size_t first_count, const uint32_t *second, size_t second_count,
     const uint8_t *certificate, size_t certificate_bytes, homotopy_outcome *outcome);
 
+/* What comes of numbers that are to show of two walks on a mesh, which need be no surface, that they are homologous, or that they are not:
+ * `answer` is HOMOLOGOUS or NOT_HOMOLOGOUS, and `numbers` a chain, one for each face, or a cocycle, one for each corner, as
+ * `homotopy_homology` writes them. An edge may have any number of sides: all sides of a chain at an edge are added up, and all those of a
+ * cocycle are to agree. Code ACCEPTED where they show it: then the walks are what `answer` says. REJECTED_COUNT to REJECTED_ZERO for the
+ * first reason against them, in the order of the codes: of a chain the least edge, by its lower and then by its higher vertex, and of a
+ * cocycle the least face. Or UNKNOWN_ANSWER, with nothing else looked at; or what is first wrong with the mesh or the walks, in this
+ * order. */
+void homotopy_verify_homology(
+    uint32_t vertices, const uint32_t *sizes, size_t face_count, const uint32_t *corners, size_t corner_count,
+    const uint32_t *first, size_t first_count, const uint32_t *second, size_t second_count,
+    uint32_t answer, const int64_t *numbers, size_t number_count, homotopy_outcome *outcome);
+
 /* What the codes say: the line that the program prints for it, which docs/FORMATS.md explains ("" where the program has none), and a
  * sentence. {0}, {1} and {2} stand for the numbers of the outcome. This is the one table of these texts. */
 #define HOMOTOPY_TEXTS(ROW) \
@@ -299,6 +321,7 @@ void homotopy_verify(
     ROW(ENDED_EARLY, "refused: certificate line {0} ended", "the certificate ends before line {0}, and lines are missing") \
     ROW(EXTRA_LINE, "refused: certificate line {0} extra", "line {0} of the certificate stands behind its last one") \
     ROW(LARGE_PEAK, "refused: certificate line {0} peak", "the peak on line {0} of the certificate is more than 16,000,000") \
+    ROW(UNKNOWN_ANSWER, "", "the answer that numbers are to show is {0}, and neither HOMOLOGOUS nor NOT_HOMOLOGOUS") \
     ROW(REJECTED_PEAK, "rejected: peak", "the first walk has more darts than the peak") \
     ROW(REJECTED_MOVE_PLACE, "rejected: move {0} place", "at move {0} the walk does not reach so far") \
     ROW(REJECTED_MOVE_EDGE, "rejected: move {0} edge", "move {0} goes along no edge") \
@@ -312,6 +335,12 @@ void homotopy_verify(
     ROW(REJECTED_EDGE, "rejected: edge {0} {1}", "the labels at the edge {0} {1} meet no rule") \
     ROW(REJECTED_WORD, "rejected: word {0}", "the word of walk {0} is another one") \
     ROW(REJECTED_EQUAL, "rejected: equal", "both words are right, and are equal") \
+    ROW(REJECTED_COUNT, "", "there is not a number for each face, or of a cocycle for each side") \
+    ROW(REJECTED_LARGE, "", "the number at place {0} is larger in size than 2,147,483,647") \
+    ROW(REJECTED_UNEVEN, "", "two sides of one edge have numbers that do not agree") \
+    ROW(REJECTED_BOUNDARY, "rejected: edge {0} {1}", "at the edge {0} {1} the chain does not add up to the difference of the walks") \
+    ROW(REJECTED_SUM, "rejected: face {0}", "round face {0} the cocycle does not add up to 0") \
+    ROW(REJECTED_ZERO, "rejected: zero", "the cocycle adds up to the same along both walks") \
     ROW(CERTIFY_SIDES, "refused: certify sides {0}", "the surface has {0} sides, and a certificate is made on at most 16,384") \
     ROW(CERTIFY_DARTS, "refused: certify darts {0}", "the walks have {0} darts together, and a certificate is made for at most 512") \
     ROW(HOMOLOGY_DARTS, "", "the walks have {0} darts together, and at most 2,147,483,647 are counted for homology")

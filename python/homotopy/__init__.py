@@ -26,10 +26,12 @@ except ImportError:
 
 __version__ = "1.1.0"
 __all__ = ["Answer", "Faces", "Mesh", "Refused", "Surface", "Verdict", "certify", "decide", "decide_any", "homology", "surface",
-           "verify"]
+           "verify", "verify_homology"]
 
 _SHORT_ROOM, _NO_MEMORY, _ACCEPTED = 4, 5, 3
 _REJECTED = range(50, 70)
+# The least and the most of the numbers of an array, by its code.
+_BOUNDS = {"I": (0, 2**32 - 1), "q": (-2**63, 2**63 - 1)}
 # What Python takes for a number, and is none.
 _BOOLEANS = {bool} if numpy is None else {bool, numpy.bool_}
 
@@ -95,17 +97,18 @@ def _is_whole(item):
     return hasattr(item, "__index__") and type(item) not in _BOOLEANS
 
 
-def _refuse(item, place, what):
-    """Raises what is wrong with a number."""
+def _refuse(item, place, what, code="I"):
+    """Raises what is wrong with a number of an array."""
     where = "%s: place %d" % (what, place)
     if not _is_whole(item):
         raise TypeError("%s has %r, which is no whole number" % (where, item))
-    number = operator.index(item)
-    raise OverflowError("%s has %d, which is %s" % (where, number, "below 0" if number < 0 else "more than 4,294,967,295"))
+    number, (least, most) = operator.index(item), _BOUNDS[code]
+    beyond = "below {:,}".format(least) if number < least else "more than {:,}".format(most)
+    raise OverflowError("%s has %d, which is %s" % (where, number, beyond))
 
 
-def _copied(items, what):
-    """The numbers of a sequence, 32 bits each."""
+def _copied(items, what, code="I"):
+    """The numbers of a sequence, as an array with this code: of 32 bits each, or of 64 with a sign."""
     if isinstance(items, (str, bytes, bytearray, dict, set, frozenset)):
         raise TypeError("%s is of the type %s, and not a sequence of numbers" % (what, type(items).__name__))
     try:
@@ -115,11 +118,12 @@ def _copied(items, what):
     try:
         if not _BOOLEANS.isdisjoint(map(type, items)):
             raise TypeError
-        return array.array("I", items)
+        return array.array(code, items)
     except (TypeError, OverflowError):
+        least, most = _BOUNDS[code]
         for place, item in enumerate(items):
-            if not _is_whole(item) or not 0 <= operator.index(item) < 2**32:
-                _refuse(item, place, what)
+            if not _is_whole(item) or not least <= operator.index(item) <= most:
+                _refuse(item, place, what, code)
         raise
 
 
@@ -155,10 +159,17 @@ class _Lent:
             if numbers.size:
                 return cls(numbers, numbers.ctypes.data, numbers.size)
             items = ()
-        numbers = items if isinstance(items, array.array) and items.typecode == "I" else _copied(items, what)
-        length = len(numbers)
-        held = numbers if length else array.array("I", [0])
-        return cls(held, held.buffer_info()[0], length)
+        return cls._of_array(items if isinstance(items, array.array) and items.typecode == "I" else _copied(items, what))
+
+    @classmethod
+    def of_signed(cls, items, what):
+        """The same of numbers of 64 bits with a sign, which are copied."""
+        return cls._of_array(_copied(items, what, "q"))
+
+    @classmethod
+    def _of_array(cls, numbers):
+        held = numbers or array.array(numbers.typecode, [0])
+        return cls(held, held.buffer_info()[0], len(numbers))
 
 
 def _mesh(vertices, faces):
@@ -352,6 +363,23 @@ def verify(vertices, faces, first, second, certificate):
     mesh, _kept = _mesh(vertices, faces)
     one, other, outcome, text = _Lent.of(first, "the first walk"), _Lent.of(second, "the second walk"), Outcome(), bytes(certificate)
     call("homotopy_verify", *mesh, *one.words, *other.words, text, len(text), outcome)
+    return _verdict(outcome)
+
+
+def verify_homology(vertices, faces, first, second, answer, numbers):
+    """The `Verdict` on numbers that are to show of two walks of a mesh, which need be no surface, what `answer` says.
+
+    That is HOMOLOGOUS, and the numbers are a chain, one for each face; or NOT_HOMOLOGOUS, and they are a cocycle that separates the walks,
+    one for each side. Both are as `homology` gives them.
+    """
+    mesh, _kept = _mesh(vertices, faces)
+    one, other, outcome = _Lent.of(first, "the first walk"), _Lent.of(second, "the second walk"), Outcome()
+    shown = _Lent.of_signed(numbers, "the array of numbers")
+    call("homotopy_verify_homology", *mesh, *one.words, *other.words, int(Answer(answer)), *shown.words, outcome)
+    return _verdict(outcome)
+
+
+def _verdict(outcome):
     if outcome.code == _ACCEPTED:
         return Verdict(True, None)
     if outcome.code in _REJECTED:

@@ -36,6 +36,7 @@ _ARGUMENTS = {
     "homotopy_certify": [ctypes.c_uint32] + 5 * _ARRAY + _ENDING,
     "homotopy_homology": [ctypes.c_uint32] + 5 * _ARRAY + _ENDING,
     "homotopy_verify": [ctypes.c_uint32] + 5 * _ARRAY + _ENDING,
+    "homotopy_verify_homology": [ctypes.c_uint32] + 4 * _ARRAY + [ctypes.c_uint32] + _ARRAY + _ENDING,
 }
 
 

@@ -1,5 +1,6 @@
 /* Asks whether walks are homologous, and judges the numbers that the library writes: edge by edge where they are a chain, and face by face
- * and along the walks where they are a cocycle. Which walks are homologous was worked out by hand. */
+ * and along the walks where they are a cocycle. Which walks are homologous was worked out by hand. The library has to accept these numbers
+ * too, and to reject them with any one of them changed. */
 #include "homotopy.h"
 
 #include <stdio.h>
@@ -78,6 +79,30 @@ static int is_cocycle(mesh it, walk first, walk second, const int64_t *numbers) 
     return along != 0;
 }
 
+/* Hands numbers to the judge, in a block of their own, so that a sanitizer sees what is read behind them. */
+static homotopy_outcome judged(mesh it, walk first, walk second, uint32_t answer, const int64_t *numbers, size_t count) {
+    homotopy_outcome outcome = {99, {9, 9, 9}};
+    int64_t *held = malloc(8 * (count + !count));
+    memcpy(held, numbers, 8 * count);
+    homotopy_verify_homology(it.vertices, SIZES, it.faces, it.corners, 3 * it.faces, first.vertices, first.count, second.vertices,
+                             second.count, answer, held, count, &outcome);
+    free(held);
+    return outcome;
+}
+
+/* What is written is accepted. On a closed surface a number more at one face leaves no chain, and one more at one side no even numbers. */
+static void judge_written(mesh it, walk first, walk second, uint32_t answer, int64_t *numbers, size_t count) {
+    const uint32_t other = answer == HOMOTOPY_HOMOLOGOUS ? HOMOTOPY_NOT_HOMOLOGOUS : HOMOTOPY_HOMOLOGOUS;
+    EXPECT(is(judged(it, first, second, answer, numbers, count), HOMOTOPY_ACCEPTED, 0, 0));
+    EXPECT(is(judged(it, first, second, other, numbers, count), HOMOTOPY_REJECTED_COUNT, 0, 0));
+    for (size_t k = 0; k < count; k++) {
+        numbers[k]++;
+        const uint32_t code = judged(it, first, second, answer, numbers, count).code;
+        EXPECT(code == (answer == HOMOTOPY_HOMOLOGOUS ? HOMOTOPY_REJECTED_BOUNDARY : HOMOTOPY_REJECTED_UNEVEN));
+        numbers[k]--;
+    }
+}
+
 /* Asks with no room, with one number too little, with all that are wanted and with more. */
 static void expect(mesh it, walk first, walk second, uint32_t code) {
     const size_t wanted = code == HOMOTOPY_HOMOLOGOUS ? it.faces : 3 * it.faces;
@@ -89,6 +114,7 @@ static void expect(mesh it, walk first, walk second, uint32_t code) {
         EXPECT(room < wanted ? is(outcome, HOMOTOPY_SHORT_ROOM, wanted, code) : is(outcome, code, wanted, 0));
         for (size_t k = put; k < room; k++) EXPECT(numbers[k] == 7777);
         if (put) EXPECT(code == HOMOTOPY_HOMOLOGOUS ? is_chain(it, first, second, numbers) : is_cocycle(it, first, second, numbers));
+        if (put) judge_written(it, first, second, code, numbers, put);
         free(numbers);
     }
 }
@@ -138,6 +164,95 @@ static void faults(void) {
     EXPECT(is(outcome, HOMOTOPY_CORNER_COUNT, 0, 0) && numbers[0] == 7);
 }
 
+#define JUDGED(it, first, second, answer, ...) \
+    judged(it, first, second, answer, (int64_t[]){__VA_ARGS__}, COUNT(((int64_t[]){__VA_ARGS__})))
+
+/* On the tetrahedron, on three of its faces, and on three triangles at one edge. */
+static void judges_chains(void) {
+    static const uint32_t book[] = {0, 1, 2, 0, 1, 3, 0, 1, 4};
+    const mesh sphere = {4, 4, TETRA}, open = {4, 3, TETRA}, three = {5, 3, book};
+    const walk over = WALK(0, 1, 2), under = WALK(0, 2);
+    const uint32_t yes = HOMOTOPY_HOMOLOGOUS;
+    EXPECT(is(JUDGED(sphere, over, under, yes, 1, 0, 0, 0), HOMOTOPY_ACCEPTED, 0, 0));
+    EXPECT(is(JUDGED(sphere, under, over, yes, -1, 0, 0, 0), HOMOTOPY_ACCEPTED, 0, 0));
+    EXPECT(is(JUDGED(sphere, over, under, yes, -4, -5, -5, -5), HOMOTOPY_ACCEPTED, 0, 0));
+    EXPECT(is(JUDGED(sphere, over, under, yes, 2147483647, 2147483646, 2147483646, 2147483646), HOMOTOPY_ACCEPTED, 0, 0));
+    EXPECT(is(JUDGED(open, over, under, yes, 1, 0, 0), HOMOTOPY_ACCEPTED, 0, 0));
+    EXPECT(is(JUDGED(three, WALK(0, 1), WALK(0, 2, 1), yes, 1, 0, 0), HOMOTOPY_ACCEPTED, 0, 0));
+    EXPECT(is(JUDGED(three, WALK(0, 2, 1), WALK(0, 3, 1), yes, -1, 1, 0), HOMOTOPY_ACCEPTED, 0, 0));
+    /* The least edge at which it fails. */
+    EXPECT(is(JUDGED(sphere, over, under, yes, 0, 0, 0, 0), HOMOTOPY_REJECTED_BOUNDARY, 0, 1));
+    EXPECT(is(JUDGED(sphere, over, under, yes, 1, 0, 0, 1), HOMOTOPY_REJECTED_BOUNDARY, 1, 2));
+    EXPECT(is(JUDGED(sphere, under, over, yes, 1, 0, 0, 0), HOMOTOPY_REJECTED_BOUNDARY, 0, 1));
+    EXPECT(is(JUDGED(open, over, under, yes, 2, 1, 1), HOMOTOPY_REJECTED_BOUNDARY, 1, 2));
+    EXPECT(is(JUDGED(three, WALK(0, 2, 1), WALK(0, 3, 1), yes, -1, 1, 1), HOMOTOPY_REJECTED_BOUNDARY, 0, 1));
+    /* The first number that is too large, and before it the count. */
+    EXPECT(is(JUDGED(sphere, over, under, yes, 0, -2147483648, 2147483648, 0), HOMOTOPY_REJECTED_LARGE, 1, 0));
+    EXPECT(is(JUDGED(sphere, over, under, yes, 1, 0, 0, INT64_MIN), HOMOTOPY_REJECTED_LARGE, 3, 0));
+    EXPECT(is(JUDGED(sphere, over, under, yes, 2147483647, 0, 0, -2147483647), HOMOTOPY_REJECTED_BOUNDARY, 0, 1));
+    EXPECT(is(JUDGED(sphere, over, under, yes, 1, 0, INT64_MAX), HOMOTOPY_REJECTED_COUNT, 0, 0));
+    EXPECT(is(JUDGED(sphere, over, under, yes, 1, 0, 0, 0, 0), HOMOTOPY_REJECTED_COUNT, 0, 0));
+    EXPECT(is(judged(sphere, over, under, yes, (int64_t[]){0}, 0), HOMOTOPY_REJECTED_COUNT, 0, 0));
+}
+
+/* On the torus a step by 1 has 1, a step by 2 has 0, and a step by 3 has both together; on a band of five triangles i, i + 1, i + 2, modulo
+ * 5, which is not orientable, a step by 1 has 1, and a step by 2 has 2. */
+static void judges_cocycles(void) {
+    const mesh seven = {7, 14, torus};
+    const walk twice = WALK(0, 1, 2, 0), stays = WALK(0);
+    const uint32_t no = HOMOTOPY_NOT_HOMOLOGOUS;
+    int64_t steps[43];
+    for (size_t i = 0; i < 7; i++) {
+        const int64_t two[6] = {1, 0, -1, 1, -1, 0};
+        memcpy(steps + 3 * i, two, 24);
+        memcpy(steps + 21 + 3 * i, two + 3, 24);
+    }
+    EXPECT(is(judged(seven, twice, stays, no, steps, 42), HOMOTOPY_ACCEPTED, 0, 0));
+    EXPECT(is(judged(seven, WALK(0, 1, 3), WALK(0, 2, 3), no, steps, 42), HOMOTOPY_REJECTED_ZERO, 0, 0));
+    EXPECT(is(judged(seven, twice, stays, no, steps, 41), HOMOTOPY_REJECTED_COUNT, 0, 0));
+    EXPECT(is(judged(seven, twice, stays, no, steps, 14), HOMOTOPY_REJECTED_COUNT, 0, 0));
+    steps[42] = INT64_MIN;
+    EXPECT(is(judged(seven, twice, stays, no, steps, 43), HOMOTOPY_REJECTED_COUNT, 0, 0));
+    /* The step from 5 to 6 is side 0 of face 5, and backwards side 1 of face 10. */
+    steps[15] = 2;
+    EXPECT(is(judged(seven, twice, stays, no, steps, 42), HOMOTOPY_REJECTED_UNEVEN, 0, 0));
+    steps[31] = -2;
+    EXPECT(is(judged(seven, twice, stays, no, steps, 42), HOMOTOPY_REJECTED_SUM, 5, 0));
+    EXPECT(is(judged(seven, WALK(0, 1, 3), WALK(0, 2, 3), no, steps, 42), HOMOTOPY_REJECTED_SUM, 5, 0));
+    steps[31] = 2147483648;
+    EXPECT(is(judged(seven, twice, stays, no, steps, 42), HOMOTOPY_REJECTED_LARGE, 31, 0));
+
+    uint32_t strip[15];
+    int64_t round[15];
+    for (uint32_t i = 0; i < 5; i++)
+        for (uint32_t k = 0; k < 3; k++) strip[3 * i + k] = (i + k) % 5, round[3 * i + k] = k == 2 ? -2 : 1;
+    const mesh band = {5, 5, strip};
+    const walk once = WALK(0, 1, 2, 3, 4, 0);
+    EXPECT(is(judged(band, once, stays, no, round, 15), HOMOTOPY_ACCEPTED, 0, 0));
+    EXPECT(is(judged(band, once, WALK(0, 2, 4, 1, 3, 0), no, round, 15), HOMOTOPY_ACCEPTED, 0, 0));
+    EXPECT(is(judged(band, WALK(0, 1, 2), WALK(0, 2), no, round, 15), HOMOTOPY_REJECTED_ZERO, 0, 0));
+    round[3] = -1;
+    EXPECT(is(judged(band, once, stays, no, round, 15), HOMOTOPY_REJECTED_UNEVEN, 0, 0));
+}
+
+/* The answer is looked at before the mesh, that before the walks, and those before the numbers. */
+static void judges_nothing(void) {
+    static const uint32_t none_known[] = {HOMOTOPY_DONE, HOMOTOPY_HOMOTOPIC, 8, 10, 15, 17, HOMOTOPY_HOMOLOGOUS + 256, UINT32_MAX};
+    const mesh sphere = {4, 4, TETRA}, few = {3, 4, TETRA}, none = {4, 0, TETRA};
+    const uint32_t yes = HOMOTOPY_HOMOLOGOUS, no = HOMOTOPY_NOT_HOMOLOGOUS;
+    const walk empty = {0, TETRA};
+    for (size_t k = 0; k < COUNT(none_known); k++)
+        EXPECT(is(JUDGED(few, WALK(9), WALK(0), none_known[k], 1), HOMOTOPY_UNKNOWN_ANSWER, none_known[k], 0));
+    EXPECT(is(JUDGED(few, empty, WALK(0), yes, 1), HOMOTOPY_CORNER_RANGE, 1, 0));
+    EXPECT(is(JUDGED(none, WALK(0), WALK(0), no, 1), HOMOTOPY_NO_VERTEX, 1, 0));
+    EXPECT(is(JUDGED(sphere, empty, WALK(0), yes, 1), HOMOTOPY_EMPTY_WALK, 1, 0));
+    EXPECT(is(JUDGED(sphere, WALK(0), empty, no, 1), HOMOTOPY_EMPTY_WALK, 2, 0));
+    EXPECT(is(JUDGED(sphere, WALK(0, 1), WALK(0, 4), yes, 1), HOMOTOPY_NO_VERTEX, 2, 1));
+    EXPECT(is(JUDGED(sphere, WALK(0, 1, 1), WALK(0, 1), no, 1), HOMOTOPY_NO_EDGE, 1, 1));
+    EXPECT(is(JUDGED(sphere, WALK(1), WALK(0, 1), yes, 1), HOMOTOPY_STARTS_DIFFER, 0, 0));
+    EXPECT(is(JUDGED(sphere, WALK(0, 1), WALK(0, 2), no, 1), HOMOTOPY_ENDS_DIFFER, 0, 0));
+}
+
 int main(void) {
     for (uint32_t i = 0; i < 7; i++) {
         const uint32_t two[6] = {i, (i + 1) % 7, (i + 3) % 7, i, (i + 3) % 7, (i + 2) % 7};
@@ -148,6 +263,9 @@ int main(void) {
     for (size_t k = 0; k < COUNT(torus); k++) both[12 + k] = 4 + torus[k];
     answers();
     faults();
+    judges_chains();
+    judges_cocycles();
+    judges_nothing();
     if (!failures) printf("homology.c: all as wanted\n");
     return failures != 0;
 }

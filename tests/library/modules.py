@@ -15,7 +15,7 @@ sys.path.insert(0, PYTHON)
 os.environ.setdefault("LIBHOMOTOPY", os.path.join(TOP, "crates/homotopy_c/out/libhomotopy.so"))
 
 import homotopy  # noqa: E402
-from homotopy import Answer, Faces, Mesh, Surface, certify, decide, homology, surface, verify  # noqa: E402
+from homotopy import Answer, Faces, Mesh, Surface, certify, decide, homology, surface, verify, verify_homology  # noqa: E402
 
 numpy = homotopy.numpy
 TETRA = [[0, 1, 2], [0, 3, 1], [0, 2, 3], [1, 3, 2]]
@@ -63,6 +63,7 @@ def take():
     refuse(homotopy.Refused, "the walks end at different vertices", homology, 4, TETRA, [0, 1], [0])
     refuse(homotopy.Refused, "walk 2 has no vertex", homology, 4, TETRA, [0, 1], [])
     refuse(homotopy.Refused, "the edge 1 2 should be in two sides of faces, and is in 1", homology, 4, TETRA[:3], [0], [0])
+    judge()
     for text in (LIST, bytearray(LIST), memoryview(LIST)):
         expect(bool(verify(4, TETRA, [0, 1, 2], [0, 2], text)), True, "a list that leads")
     verdict = verify(4, TETRA, [0, 1, 2], [0, 2], LIST.replace(b"+", b"-"))
@@ -71,6 +72,34 @@ def take():
     refuse(homotopy.Refused, "the mesh has no face", surface, 4, [])
     refuse(homotopy.Refused, "the certificate has no line with words", verify, 4, TETRA, [0, 1], [0, 1], b"")
     refuse(homotopy.Refused, "the sizes of the faces together", surface, 4, Faces([3, 3], [0, 1, 2]))
+
+
+def judge():
+    """Numbers for homologous walks and for others: on a tetrahedron, on three of its faces, and on the torus, where a step by 1 has 1."""
+    yes, no, over, under = Answer.HOMOLOGOUS, Answer.NOT_HOMOLOGOUS, [0, 1, 2], [0, 2]
+    for numbers in ([1, 0, 0, 0], (3, 2, 2, 2), array.array("b", [0, -1, -1, -1]), iter([1, 0, 0, 0])):
+        expect(verify_homology(4, TETRA, over, under, yes, numbers), homotopy.Verdict(True, None), "a chain")
+    expect(bool(verify_homology(4, TETRA[:3], over, under, 9, [1, 0, 0])), True, "a chain on a mesh with boundary")
+    expect(bool(verify_homology(4, TETRA, over, under, *homology(4, TETRA, over, under))), True, "a chain that was written")
+    expect(bool(verify_homology(7, TORUS, [0, 1, 2, 0], [0], *homology(7, TORUS, [0, 1, 2, 0], [0]))), True, "a cocycle that was written")
+    steps = [1, 0, -1] * 7 + [1, -1, 0] * 7
+    expect(bool(verify_homology(7, TORUS, [0, 1, 2, 0], [0], no, steps)), True, "a cocycle")
+    for words, first, second, numbers in (
+            ("the cocycle adds up to the same along both walks", [0, 1, 3], [0, 2, 3], steps),
+            ("two sides of one edge have numbers that do not agree", [0, 1, 2, 0], [0], [2] + steps[1:]),
+            ("the number at place 41 is larger in size than 2,147,483,647", [0, 1, 2, 0], [0], steps[:41] + [-2**63]),
+            ("there is not a number for each face, or of a cocycle for each side", [0, 1, 2, 0], [0], steps[1:])):
+        expect(verify_homology(7, TORUS, first, second, no, numbers), homotopy.Verdict(False, words), "a cocycle that is none")
+    verdict = verify_homology(4, TETRA, over, under, yes, [1, 0, 0, 1])
+    expect(verdict.reason, "at the edge 1 2 the chain does not add up to the difference of the walks", "a chain that is none")
+    verdict = verify_homology(7, TORUS, [0, 1, 2, 0], [0], no, [1, 1, -1] * 7 + [1, -1, -1] * 7)
+    expect(verdict.reason, "round face 0 the cocycle does not add up to 0", "a cocycle that is none")
+    refuse(homotopy.Refused, "the answer that numbers are to show is 1, and neither", verify_homology, 4, TETRA, [0], [0], 1, [])
+    refuse(ValueError, "99 is not a valid Answer", verify_homology, 4, TETRA, [0], [0], 99, [])
+    refuse(homotopy.Refused, "walk 2 has no vertex", verify_homology, 4, TETRA, [0, 1], [], yes, [0] * 4)
+    refuse(TypeError, "the array of numbers: place 1 has 0.5, which is no whole number", verify_homology, 4, TETRA, [0], [0], yes, [0, 0.5])
+    refuse(OverflowError, "place 0 has 9223372036854775808, which is more than 9,223,372,036,854,775,807", verify_homology, 4, TETRA, [0],
+           [0], yes, [2**63])
 
 
 def keep():

@@ -3,8 +3,11 @@ pub use Rattle.compact_surfaces.specs.CompactSurfaces.{IsCompactSurface, IsOrien
 pub use Rattle.core.proofs.alloc.Calls.{Al, Goes-blank, handle_tells}
 pub use Rattle.core.proofs.atomic.Steps.{fm}
 pub use Rattle.core.proofs.cell.Inside.{Good, one}
+pub use Rattle.homology.specs.declared.array.HomologyNumbers.{HomologyNumbers}
+pub use Rattle.homology.specs.declared.array.HomologyNumbers.TheVariants.{Chain, Cocycle}
 pub use Rattle.homotopy_arrays.specs.Compact.{IsCompactFault, IsCompactKept, IsDecideAnyFault}
 pub use Rattle.homotopy_arrays.specs.Decisions.{AreAnsweredOn, IsAskedFault, IsDecideFault, IsKept}
+pub use Rattle.homotopy_arrays.specs.Homologies.{AreShown, IsHomologyFault, ShowsWalks}
 pub use Rattle.homotopy_arrays.specs.Loops.{IsLoopAnswer}
 pub use Rattle.homotopy_arrays.specs.MeshArrays.{mesh_of}
 pub use Rattle.homotopy_arrays.specs.Pairs.{AreWalks, IsAnswer, are_pairs, walk_at}
@@ -18,14 +21,16 @@ pub use Rattle.homotopy_arrays.specs.declared.pair.WalkFault.TheVariants.{Empty,
 pub use Rattle.homotopy_arrays.specs.declared.verify.VerifyFault.{VerifyFault}
 pub use Rattle.homotopy_c.specs.Certified.{IsCertifyCall, TellsCertificate, code_of, told_certify}
 pub use Rattle.homotopy_c.specs.Handles.{holds_at}
+pub use Rattle.homotopy_c.specs.Homologous.{IsHomologyCall, TellsHomology, answer_code, numbers_of, told_homology}
 pub use Rattle.homotopy_c.specs.Judged.{IsVerifyCall, ended, judged, judged_denial, judged_labels, judged_moves, move_code, told_certificate, told_verify}
 pub use Rattle.homotopy_c.specs.Kept.{IsMeshAnswersCall, IsMeshClassesCall, IsMeshDecideCall, IsMeshNewAnyCall, IsMeshNewCall, TellsHeld, TellsKept}
-pub use Rattle.homotopy_c.specs.Meanings.{DoesAnswer, DoesAnswerLoops, DoesMeasure, IsAccepted, Shows, ShowsDifferent, ShowsHomologous, ShowsHomotopic, ShowsNotHomologous, StandCounted}
+pub use Rattle.homotopy_c.specs.Meanings.{DoesAnswer, DoesAnswerLoops, DoesMeasure, IsAccepted, IsAcceptedChain, IsAcceptedCocycle, Shows, ShowsDifferent, ShowsHomologous, ShowsHomotopic, ShowsNotHomologous, StandCounted}
 pub use Rattle.homotopy_c.specs.Outcomes.{byte_of, done, loop_byte, told, told_no_classes, told_walks, walk_code}
 pub use Rattle.homotopy_c.specs.Told.{AreClassesTold, IsBytesCall, IsClassesCall, IsDecideAnyCall, IsDecideCall, IsPut, IsSurfaceTold, TellsBytes, TellsClasses, TellsSurface, in_front}
 pub use Rattle.homotopy_c.specs.declared.outcome.Outcome.{Outcome}
 pub use Rattle.std.proofs.Common.{List, ap, append_assoc, arith, false, get_or, inl, inr, length, length-take-le, lit<, refl, set, subst, sym, take, true, ℕ, [], ◌*◌, ◌++◌, ◌+◌, ◌/◌, ◌<◌, ◌↔◌, ◌∙◌, ◌∷◌, ◌≡◌, ◌≢◌, ◌≤◌, ◌⊎◌}
-pub use Rattle.std.proofs.lemmas.Bool.{cases_lt}
+pub use Rattle.std.proofs.Math.Seq.{take-append_seam}
+pub use Rattle.std.proofs.lemmas.Bool.{cases_lt, ne_eqb}
 pub use Rattle.std.proofs.lemmas.List.{drop_more, get_or-map, get_or_append_left, length-map, map-append, set_at, take_at, take_more}
 pub use Rattle.std.proofs.raw_atomic.Walks.{leaves, proved_at}
 pub use Rattle.std.specs.Global.{Box, Vec}

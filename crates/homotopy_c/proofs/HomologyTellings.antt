@@ -1,10 +1,6 @@
 -- What is told of homology, and what it means.
-use Rattle.homotopy_c.proofs.Common.{Fault, WalkFault, Empty, Long, Pair, Loops, ShowsHomologous, ShowsNotHomologous, StandCounted, told, told_walks, Outcome, ◌≡◌, ◌≢◌, ◌⊎◌, inl, inr, ℕ, true, false, List, length, get_or, refl, sym, ap, ◌∙◌, arith, cases_lt, Result, Ok, Err, MatchResult, Bool, ℤ, ◌==◌, ◌||◌, FaceList, IsOrientableSurface, NotTwo, NoVertex, NoEdge, EndsDiffer}
-use Rattle.homology.specs.declared.array.HomologyNumbers.{HomologyNumbers}
-use Rattle.homology.specs.declared.array.HomologyNumbers.TheVariants.{Chain, Cocycle}
-use Rattle.homotopy_arrays.specs.Homologies.{AreShown, IsHomologyFault, ShowsWalks}
+use Rattle.homotopy_c.proofs.Common.{HomologyNumbers, Chain, Cocycle, AreShown, IsHomologyFault, ShowsWalks, Fault, WalkFault, Empty, Long, Pair, Loops, IsHomologyCall, TellsHomology, answer_code, numbers_of, told_homology, ShowsHomologous, ShowsNotHomologous, StandCounted, told, told_walks, Outcome, ◌≡◌, ◌≢◌, ◌⊎◌, inl, inr, ℕ, true, false, List, length, get_or, refl, sym, ap, ◌∙◌, arith, cases_lt, Result, Ok, Err, MatchResult, Bool, ℤ, ◌==◌, ◌||◌, FaceList, IsOrientableSurface, NotTwo, NoVertex, NoEdge, EndsDiffer}
 use Rattle.homotopy_arrays.specs.declared.homologies.HomologyFault.{HomologyFault}
-use Rattle.homotopy_c.specs.Homologous.{IsHomologyCall, TellsHomology, answer_code, numbers_of, told_homology}
 use Rattle.homotopy_arrays.specs.declared.fault.Fault.TheVariants as faults
 use Rattle.homotopy_arrays.specs.declared.homologies.HomologyFault.TheVariants as homologies
 use Rattle.walk_files.specs.declared.loops.LoopFault.TheVariants as loops
@@ -13,7 +9,7 @@ use Rattle.homotopy_c.proofs.TellingLemmas.{of_one}
 
 -- ---- the codes of the two answers
 
-abbrev is_answer : ℕ → Bool
+abbrev pub is_answer : ℕ → Bool
 is_answer code = code == codes.HOMOLOGOUS || code == codes.NOT_HOMOLOGOUS
 
 fault_else : (fault : Fault) → is_answer (told fault).code ≡ false
@@ -55,17 +51,17 @@ homology_else (homologies.Darts darts) = refl
 -- ---- what is written
 
 -- numbers were written, and what they show
-record AreWritten (mesh : FaceList) (first second : List ℕ) (old new : List ℤ) (outcome : Outcome) : Type 0 where
-  shown : HomologyNumbers
-  surface : IsOrientableSurface mesh
-  are : AreShown mesh first second shown
-  code : outcome.code ≡ answer_code shown
-  stand : StandCounted (numbers_of shown) old new outcome
+pub record AreWritten (mesh : FaceList) (first second : List ℕ) (old new : List ℤ) (outcome : Outcome) : Type 0 where
+  pub shown : HomologyNumbers
+  pub surface : IsOrientableSurface mesh
+  pub are : AreShown mesh first second shown
+  pub code : outcome.code ≡ answer_code shown
+  pub stand : StandCounted (numbers_of shown) old new outcome
 
 -- or none were, and neither answer is told
-record AreNotWritten (old new : List ℤ) (outcome : Outcome) : Type 0 where
-  same : new ≡ old
-  code : is_answer outcome.code ≡ false
+pub record AreNotWritten (old new : List ℤ) (outcome : Outcome) : Type 0 where
+  pub same : new ≡ old
+  pub code : is_answer outcome.code ≡ false
 
 written : (mesh : FaceList) (first second : List ℕ) (old new : List ℤ) (outcome : Outcome) (end : Result HomologyNumbers HomologyFault)
     → MatchResult end (ShowsWalks (Ok mesh) first second) (IsHomologyFault (Ok mesh) first second) → TellsHomology end old new outcome
@@ -89,13 +85,13 @@ written mesh first second old new outcome (Ok shown) right put =
 written mesh first second old new outcome (Err fault) right tells =
     inr (record { same = tells.0; code = ap (λ (o : Outcome). is_answer o.code) tells.1 ∙ homology_else fault })
 
-call_written : (mesh : FaceList) (first second : List ℕ) (old new : List ℤ) (outcome : Outcome)
+pub call_written : (mesh : FaceList) (first second : List ℕ) (old new : List ℤ) (outcome : Outcome)
     → IsHomologyCall (Ok mesh) first second old new outcome
     → AreWritten mesh first second old new outcome ⊎ AreNotWritten old new outcome
 call_written mesh first second old new outcome h = written mesh first second old new outcome h.end h.right h.tells
 
 -- no test is passed and failed
-clash : {P : Type 0} (b : Bool) → b ≡ true → b ≡ false → P
+pub clash : {P : Type 0} (b : Bool) → b ≡ true → b ≡ false → P
 clash b e f =
     let both : true ≡ false = sym e ∙ f in
     cc

@@ -7,3 +7,4 @@ pub mod TellingLemmas
 pub mod ClassTellings
 pub mod ShowingLemmas
 pub mod HomologyTellings
+pub mod NumberTellings

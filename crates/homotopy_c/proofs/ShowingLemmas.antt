@@ -1,5 +1,5 @@
 -- What is told of certificates, that are written and that are judged, and what it means.
-use Rattle.homotopy_c.proofs.Common.{AreWalks, CertifyFault, VerifyFault, IsCertifyCall, TellsCertificate, code_of, IsVerifyCall, ended, judged, judged_denial, judged_labels, judged_moves, move_code, told_verify, IsAccepted, Shows, ShowsDifferent, ShowsHomotopic, in_front, Outcome, ◌≡◌, ◌≢◌, ◌⊎◌, inl, inr, ℕ, ◌<◌, ◌≤◌, List, length, get_or, take, refl, sym, ap, ◌∙◌, subst, arith, cases_lt, Result, Ok, Err, MatchResult, FaceList, IsFaceList, HasFileSize, IsOrientableSurface}
+use Rattle.homotopy_c.proofs.Common.{AreWalks, CertifyFault, VerifyFault, IsCertifyCall, TellsCertificate, code_of, IsVerifyCall, ended, judged, judged_denial, judged_labels, judged_moves, move_code, told_verify, IsAccepted, Shows, ShowsDifferent, ShowsHomotopic, in_front, Outcome, ◌≡◌, ◌≢◌, ◌⊎◌, inl, inr, ℕ, ◌<◌, ◌≤◌, List, length, get_or, take, refl, sym, ap, ◌∙◌, subst, arith, take-append_seam, cases_lt, Result, Ok, Err, MatchResult, FaceList, IsFaceList, HasFileSize, IsOrientableSurface}
 use Rattle.commands.specs.Certificates.{Convinces, certificate_text, decision_of}
 use Rattle.commands.specs.Inputs.{SpellsCertificate}
 use Rattle.commands.specs.declared.certificate.Certificate.{Certificate}
@@ -17,7 +17,6 @@ use Rattle.move_checker.specs.declared.fault.MoveFault.{MoveFault}
 use Rattle.move_checker.specs.declared.fault.MoveFault.TheVariants.{Place, NoEdge, NotSpur, NotOnFace, OverPeak}
 use Rattle.move_checker.specs.declared.judge.Verdict.{Verdict}
 use Rattle.std.proofs.Common.{drop}
-use Rattle.std.proofs.Math.Seq.{take-append_seam}
 use Rattle.std.specs.Prelude.{◌↔◌}
 use Rattle.verify_commands.proofs.Accepting.{spelled}
 use Rattle.labellings.specs.declared.fault.LabelFault.TheVariants as labels

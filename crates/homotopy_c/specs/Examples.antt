@@ -1,9 +1,11 @@
 -- What each end of a call is told as, by the numbers that homotopy.h lists. Each is proved by computing.
-use Rattle.std.specs.Prelude.{◌≡◌, ℕ, true, false, refl, ℤ}
+use Rattle.std.specs.Prelude.{◌≡◌, ℕ, true, false, refl, ℤ, Some, None}
 use Rattle.std.specs.Global.{Vec}
 use Rattle.surf_model.specs.declared.names.FaceName.{FaceName}
 use Rattle.surf_model.specs.declared.names.VertexName.{VertexName}
 use Rattle.homology.specs.declared.array.HomologyNumbers.TheVariants.{Chain, Cocycle}
+use Rattle.homology.specs.declared.array_check.ArrayVerdict.TheVariants as numbers
+use Rattle.homology.specs.declared.verdict.HomologyVerdict.TheVariants as shown
 use Rattle.labellings.specs.declared.fault.LabelFault.TheVariants as labels
 use Rattle.labellings.specs.declared.verdict.DenialVerdict.TheVariants as denials
 use Rattle.move_checker.specs.declared.fault.MoveFault.TheVariants as moves
@@ -20,9 +22,12 @@ use Rattle.homotopy_arrays.specs.declared.homologies.HomologyFault.TheVariants a
 use Rattle.homotopy_arrays.specs.declared.loops.LoopAnswer.TheVariants as free
 use Rattle.homotopy_arrays.specs.declared.pair.WalkFault.TheVariants.{Empty, Long, Pair, Loops}
 use Rattle.homotopy_arrays.specs.declared.verify.VerifyFault.TheVariants as unjudged
+use Rattle.homotopy_arrays.specs.declared.verify_homology.HomologyClaim.TheVariants as claims
+use Rattle.homotopy_arrays.specs.declared.verify_homology.VerifyHomologyFault.TheVariants as unshown
 use Rattle.homotopy_c.specs.Certified.{told_certify}
 use Rattle.homotopy_c.specs.Homologous.{answer_code, told_homology}
 use Rattle.homotopy_c.specs.Judged.{judged_moves, judged_labels, judged_denial, told_certificate, told_verify}
+use Rattle.homotopy_c.specs.NumbersJudged.{claim_of, judged_numbers, told_verify_homology}
 use Rattle.homotopy_c.specs.Outcomes.{byte_of, coded, done, loop_byte, no_mesh, short_room, told, told_no_classes, told_walks}
 
 abbrev named : ℕ → VertexName
@@ -108,3 +113,16 @@ homology :
     (numbers : Vec ℤ) → (answer_code (Chain numbers) ≡ 9) × (answer_code (Cocycle numbers) ≡ 16)
     × (told_homology (homologies.Darts 2147483648) ≡ coded 72 2147483648 0 0)
 homology numbers = (refl, refl, refl)
+
+claims_of : (claim_of 9 ≡ Some claims.Homologous) × (claim_of 16 ≡ Some claims.NotHomologous) × (claim_of 1 ≡ None)
+claims_of = (refl, refl, refl)
+
+verdicts_on_numbers :
+    (judged_numbers (numbers.Judged shown.Accepted) ≡ coded 3 0 0 0) × (judged_numbers numbers.Count ≡ coded 63 0 0 0)
+    × (judged_numbers (numbers.Large 5) ≡ coded 64 5 0 0) × (judged_numbers numbers.Uneven ≡ coded 65 0 0 0)
+    × (judged_numbers (numbers.Judged (shown.Edge (named 1) (named 2))) ≡ coded 66 1 2 0)
+    × (judged_numbers (numbers.Judged (shown.Sum (face 3))) ≡ coded 67 3 0 0)
+    × (judged_numbers (numbers.Judged shown.Zero) ≡ coded 68 0 0 0)
+    × (told_verify_homology (unshown.Mesh faults.CornerCount) ≡ coded 11 0 0 0)
+    × (told_verify_homology (unshown.Walks (Empty 2)) ≡ coded 31 2 0 0)
+verdicts_on_numbers = (refl, refl, refl, refl, refl, refl, refl, refl, refl)

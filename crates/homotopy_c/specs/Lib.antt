@@ -5,5 +5,6 @@ pub mod Kept
 pub mod Judged
 pub mod Certified
 pub mod Homologous
+pub mod NumbersJudged
 pub mod Meanings
 pub mod Examples

@@ -6,6 +6,8 @@ use Rattle.surf_model.specs.Moves as moves
 use Rattle.closed_walks.specs.FreeHomotopy.{FreelyHomotopic}
 use Rattle.homology.specs.ArrayCertificates.{AreChainNumbers, AreCocycleNumbers}
 use Rattle.homology.specs.Chains.{AreHomologous}
+use Rattle.homology.specs.Tallies.{AreWithin}
+use Rattle.homology.specs.declared.certificate.TheConstants.{MOST_NUMBER}
 use Rattle.labellings.specs.Denials.{DenialHolds}
 use Rattle.move_checker.specs.Verdicts.{LeadsWithin}
 use Rattle.commands.specs.Certificates.{Convinces, certificate_text}
@@ -39,10 +41,12 @@ all_codes =
     ∷ codes.NO_FACE ∷ codes.EDGE_SIDES ∷ codes.PINCHED ∷ codes.NOT_ORIENTABLE ∷ codes.DOUBLE_VERTICES ∷ codes.DOUBLE_SIDES
     ∷ codes.COVER_VERTICES ∷ codes.COVER_SIDES ∷ codes.WALK_COUNT ∷ codes.EMPTY_WALK ∷ codes.LONG_WALK
     ∷ codes.NO_VERTEX ∷ codes.NO_EDGE ∷ codes.STARTS_DIFFER ∷ codes.ENDS_DIFFER ∷ codes.OPEN_WALK ∷ codes.LONG_CERTIFICATE ∷ codes.NO_HEAD
-    ∷ codes.BAD_LINE ∷ codes.ENDED_EARLY ∷ codes.EXTRA_LINE ∷ codes.LARGE_PEAK ∷ codes.REJECTED_PEAK ∷ codes.REJECTED_MOVE_PLACE
+    ∷ codes.BAD_LINE ∷ codes.ENDED_EARLY ∷ codes.EXTRA_LINE ∷ codes.LARGE_PEAK ∷ codes.UNKNOWN_ANSWER
+    ∷ codes.REJECTED_PEAK ∷ codes.REJECTED_MOVE_PLACE
     ∷ codes.REJECTED_MOVE_EDGE ∷ codes.REJECTED_MOVE_SPUR ∷ codes.REJECTED_MOVE_FACE ∷ codes.REJECTED_MOVE_PEAK ∷ codes.REJECTED_END
     ∷ codes.REJECTED_SHAPE ∷ codes.REJECTED_DEGREE ∷ codes.REJECTED_PLACE ∷ codes.REJECTED_EDGE ∷ codes.REJECTED_WORD
-    ∷ codes.REJECTED_EQUAL ∷ codes.CERTIFY_SIDES ∷ codes.CERTIFY_DARTS ∷ codes.HOMOLOGY_DARTS ∷ []
+    ∷ codes.REJECTED_EQUAL ∷ codes.REJECTED_COUNT ∷ codes.REJECTED_LARGE ∷ codes.REJECTED_UNEVEN ∷ codes.REJECTED_BOUNDARY
+    ∷ codes.REJECTED_SUM ∷ codes.REJECTED_ZERO ∷ codes.CERTIFY_SIDES ∷ codes.CERTIFY_DARTS ∷ codes.HOMOLOGY_DARTS ∷ []
 
 -- ---- what was answered
 
@@ -119,3 +123,15 @@ pub record ShowsNotHomologous (mesh : FaceList) (first second : List ℕ) (old n
 abbrev pub IsAccepted : FaceList → (first second : List ℕ) → Certificate → Type 0
 IsAccepted mesh first second (shown.Moves list) = LeadsWithin mesh list.peak first list.moves second
 IsAccepted mesh first second (shown.Denial denial) = DenialHolds mesh first second denial
+
+-- two walks of the mesh with common ends, and numbers of its faces that are a chain for them, none too large
+pub record IsAcceptedChain (mesh : FaceList) (first second : List ℕ) (numbers : List ℤ) : Type 0 where
+  pub walks : AreWalks mesh first second
+  pub chain : AreChainNumbers mesh first second numbers
+  pub small : AreWithin MOST_NUMBER numbers
+
+-- two walks of the mesh with common ends, and numbers of its sides that are those of a cocycle which separates them, none too large
+pub record IsAcceptedCocycle (mesh : FaceList) (first second : List ℕ) (numbers : List ℤ) : Type 0 where
+  pub walks : AreWalks mesh first second
+  pub cocycle : AreCocycleNumbers mesh first second numbers
+  pub small : AreWithin MOST_NUMBER numbers

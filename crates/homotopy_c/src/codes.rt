@@ -118,6 +118,9 @@ pub const EXTRA_LINE: u8 = 44;
 /// The peak in the head of the certificate, on that line, is too large.
 pub const LARGE_PEAK: u8 = 45;
 
+/// The answer that numbers are to show is none that they can show, neither `HOMOLOGOUS` nor `NOT_HOMOLOGOUS`.
+pub const UNKNOWN_ANSWER: u8 = 46;
+
 /// Rejected: the first walk has more darts than the peak.
 pub const REJECTED_PEAK: u8 = 50;
 
@@ -156,6 +159,24 @@ pub const REJECTED_WORD: u8 = 61;
 
 /// Rejected: both words are right, and are equal.
 pub const REJECTED_EQUAL: u8 = 62;
+
+/// Rejected: there is not a number for each face, or of a cocycle for each side.
+pub const REJECTED_COUNT: u8 = 63;
+
+/// Rejected: the number at the place is too large in size.
+pub const REJECTED_LARGE: u8 = 64;
+
+/// Rejected: two sides of one edge have numbers that do not agree.
+pub const REJECTED_UNEVEN: u8 = 65;
+
+/// Rejected: at the edge from the lower to the higher vertex the boundary of the chain is not the difference of the counts.
+pub const REJECTED_BOUNDARY: u8 = 66;
+
+/// Rejected: round the face the numbers of the cocycle do not add up to 0.
+pub const REJECTED_SUM: u8 = 67;
+
+/// Rejected: the cocycle adds up to the same along both walks.
+pub const REJECTED_ZERO: u8 = 68;
 
 /// The surface has more sides than a certificate is made on, and their number.
 pub const CERTIFY_SIDES: u8 = 70;

@@ -1,7 +1,8 @@
 //! What the calls tell, said of their definitions. A call of one of these functions does nothing; its contract is the law. Each of
 //! `homotopy_surface`, `homotopy_decide`, `homotopy_decide_any`, `homotopy_mesh_new`, `homotopy_mesh_new_any`, `homotopy_mesh_decide`,
-//! `homotopy_mesh_loops`, `homotopy_mesh_classes`, `homotopy_certify`, `homotopy_verify` and `homotopy_homology` ensures the record that
-//! its law takes as a premise; `Ok mesh` there says that the arrays are a mesh, and `Some mesh` that the handle holds it.
+//! `homotopy_mesh_loops`, `homotopy_mesh_classes`, `homotopy_certify`, `homotopy_verify`, `homotopy_homology` and `homotopy_verify_homology`
+//! ensures the record that its law takes as a premise; `Ok mesh` there says that the arrays are a mesh, and `Some mesh` that the handle holds
+//! it.
 ghost use Rattle.std.specs.Prelude.{◌≡◌, ◌≢◌, ◌⊎◌, ◌↔◌, ◌*◌, ◌+◌, ◌/◌, ◌<◌, ◌≤◌, ℕ, ℤ, List, length, take, slice_index, IsTrue, Option, Some, Result, Ok};
 ghost use Rattle.surf_model.specs.FaceLists.{FaceList, IsFaceList, HasFileSize};
 ghost use Rattle.surf_model.specs.OrientableSurfaces.{IsOrientableSurface};
@@ -11,6 +12,7 @@ ghost use Rattle.commands.specs.declared.certificate.Certificate.{Certificate};
 ghost use Rattle.commands.specs.declared.inputs.TheConstants.{MOST_BYTES};
 ghost use Rattle.compact_surfaces.specs.CompactSurfaces.{IsCompactSurface, IsOrientableCompactSurface};
 ghost use Rattle.walk_classes.specs.WalkClasses.{AreClasses, AreInOneClass};
+ghost use Rattle.homology.specs.Chains.{AreHomologous};
 ghost use Rattle.homotopy_arrays.specs.Classes.{walks_in};
 ghost use Rattle.homotopy_arrays.specs.Pairs.{AreWalks, walk_at};
 ghost use Rattle.homotopy_arrays.specs.declared.fault.Fault.{Fault};
@@ -18,7 +20,8 @@ ghost use Rattle.homotopy_c.specs.Certified.{IsCertifyCall};
 ghost use Rattle.homotopy_c.specs.Homologous.{IsHomologyCall};
 ghost use Rattle.homotopy_c.specs.Judged.{IsVerifyCall};
 ghost use Rattle.homotopy_c.specs.Kept.{IsMeshClassesCall, IsMeshDecideCall, IsMeshLoopsCall, IsMeshNewAnyCall, IsMeshNewCall};
-ghost use Rattle.homotopy_c.specs.Meanings.{DoesAnswer, DoesAnswerLoops, DoesMeasure, IsAccepted, ShowsDifferent, ShowsHomologous, ShowsHomotopic, ShowsNotHomologous, are_distinct, all_codes};
+ghost use Rattle.homotopy_c.specs.Meanings.{DoesAnswer, DoesAnswerLoops, DoesMeasure, IsAccepted, IsAcceptedChain, IsAcceptedCocycle, ShowsDifferent, ShowsHomologous, ShowsHomotopic, ShowsNotHomologous, are_distinct, all_codes};
+ghost use Rattle.homotopy_c.specs.NumbersJudged.{IsVerifyHomologyCall};
 ghost use Rattle.homotopy_c.specs.Told.{IsDecideAnyCall, IsDecideCall, IsSurfaceTold};
 ghost use Rattle.homotopy_c.specs.declared.codes.TheConstants as codes;
 ghost use Rattle.homotopy_c.specs.declared.outcome.Outcome.{Outcome};
@@ -166,4 +169,34 @@ pub fn homology_shows_what_is_homologous()
     ensures else_nothing { (mesh : FaceList) (first second : List ℕ) (old numbers : List ℤ) (outcome : Outcome)
         → IsHomologyCall (Ok mesh) first second old numbers outcome → outcome.code ≢ codes.HOMOLOGOUS
         → outcome.code ≢ codes.NOT_HOMOLOGOUS → numbers ≡ old }
+{}
+
+/// `homotopy_verify_homology` tells `ACCEPTED`, asked of `HOMOLOGOUS`, exactly where the numbers are a chain for two walks of the mesh with
+/// common ends, which are homologous then; and asked of `NOT_HOMOLOGOUS` exactly where they are those of a cocycle that separates such walks,
+/// which are not homologous then; and none is too large. Memory may be wanting for it. Asked of another answer it tells `ACCEPTED` of none.
+pub fn verify_homology_accepts_what_holds()
+    ensures chain { (mesh : FaceList) (first second : List ℕ) (numbers : List ℤ) (outcome : Outcome)
+        → IsVerifyHomologyCall (Ok mesh) first second codes.HOMOLOGOUS numbers outcome → outcome.code ≡ codes.ACCEPTED
+        → IsAcceptedChain mesh first second numbers × AreHomologous mesh first second }
+    ensures cocycle { (mesh : FaceList) (first second : List ℕ) (numbers : List ℤ) (outcome : Outcome)
+        → IsVerifyHomologyCall (Ok mesh) first second codes.NOT_HOMOLOGOUS numbers outcome → outcome.code ≡ codes.ACCEPTED
+        → IsAcceptedCocycle mesh first second numbers × (AreHomologous mesh first second → ⊥) }
+    ensures chains { (mesh : FaceList) (first second : List ℕ) (numbers : List ℤ) (outcome : Outcome)
+        → IsVerifyHomologyCall (Ok mesh) first second codes.HOMOLOGOUS numbers outcome → IsAcceptedChain mesh first second numbers
+        → (outcome.code ≡ codes.ACCEPTED) ⊎ (outcome.code ≡ codes.NO_MEMORY) }
+    ensures cocycles { (mesh : FaceList) (first second : List ℕ) (numbers : List ℤ) (outcome : Outcome)
+        → IsVerifyHomologyCall (Ok mesh) first second codes.NOT_HOMOLOGOUS numbers outcome → IsAcceptedCocycle mesh first second numbers
+        → (outcome.code ≡ codes.ACCEPTED) ⊎ (outcome.code ≡ codes.NO_MEMORY) }
+    ensures else_none { (read : Result FaceList Fault) (first second : List ℕ) (answer : ℕ) (numbers : List ℤ) (outcome : Outcome)
+        → IsVerifyHomologyCall read first second answer numbers outcome → answer ≢ codes.HOMOLOGOUS → answer ≢ codes.NOT_HOMOLOGOUS
+        → outcome.code ≡ codes.UNKNOWN_ANSWER }
+{}
+
+/// What `homotopy_homology` writes `homotopy_verify_homology` accepts, of the same mesh, walks and answer.
+pub fn written_numbers_are_accepted()
+    ensures { (mesh : FaceList) (first second : List ℕ) (old numbers : List ℤ) (written judged : Outcome)
+        → IsHomologyCall (Ok mesh) first second old numbers written
+        → (written.code ≡ codes.HOMOLOGOUS) ⊎ (written.code ≡ codes.NOT_HOMOLOGOUS)
+        → IsVerifyHomologyCall (Ok mesh) first second written.code (take (slice_index written.numbers 0) numbers) judged
+        → (judged.code ≡ codes.ACCEPTED) ⊎ (judged.code ≡ codes.NO_MEMORY) }
 {}

@@ -21,3 +21,4 @@ pub mod outcome;
 mod room;
 pub mod surface;
 mod verify;
+mod verify_homology;

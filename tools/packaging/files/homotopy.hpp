@@ -44,7 +44,7 @@ struct Homology {
     std::vector<std::int64_t> numbers;
 };
 
-// What comes of a certificate: accepted, or the first reason against it.
+// What comes of a certificate, or of numbers: accepted, or the first reason against it.
 struct Verdict {
     bool accepted;
     std::string reason;
@@ -78,6 +78,12 @@ const Number *of(const std::vector<Number> &array) {
 [[noreturn]] inline void refuse(const homotopy_outcome &outcome) {
     if (outcome.code == HOMOTOPY_NO_MEMORY) throw std::bad_alloc();
     throw Refused(outcome);
+}
+
+inline Verdict verdict_of(const homotopy_outcome &outcome) {
+    if (outcome.code == HOMOTOPY_ACCEPTED) return {true, ""};
+    if (outcome.code >= HOMOTOPY_REJECTED_PEAK && outcome.code <= HOMOTOPY_REJECTED_ZERO) return {false, Refused::told(outcome)};
+    refuse(outcome);
 }
 
 // Walks in two arrays, walk after walk.
@@ -232,9 +238,17 @@ inline Verdict verify(const Mesh &mesh, const Walk &first, const Walk &second, c
     homotopy_verify(mesh.vertices, detail::of(mesh.sizes), mesh.sizes.size(), detail::of(mesh.corners), mesh.corners.size(),
                     detail::of(first), first.size(), detail::of(second), second.size(),
                     reinterpret_cast<const std::uint8_t *>(certificate.data()), certificate.size(), &outcome);
-    if (outcome.code == HOMOTOPY_ACCEPTED) return {true, ""};
-    if (outcome.code >= HOMOTOPY_REJECTED_PEAK && outcome.code <= HOMOTOPY_REJECTED_EQUAL) return {false, Refused::told(outcome)};
-    detail::refuse(outcome);
+    return detail::verdict_of(outcome);
+}
+
+// What comes of numbers that are to show what their answer says, HOMOTOPY_HOMOLOGOUS or HOMOTOPY_NOT_HOMOLOGOUS, on any mesh: `homology` gives
+// such numbers on an orientable closed surface.
+inline Verdict verify_homology(const Mesh &mesh, const Walk &first, const Walk &second, const Homology &shown) {
+    homotopy_outcome outcome;
+    homotopy_verify_homology(mesh.vertices, detail::of(mesh.sizes), mesh.sizes.size(), detail::of(mesh.corners), mesh.corners.size(),
+                             detail::of(first), first.size(), detail::of(second), second.size(), shown.answer, detail::of(shown.numbers),
+                             shown.numbers.size(), &outcome);
+    return detail::verdict_of(outcome);
 }
 
 }  // namespace homotopy

@@ -72,7 +72,7 @@ pub enum Homology {
     Cocycle(Vec<i64>),
 }
 
-/// What comes of a certificate.
+/// What comes of a certificate, or of numbers.
 #[derive(Clone, Debug, PartialEq, Eq)]
 pub enum Verdict {
     Accepted,
@@ -181,6 +181,11 @@ extern "C" {
         first: *const u32, first_count: usize, second: *const u32, second_count: usize,
         certificate: *const u8, certificate_bytes: usize, outcome: *mut Outcome,
     );
+    fn homotopy_verify_homology(
+        vertices: u32, sizes: *const u32, face_count: usize, corners: *const u32, corner_count: usize,
+        first: *const u32, first_count: usize, second: *const u32, second_count: usize,
+        answer: u32, numbers: *const i64, number_count: usize, outcome: *mut Outcome,
+    );
     fn homotopy_text_of(code: u32) -> *const std::ffi::c_char;
 }
 
@@ -197,6 +202,14 @@ fn told(code: u32, numbers: &[u64; 3]) -> String {
 impl Outcome {
     fn refused(&self) -> Refused {
         Refused { code: self.code, numbers: self.numbers }
+    }
+
+    fn verdict(&self) -> Result<Verdict, Refused> {
+        match self.code {
+            ACCEPTED => Ok(Verdict::Accepted),
+            code if REJECTED.contains(&code) => Ok(Verdict::Rejected(told(code, &self.numbers))),
+            _ => Err(self.refused()),
+        }
     }
 }
 
@@ -331,11 +344,24 @@ impl Mesh<'_> {
                 first.as_ptr(), first.len(), second.as_ptr(), second.len(), certificate.as_ptr(), certificate.len(), &mut outcome,
             );
         }
-        match outcome.code {
-            ACCEPTED => Ok(Verdict::Accepted),
-            code if REJECTED.contains(&code) => Ok(Verdict::Rejected(told(code, &outcome.numbers))),
-            _ => Err(outcome.refused()),
+        outcome.verdict()
+    }
+
+    /// What comes of numbers that are to show whether two walks of the mesh, which need be no surface, are homologous.
+    pub fn verify_homology(&self, first: &[u32], second: &[u32], shown: &Homology) -> Result<Verdict, Refused> {
+        let (answer, numbers) = match shown {
+            Homology::Chain(numbers) => (HOMOLOGOUS, numbers),
+            Homology::Cocycle(numbers) => (NOT_HOMOLOGOUS, numbers),
+        };
+        let mut outcome = Outcome::default();
+        // SAFETY: as above.
+        unsafe {
+            homotopy_verify_homology(
+                self.vertices, self.sizes.as_ptr(), self.sizes.len(), self.corners.as_ptr(), self.corners.len(),
+                first.as_ptr(), first.len(), second.as_ptr(), second.len(), answer, numbers.as_ptr(), numbers.len(), &mut outcome,
+            );
         }
+        outcome.verdict()
     }
 }
 
