@@ -116,6 +116,21 @@ static void *deny(void *unused) {
     return outcome.code == HOMOTOPY_ACCEPTED ? unused : NULL;
 }
 
+/* What shows that walks are homologous, and what shows that they are not, is judged. */
+static void *homology(void *unused) {
+    static int64_t numbers[4 * ALL];
+    homotopy_outcome shown[2], judged[2];
+    for (int k = 0; k < 2; k++) {
+        const uint32_t *first = k ? across : ways[0], *second = k ? there : ways[1];
+        const size_t firsts = k ? GRID + 1 : 2 * GRID + 1, seconds = k ? 1 : 2 * GRID + 1;
+        homotopy_homology(ALL, sizes, faces, corners, 4 * faces, first, firsts, second, seconds, numbers, 4 * ALL, &shown[k]);
+        homotopy_verify_homology(ALL, sizes, faces, corners, 4 * faces, first, firsts, second, seconds, shown[k].code, numbers,
+                                 shown[k].numbers[0], &judged[k]);
+        if (judged[k].code != HOMOTOPY_ACCEPTED) return NULL;
+    }
+    return shown[0].code == HOMOTOPY_HOMOLOGOUS && shown[1].code == HOMOTOPY_NOT_HOMOLOGOUS ? unused : NULL;
+}
+
 /* How deep the stack was written by a thread that does this; 0 where it did not end as wanted. */
 static size_t depth_of(void *(*body)(void *)) {
     unsigned char *stack = aligned_alloc(4096, STACK);
@@ -133,15 +148,15 @@ static size_t depth_of(void *(*body)(void *)) {
 }
 
 int main(int argc, char **argv) {
-    static void *(*const bodies[])(void *) = {surface, decide, decide_any, keep_any, keep, certify, deny};
+    static void *(*const bodies[])(void *) = {surface, decide, decide_any, keep_any, keep, certify, deny, homology};
     static const char *const names[] = {"surface", "decide", "decide any", "keep any", "keep and decide", "certify and verify",
-                                        "deny and verify"};
+                                        "deny and verify", "homology and its judge"};
     const size_t empty = depth_of(nothing);
     int wrong = 0;
     (void)argv;
     make();
     for (int pieces = 1; pieces <= 2; pieces++, faces = ALL)
-        for (int k = 0; k < 7; k++) {
+        for (int k = 0; k < 8; k++) {
             const size_t depth = depth_of(bodies[k]);
             if (argc > 1) printf("%d pieces, %s: %zu bytes\n", pieces, names[k], depth - empty);
             if (depth == 0 || depth - empty > MOST) printf("stack.c: %s takes %zu bytes\n", names[k], depth - empty), wrong = 1;

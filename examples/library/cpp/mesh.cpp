@@ -81,6 +81,10 @@ int main() {
         std::cout << (answer == HOMOTOPY_HOMOTOPIC ? " homotopic" : answer == HOMOTOPY_DIFFERENT ? " different" : " no pair");
     std::cout << '\n';
 
+    // A step by 1 counts 1, and a step by 2 counts 2: so to go round once is not homologous to staying.
+    const homotopy::Homology counted{HOMOTOPY_NOT_HOMOLOGOUS, {1, 1, -2, 1, 1, -2, 1, 1, -2, 1, 1, -2, 1, 1, -2}};
+    std::cout << "a cocycle on the band, " << (homotopy::verify_homology(band, core, {0}, counted) ? "accepted" : "rejected") << '\n';
+
     const homotopy::Mesh tetrahedron{4, {3, 3, 3, 3}, {0, 1, 2, 0, 3, 1, 0, 2, 3, 1, 3, 2}};
     const auto shown = homotopy::certify(tetrahedron, {0, 1, 2}, {0, 2});
     const auto verdict = homotopy::verify(tetrahedron, {0, 1, 2}, {0, 2}, shown.text);

@@ -42,6 +42,10 @@ band = [(k, (k + 1) % 5, (k + 2) % 5) for k in range(5)]
 core, boundary = [0, 1, 2, 3, 4, 0], [0, 2, 4, 1, 3, 0]
 print("band", *homotopy.decide_any(5, band, [(boundary, core + core[1:]), (boundary, core), (core, [0]), ([0], [5])]), sep=", ")
 
+# A step by 1 counts 1, and a step by 2 counts 2: so to go round once is not homologous to staying.
+verdict = homotopy.verify_homology(5, band, core, [0], homotopy.Answer.NOT_HOMOLOGOUS, [1, 1, -2] * 5)
+print("a cocycle on the band,", "accepted" if verdict else "rejected: " + verdict.reason)
+
 for wrong in ([(0, 1, 2), (0, 3, 1), (0, 2, 3)], [(0, 1, 2), (0, 3.5, 1)]):
     try:
         homotopy.surface(4, wrong)

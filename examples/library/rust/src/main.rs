@@ -32,6 +32,9 @@ fn main() -> Result<(), homotopy::Refused> {
     let (core, twice) = ([0, 1, 2, 3, 4, 0], [0, 1, 2, 3, 4, 0, 1, 2, 3, 4, 0]);
     let boundary = [0, 2, 4, 1, 3, 0];
     println!("{:?}", band.decide_any(&[(&boundary, &twice), (&boundary, &core), (&core, &[0]), (&[0], &[5])])?);
+    // A step by 1 counts 1, and a step by 2 counts 2: so to go round once is not homologous to staying.
+    println!("{:?}", band.verify_homology(&core, &[0], &Homology::Cocycle([1, 1, -2].repeat(5)))?);
+    println!("{:?}", tetrahedron.verify_homology(&[0, 1, 2], &[0, 2], &Homology::Chain(vec![1, 0, 0, 1]))?);
     let none = Mesh { vertices: 0, sizes: &[], corners: &[] };
     println!("{}", none.surface().unwrap_err());
     Ok(())
