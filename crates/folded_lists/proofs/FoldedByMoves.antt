@@ -1,7 +1,7 @@
 -- A list of moves of the double, folded move by move.
-use Rattle.folded_lists.proofs.Common.{greatest_darts-more, greatest_darts-none, number_kinds, walk_folds, double_of, fold, folded, IsMoveBelow, along_edge, ◌≡◌, ◌⊎◌, inl, inr, ℕ, ◌+◌, ◌<◌, ◌≤◌, Bool, List, [], ◌∷◌, ◌++◌, length, get_or, refl, ap, sym, ◌∙◌, subst, arith, append_assoc, cases_eq, length-append, Some, first_answer, stays_walk, by_replacing, FaceList, IsFaceList, face_at, PeakedMoves, apply, apply_all, greatest_darts, LeadsAtPeak, IsReplacement, Replaces, IsWalk, Move, Insert, Remove, Across, VertexName, end_from}
-use Rattle.surf_model.proofs.WayBackLemmas.{AreAlike, alike, at_first}
-use Rattle.folded_lists.proofs.FoldedParts.{end-last, front_ends, length-folded, move_folds, same_fold}
+use Rattle.folded_lists.proofs.Common.{greatest_darts-more, greatest_darts-none, number_kinds, walk_folds, double_of, fold, folded, IsMoveBelow, along_edge, ◌≡◌, ◌⊎◌, inl, inr, ℕ, ◌+◌, ◌<◌, ◌≤◌, Bool, List, [], ◌∷◌, length, get_or, refl, ap, sym, ◌∙◌, subst, arith, cases_eq, length-append, Some, first_answer, stays_walk, FaceList, IsFaceList, face_at, PeakedMoves, apply, apply_all, greatest_darts, LeadsAtPeak, Replaces, IsWalk, Move, Insert, Remove, Across, VertexName}
+use Rattle.folded_lists.proofs.FoldedParts.{front_ends, length-folded}
+use Rattle.folded_lists.proofs.PartedMoves.{IsParted, fold_goes, fold_stays, parted_by}
 use Rattle.folded_lists.proofs.MovesBelow.{across_kept, across_mirror, insert_flat, insert_high, quad_flat, quad_in, quad_out, remove_flat, remove_high}
 use Rattle.folded_lists.proofs.QuadLemmas.{opposite}
 
@@ -56,15 +56,6 @@ part_folds mesh place v rest others (Remove at via) valid h =
 part_folds mesh place v rest others (Across at face corner forward taken) valid h =
     across_folds mesh at place face.0 corner forward taken (v ∷ rest) (v ∷ others) valid h
 
-ended : (v last : ℕ) (rest front : List ℕ) → v ∷ rest ≡ front ++ last ∷ [] → end_from v rest ≡ last
-ended v last rest [] e =
-    let same : v ≡ last = cc in
-    let none : rest ≡ [] = cc in
-    ap (end_from v) none ∙ same
-ended v last rest (x ∷ xs) e =
-    let more : rest ≡ xs ++ last ∷ [] = cc in
-    ap (end_from v) more ∙ end-last v xs last
-
 abbrev OneFolds : FaceList → List ℕ → List ℕ → Type 0
 OneFolds mesh walk next =
     (folded mesh.count next ≡ folded mesh.count walk)
@@ -73,37 +64,15 @@ OneFolds mesh walk next =
 one_folds : (mesh : FaceList) (walk next : List ℕ) (move : Move) → IsFaceList mesh → 0 < length walk
     → apply (double_of mesh) walk move ≡ Some next → OneFolds mesh walk next
 one_folds mesh walk next move valid some e =
-    let r : IsReplacement (double_of mesh) move walk next = (by_replacing (double_of mesh) walk next move some).0 e in
-    let a : AreAlike r.part r.other = alike (double_of mesh) move r.part r.other r.replaces in
-    let v : ℕ = a.first in
-    let front : List ℕ = r.before ++ v ∷ [] in
-    let parts : (rest : List ℕ) → front ++ (rest ++ r.after) ≡ r.before ++ (v ∷ (rest ++ r.after)) =
-    λ rest. append_assoc r.before (v ∷ []) (rest ++ r.after) in
-    let walk_is : walk ≡ front ++ (a.part_rest ++ r.after) =
-    r.walk_is ∙ at_first r.before r.part r.after a.part_rest v a.part_begins ∙ sym (parts a.part_rest) in
-    let next_is : next ≡ front ++ (a.other_rest ++ r.after) =
-    r.next_is ∙ at_first r.before r.other r.after a.other_rest v a.other_begins ∙ sym (parts a.other_rest) in
-    let ends : end_from v a.part_rest ≡ end_from v a.other_rest =
-    ended v a.last a.part_rest a.part_front (sym a.part_begins ∙ a.part_ends)
-    ∙ sym (ended v a.last a.other_rest a.other_front (sym a.other_begins ∙ a.other_ends)) in
-    let entry = front_ends mesh.count r.before v in
-    let place : ℕ = length entry.0 in
-    let replaces : Replaces (double_of mesh) move (v ∷ a.part_rest) (v ∷ a.other_rest) =
-    subst (λ (p : List ℕ). Replaces (double_of mesh) move p (v ∷ a.other_rest)) a.part_begins
-    (subst (Replaces (double_of mesh) move r.part) a.other_begins r.replaces) in
-    elim (part_folds mesh place v a.part_rest a.other_rest move valid replaces) [
-      | inl same ↦
-          inl (
-          ap (folded mesh.count) next_is ∙ same_fold mesh.count r.before v a.part_rest a.other_rest r.after ends same
-          ∙ sym (ap (folded mesh.count) walk_is)
-          )
+    let p : IsParted (double_of mesh) move walk next = parted_by (double_of mesh) walk next move some e in
+    let entry = front_ends mesh.count p.before p.here in
+    elim (part_folds mesh (length entry.0) p.here p.rest p.others move valid p.replaces) [
+      | inl same ↦ inl (fold_stays mesh (double_of mesh) walk next move p same)
       | inr low ↦
           inr (
             low.0,
-            ap (λ (l : List ℕ). apply mesh (folded mesh.count l) low.0) walk_is
-                ∙ move_folds mesh r.before v a.part_rest a.other_rest r.after place low.0 ends
-                (omega (arith, ap length entry.1, length-append entry.0 (fold mesh.count v ∷ []))) low.1
-                ∙ ap (λ (l : List ℕ). Some (folded mesh.count l)) (sym next_is),
+            fold_goes mesh (double_of mesh) walk next move low.0 p (length entry.0)
+                (omega (arith, ap length entry.1, length-append entry.0 (fold mesh.count p.here ∷ []))) low.1,
           )
     ]
 

@@ -3,5 +3,9 @@ pub mod LoweredLemmas
 pub mod FoldedParts
 pub mod QuadLemmas
 pub mod MovesBelow
+pub mod PartedMoves
 pub mod FoldedByMoves
 pub mod MovesOnMesh
+pub mod DartCounts
+pub mod EntryLemmas
+pub mod FoldingLemmas

@@ -1,5 +1,4 @@
-use Rattle.folded_lists.proofs.Common.{lower_move, ◌≡◌, ◌∙◌, length, arith}
-use Rattle.std.proofs.lemmas.Option.{get_or_from_slice_get}
+use Rattle.folded_lists.proofs.Common.{lower_move, ◌≡◌, ◌∙◌, length, arith, get_or_from_slice_get}
 use Rattle.folded_lists.proofs.LoweredLemmas.{all_lowered, leads_below, leads_below_lifts, length-lower_list, lower_list, lowered_more}
 use Rattle.folded_lists.proofs.lowering.lower.Goals as goal
 
