@@ -2,6 +2,7 @@
 ghost use Rattle.std.specs.Prelude.{◌≡◌, ◌+◌, ◌<◌, ◌≤◌, ◌+ℤ◌, neg_ℤ, ℕ, List, length, take};
 ghost use Rattle.surf_model.specs.Walks.{IsWalk};
 ghost use Rattle.homology.specs.ArrayCertificates.{AreSmall, DoShow};
+ghost use Rattle.folded_homology.specs.FoldedNumbers.{AreFolded};
 ghost use Rattle.homology.specs.Tallies.{AreWithin, number_at};
 ghost use Rattle.homology.specs.declared.certificate.TheConstants.{MOST_NUMBER};
 ghost use Rattle.doubling.specs.Doubles.{double_of};
@@ -13,8 +14,9 @@ use surf_model::Faces;
 pub fn fold(numbers: HomologyNumbers, faces: &Faces) -> HomologyNumbers
     requires small { AreSmall numbers }
     requires show { (first second : List ℕ) × DoShow (double_of faces.now) first second numbers }
-    ensures { (first second : List ℕ) → IsWalk faces.now first → IsWalk faces.now second → DoShow (double_of faces.now) first second numbers
-        → DoShow faces.now first second result }
+    ensures show { (first second : List ℕ) → IsWalk faces.now first → IsWalk faces.now second
+        → DoShow (double_of faces.now) first second numbers → DoShow faces.now first second result }
+    ensures size { AreFolded result }
 {
     // The proof reads what holds of every face list.
     let count = faces.len();
@@ -33,6 +35,7 @@ fn fold_chain(mut of_face: Vec<i64>, faces: usize) -> Vec<i64>
     requires mirrors { faces + faces ≤ length of_face.items }
     requires small { AreWithin MOST_NUMBER of_face.items }
     ensures count { length result.items ≡ faces }
+    ensures size { AreWithin (MOST_NUMBER + MOST_NUMBER) result.items }
     ensures numbers { (f : ℕ) → f < faces → number_at result.items f
         ≡ number_at of_face.items f +ℤ neg_ℤ (number_at of_face.items (faces + f)) }
 {

@@ -21,19 +21,19 @@ fold_chain-requires-clause-mirrors c =
 pub fold_chain-requires-clause-small : goal.fold_chain-requires-clause-small
 fold_chain-requires-clause-small c = subst AreSmall c.in-Chain.is c.requires.small
 
-pub returns-in-Chain : goal.returns-in-Chain
-returns-in-Chain c = λ first second w v shows.
+pub returns-in-Chain-clause-show : goal.returns-in-Chain-clause-show
+returns-in-Chain-clause-show c = λ first second w v shows.
     let mesh = c.args.faces.now in
     let numbers : List ℤ = c.in-Chain.of_face.items in
     let folded : List ℤ = c.fold_chain.result.items in
-    let are = on_double (goal.at.returns-in-Chain c).In-Chain first second shows in
+    let are = on_double (goal.at.returns-in-Chain-clause-show c).In-Chain first second shows in
     chain_shown mesh first second numbers folded c.len-count.ensures.valid w v are
     (c.fold_chain.ensures.count ∙ c.len-count.ensures.count)
     (λ f l. subst (λ n. number_at folded f ≡ number_at numbers f +ℤ neg_ℤ (number_at numbers (n + f))) c.len-count.ensures.count
     (c.fold_chain.ensures.numbers f (omega (arith, l, c.len-count.ensures.count))))
 
-pub returns-in-Cocycle : goal.returns-in-Cocycle
-returns-in-Cocycle c = λ first second w v shows.
+pub returns-in-Cocycle-clause-show : goal.returns-in-Cocycle-clause-show
+returns-in-Cocycle-clause-show c = λ first second w v shows.
     let mesh = c.args.faces.now in
     let are : AreCocycleNumbers (double_of mesh) first second c.in-Cocycle.of_side.items =
     subst (DoShow (double_of mesh) first second) c.in-Cocycle.is shows in
