@@ -1,5 +1,6 @@
 pub mod Common
 pub mod ClosedLemmas
+pub mod SignedLemmas
 pub mod FaultLemmas
 pub mod FoundLemmas
 pub mod ClassLemmas

@@ -2,4 +2,5 @@ pub mod CompactSurfaces
 pub mod Faults
 pub mod Kept
 pub mod Manifolds
+pub mod Signed
 pub mod Examples

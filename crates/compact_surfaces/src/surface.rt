@@ -184,7 +184,7 @@ fn closed_for(alloc: Global, faces: Faces) -> Result<(Option<Sides>, ClosedManif
 }
 
 /// The double of a mesh, or the limit that it is beyond.
-fn double_for(alloc: Global, faces: &Faces, sides: &Sides) -> Result<Faces, CompactFault>
+pub(crate) fn double_for(alloc: Global, faces: &Faces, sides: &Sides) -> Result<Faces, CompactFault>
     requires { IsTableOf faces.now sides.now }
     ensures double { IfOk result (λ double. double ≡ double_of faces.now) }
     ensures fault { IfErr result (IsFaultBehind (λ limit. CompactFault.Double limit) (IsBeyond faces.now)) }
