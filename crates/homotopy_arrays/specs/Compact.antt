@@ -2,16 +2,20 @@
 -- orientable or not.
 use Rattle.std.specs.Prelude.{◌≡◌, ◌⊎◌, ℕ, List, false}
 use Rattle.surf_model.specs.FaceLists.{FaceList}
-use Rattle.compact_surfaces.specs.CompactSurfaces.{IsCompactSurface}
+use Rattle.compact_surfaces.specs.CompactSurfaces.{IsCompactSurface, IsOrientableCompactSurface}
 use Rattle.compact_surfaces.specs.Faults.{IsFirstFault}
+use Rattle.compact_surfaces.specs.Signed.{IsSignedFault, IsSignedFor}
 use Rattle.compact_surfaces.specs.declared.fault.CompactFault.{CompactFault}
 use Rattle.compact_surfaces.specs.declared.fault.CompactFault.TheVariants as compact
+use Rattle.compact_surfaces.specs.declared.signed.SignedCompact.{SignedCompact}
+use Rattle.compact_surfaces.specs.declared.signed.SignedFault.{SignedFault}
+use Rattle.compact_surfaces.specs.declared.signed.SignedFault.TheVariants as signed
 use Rattle.doubling.specs.declared.fault.DoubleFault.TheVariants as limits
 use Rattle.homotopy_arrays.specs.Decisions.{AreAnsweredOn}
 use Rattle.homotopy_arrays.specs.Pairs.{IsAnswer, are_pairs}
 use Rattle.homotopy_arrays.specs.declared.decide.PairAnswer.{PairAnswer}
 use Rattle.homotopy_arrays.specs.declared.fault.Fault.{Fault}
-use Rattle.homotopy_arrays.specs.declared.fault.Fault.TheVariants.{NoFace, EdgeSides, Pinched, DoubleVertices, DoubleSides, CoverVertices, CoverSides, WalkCount, OutOfMemory}
+use Rattle.homotopy_arrays.specs.declared.fault.Fault.TheVariants.{NoFace, EdgeSides, Pinched, NotOrientable, DoubleVertices, DoubleSides, CoverVertices, CoverSides, WalkCount, OutOfMemory}
 
 -- why a mesh is no compact surface, or one too large, as a fault
 abbrev pub of_compact_fault : CompactFault → Fault
@@ -29,6 +33,20 @@ of_compact_fault compact.OutOfMemory = OutOfMemory
 -- what is first wrong with a mesh that is no compact surface, or one whose double or cover would be too large
 abbrev pub IsCompactFault : FaceList → Fault → Type 0
 IsCompactFault mesh fault = (first : CompactFault) × IsFirstFault mesh first × (fault ≡ of_compact_fault first)
+
+-- why a mesh is no orientable compact surface, as a fault
+abbrev pub of_signed_fault : SignedFault → Fault
+of_signed_fault (signed.Compact fault) = of_compact_fault fault
+of_signed_fault signed.NotOrientable = NotOrientable
+
+-- what is first wrong with a mesh that is none, or one whose double would be too large
+abbrev pub IsOrientableCompactFault : FaceList → Fault → Type 0
+IsOrientableCompactFault mesh fault = (first : SignedFault) × IsSignedFault mesh first × (fault ≡ of_signed_fault first)
+
+-- the mesh is an orientable compact surface, of which this is kept
+pub record IsSignedOf (mesh : FaceList) (surface : SignedCompact) : Type 0 where
+  pub compact : IsOrientableCompactSurface mesh
+  pub signed : IsSignedFor mesh surface
 
 -- the mesh is a compact surface, and is the one that is kept
 pub record IsCompactKept (mesh kept : FaceList) : Type 0 where

@@ -3,7 +3,7 @@ ghost use Rattle.std.specs.Prelude.{◌≡◌};
 ghost use Rattle.homotopy_arrays.specs.declared.fault.Fault.TheVariants.{OutOfMemory};
 
 use closed_surfaces::NoSurface;
-use compact_surfaces::CompactFault;
+use compact_surfaces::{CompactFault, SignedFault};
 use doubling::DoubleFault;
 use manifold_check::SurfaceFault;
 use std::alloc::AllocError;
@@ -102,6 +102,19 @@ impl From<CompactFault> for Fault {
             CompactFault::Double(DoubleFault::OutOfMemory) => Fault::OutOfMemory,
             CompactFault::Cover(DoubleFault::OutOfMemory) => Fault::OutOfMemory,
             CompactFault::OutOfMemory => Fault::OutOfMemory,
+        }
+    }
+}
+
+impl From<SignedFault> for Fault {
+    ghost use Rattle.homotopy_arrays.specs.Compact.{of_signed_fault};
+
+    ghost from_gives = { λ first fault. fault ≡ of_signed_fault first };
+
+    fn from(fault: SignedFault) -> Fault {
+        match fault {
+            SignedFault::Compact(fault) => Fault::from(fault),
+            SignedFault::NotOrientable => Fault::NotOrientable,
         }
     }
 }

@@ -3,9 +3,10 @@
 //! `measure_arrays` has what `surface` prints, `decide_arrays` what `decide` answers of any number of pairs, and `decide_any_arrays` the
 //! same on surfaces that may have boundary and need not be orientable; `KeptMesh` keeps a surface of either kind, and has the same pair
 //! after pair, what `loops` answers of pairs of closed walks, and the classes of any number of walks; `certify_arrays` with `text_of` has
-//! what `certify` prints, `verify_arrays` what `verify` judges, of a certificate in bytes, `homology_arrays` has what `homology` shows, and
-//! `verify_homology_arrays` judges that. Proved: the answer is that of the mesh that the arrays are, or what is first wrong with them is
-//! named, or memory is wanting; and arrays are read as the mesh whose arrays they are (`laws`).
+//! what `certify` prints, `verify_arrays` what `verify` judges, of a certificate in bytes, `homology_arrays` has what `homology` shows,
+//! `homology_any_arrays` also on orientable surfaces that may have boundary, and `verify_homology_arrays` judges that.
+//! Proved: the answer is that of the mesh that the arrays are, or what is first wrong with them is named, or memory is wanting; and arrays
+//! are read as the mesh whose arrays they are (`laws`).
 #![tactic(auto)]
 
 mod answering;
@@ -30,7 +31,7 @@ pub use classes::NoClasses;
 pub use decide::{PairAnswer, decide_arrays};
 pub use decide_any::decide_any_arrays;
 pub use fault::Fault;
-pub use homologies::{HomologyFault, homology_arrays};
+pub use homologies::{HomologyFault, homology_any_arrays, homology_arrays};
 pub use homology::{ArrayVerdict, HomologyNumbers};
 pub use kept::KeptMesh;
 pub use loops::LoopAnswer;

@@ -1,4 +1,4 @@
-use Rattle.homotopy_arrays.proofs.homologies.find_numbers.Goals as goal
+use Rattle.homotopy_arrays.proofs.homologies.find_closed.Goals as goal
 
 pub of_walk-requires-clause-signed : goal.of_walk-requires-clause-signed
 of_walk-requires-clause-signed c = c.requires.signed
