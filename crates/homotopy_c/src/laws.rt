@@ -1,8 +1,8 @@
 //! What the calls tell, said of their definitions. A call of one of these functions does nothing; its contract is the law. Each of
 //! `homotopy_surface`, `homotopy_decide`, `homotopy_decide_any`, `homotopy_mesh_new`, `homotopy_mesh_new_any`, `homotopy_mesh_decide`,
-//! `homotopy_mesh_loops`, `homotopy_mesh_classes`, `homotopy_certify`, `homotopy_verify`, `homotopy_homology` and `homotopy_verify_homology`
-//! ensures the record that its law takes as a premise; `Ok mesh` there says that the arrays are a mesh, and `Some mesh` that the handle holds
-//! it.
+//! `homotopy_mesh_loops`, `homotopy_mesh_classes`, `homotopy_certify`, `homotopy_verify`, `homotopy_homology` and
+//! `homotopy_verify_homology` ensures the record that its law takes as a premise; `Ok mesh` there says that the arrays are a mesh, and
+//! `Some mesh` that the handle holds it.
 ghost use Rattle.std.specs.Prelude.{◌≡◌, ◌≢◌, ◌⊎◌, ◌↔◌, ◌*◌, ◌+◌, ◌/◌, ◌<◌, ◌≤◌, ℕ, ℤ, List, length, take, slice_index, IsTrue, Option, Some, Result, Ok};
 ghost use Rattle.surf_model.specs.FaceLists.{FaceList, IsFaceList, HasFileSize};
 ghost use Rattle.surf_model.specs.OrientableSurfaces.{IsOrientableSurface};
@@ -172,8 +172,9 @@ pub fn homology_shows_what_is_homologous()
 {}
 
 /// `homotopy_verify_homology` tells `ACCEPTED`, asked of `HOMOLOGOUS`, exactly where the numbers are a chain for two walks of the mesh with
-/// common ends, which are homologous then; and asked of `NOT_HOMOLOGOUS` exactly where they are those of a cocycle that separates such walks,
-/// which are not homologous then; and none is too large. Memory may be wanting for it. Asked of another answer it tells `ACCEPTED` of none.
+/// common ends, which are homologous then; and asked of `NOT_HOMOLOGOUS` exactly where they are those of a cocycle that separates such
+/// walks, which are not homologous then; and none is too large. Memory may be wanting for it. Asked of another answer it tells
+/// `UNKNOWN_ANSWER`.
 pub fn verify_homology_accepts_what_holds()
     ensures chain { (mesh : FaceList) (first second : List ℕ) (numbers : List ℤ) (outcome : Outcome)
         → IsVerifyHomologyCall (Ok mesh) first second codes.HOMOLOGOUS numbers outcome → outcome.code ≡ codes.ACCEPTED

@@ -11,9 +11,9 @@ use homotopy_arrays::{
 };
 use std::alloc::Global;
 
-/// What comes of numbers that are to show this answer of two walks of the mesh that the arrays are, which need be no surface. Of `HOMOLOGOUS`
-/// they are to be a chain, one for each face; of `NOT_HOMOLOGOUS` a cocycle that separates the walks, one for each side. They are accepted, or
-/// rejected for the first reason against them; or what is first wrong with the answer, the arrays or the walks.
+/// What comes of numbers that are to show this answer of two walks of the mesh that the arrays are, which need be no surface. Of
+/// `HOMOLOGOUS` they are to be a chain, one for each face; of `NOT_HOMOLOGOUS` a cocycle that separates the walks, one for each side. They
+/// are accepted, or rejected for the first reason against them; or what is first wrong with the answer, the arrays or the walks.
 #[unsafe(no_mangle)]
 pub extern "C" fn homotopy_verify_homology(
     alloc: Global,
