@@ -1,9 +1,9 @@
 -- Where an entry of a walk is in the fold of that walk.
-use Rattle.folded_lists.proofs.Common.{fold, folded, ◌≡◌, inl, inr, ℕ, ◌+◌, ◌<◌, ◌≤◌, Bool, true, false, List, [], ◌∷◌, ◌++◌, length, get_or, take, refl, ap, sym, ◌∙◌, arith, subst, cases_eq, eq-eqb, ne_eqb, length-append, take_more, length-take, ◌==◌, if◌then◌else◌}
+use Rattle.folded_lists.proofs.Common.{fold, folded, not, ◌≡◌, inl, inr, ℕ, ◌+◌, ◌<◌, ◌≤◌, Bool, true, false, List, [], ◌∷◌, ◌++◌, length, get_or, take, refl, ap, sym, ◌∙◌, arith, cases_eq, eq-eqb, ne_eqb, length-append, take_more, length-take, ◌==◌, if◌then◌else◌}
 use Rattle.folded_lists.proofs.FoldedParts.{folds_behind, length-folded, parted}
 
 -- the fold up to the next entry
-pub next_entry : (count : ℕ) (walk : List ℕ) (place : ℕ) → place + 1 < length walk
+next_entry : (count : ℕ) (walk : List ℕ) (place : ℕ) → place + 1 < length walk
     → length (folded count (take (place + 1 + 1) walk))
     ≡ length (folded count (take (place + 1) walk))
     + (if fold count (get_or walk (place + 1) 0) == fold count (get_or walk place 0) then 0 else 1)
@@ -25,25 +25,24 @@ next_entry count walk place l =
     ∙ ap (λ (n : ℕ). length before + n) step
     ∙ ap (λ (w : List ℕ). length (folded count w) + (if F to == F here then 0 else 1)) (sym front)
 
-pub new_entry : (count : ℕ) (walk : List ℕ) (place last next : ℕ) → place + 1 < length walk → last ≡ fold count (get_or walk place 0)
-    → next ≡ fold count (get_or walk (place + 1) 0) → (next == last) ≡ false
-    → length (folded count (take (place + 1 + 1) walk)) ≡ length (folded count (take (place + 1) walk)) + 1
-new_entry count walk place last next l a b other =
-    let test : (fold count (get_or walk (place + 1) 0) == fold count (get_or walk place 0)) ≡ false =
-    subst (λ (n : ℕ). (fold count (get_or walk (place + 1) 0) == n) ≡ false) a
-    (subst (λ (n : ℕ). (n == last) ≡ false) b other) in
-    next_entry count walk place l
-    ∙ ap (λ (t : Bool). length (folded count (take (place + 1) walk)) + (if t then 0 else 1)) test
+abbrev pub count_of : Bool → ℕ
+count_of differ = if differ then 1 else 0
 
-pub same_entry : (count : ℕ) (walk : List ℕ) (place last next : ℕ) → place + 1 < length walk → last ≡ fold count (get_or walk place 0)
-    → next ≡ fold count (get_or walk (place + 1) 0) → (next == last) ≡ true
-    → length (folded count (take (place + 1 + 1) walk)) ≡ length (folded count (take (place + 1) walk)) + 0
-same_entry count walk place last next l a b same =
-    let test : (fold count (get_or walk (place + 1) 0) == fold count (get_or walk place 0)) ≡ true =
-    subst (λ (n : ℕ). (fold count (get_or walk (place + 1) 0) == n) ≡ true) a
-    (subst (λ (n : ℕ). (n == last) ≡ true) b same) in
+turned : (same : Bool) → count_of (not same) ≡ (if same then 0 else 1)
+turned true = refl
+turned false = refl
+
+-- the same, told by whether the folds of two neighbours differ
+pub one_further : (count : ℕ) (walk : List ℕ) (place last next : ℕ) (differ : Bool) → place + 1 < length walk
+    → last ≡ fold count (get_or walk place 0) → next ≡ fold count (get_or walk (place + 1) 0) → differ ≡ not (next == last)
+    → length (folded count (take (place + 1 + 1) walk))
+    ≡ length (folded count (take (place + 1) walk)) + count_of differ
+one_further count walk place last next differ l a b told =
+    let same : Bool = fold count (get_or walk (place + 1) 0) == fold count (get_or walk place 0) in
     next_entry count walk place l
-    ∙ ap (λ (t : Bool). length (folded count (take (place + 1) walk)) + (if t then 0 else 1)) test
+    ∙ ap (λ (n : ℕ). length (folded count (take (place + 1) walk)) + n)
+    (sym (turned same) ∙ ap count_of
+    (sym (told ∙ ap (λ (n : ℕ). not (n == last)) b ∙ ap (λ (n : ℕ). not (fold count (get_or walk (place + 1) 0) == n)) a)))
 
 -- the fold has no more entries than the walk
 pub fold_fits : (count : ℕ) (walk : List ℕ) (place : ℕ) → length (folded count (take (place + 1) walk)) ≤ place + 1
