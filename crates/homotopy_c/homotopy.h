@@ -6,8 +6,9 @@
  *
  * A SURFACE is a mesh that is a surface, in one piece or in several: no edge is in more than two sides of faces, and the corners at each
  * vertex make one ring, or one fan where the vertex is on the boundary. `homotopy_decide_any` takes any surface, closed or with boundary,
- * orientable or not, and `homotopy_mesh_new_any` keeps one. The other questions take orientable closed ones: each edge is in two sides, and
- * the faces can be turned so that each edge is run both ways. `homotopy_verify` and `homotopy_verify_homology` take any mesh.
+ * orientable or not, and `homotopy_mesh_new_any` keeps one; `homotopy_homology_any` takes orientable ones, closed or with boundary. The other
+ * questions take orientable closed ones: each edge is in two sides, and the faces can be turned so that each edge is run both ways.
+ * `homotopy_verify` and `homotopy_verify_homology` take any mesh.
  *
  * A WALK is an array of the numbers of the vertices that it passes, one after another joined by edges. A walk of one vertex stays there.
  * Two walks with the same first and the same last vertex are homotopic where one can be moved over the surface to the other. A closed walk
@@ -255,6 +256,16 @@ void homotopy_certify(
  * Or SHORT_ROOM, where `numbers` has too little room, with how many are wanted and the code of the answer; or what is first wrong with the
  * mesh or the walks, or HOMOLOGY_DARTS. `numbers` is left as it was then. The room is looked at last. */
 void homotopy_homology(
+    uint32_t vertices, const uint32_t *sizes, size_t face_count, const uint32_t *corners, size_t corner_count,
+    const uint32_t *first, size_t first_count, const uint32_t *second, size_t second_count,
+    int64_t *numbers, size_t number_room, homotopy_outcome *outcome);
+
+/* What `homotopy_homology` tells, of any orientable surface, in one piece or in several, closed or with boundary. What is handed over and what
+ * comes back is the same, for the mesh itself. What is first wrong with the mesh is told as `homotopy_decide_any` tells it, but that no cover
+ * is made: where the faces cannot be turned so that each edge is run both ways, the code is NOT_ORIENTABLE, told behind the limits of the
+ * double and before the walks. The size of a number of a chain is at most 4,294,967,294 here, where it is proved to be at most 2,147,483,647
+ * in `homotopy_homology`. */
+void homotopy_homology_any(
     uint32_t vertices, const uint32_t *sizes, size_t face_count, const uint32_t *corners, size_t corner_count,
     const uint32_t *first, size_t first_count, const uint32_t *second, size_t second_count,
     int64_t *numbers, size_t number_room, homotopy_outcome *outcome);

@@ -338,19 +338,19 @@ def certify(vertices, faces, first, second):
     return _check(outcome)
 
 
-def homology(vertices, faces, first, second):
+def homology(vertices, faces, first, second, *, any_kind=False):
     """HOMOLOGOUS or NOT_HOMOLOGOUS, with the numbers that show it: of a chain for each face, or of a cocycle for each side.
 
     Of a chain, the two sides of each edge, with the numbers of their faces, add up to what the first walk runs along it more than the
     second. A cocycle has a number for each corner, that of the side from it to the next one of its face: round each face they add up to 0,
     and along the two walks to different sums. Refused where the mesh is no orientable closed surface, or the walks are none of it with
-    common ends.
+    common ends. With `any_kind` the surface may have boundary too.
     """
     mesh, _kept = _mesh(vertices, faces)
     one, other, outcome = _Lent.of(first, "the first walk"), _Lent.of(second, "the second walk"), Outcome()
-    room = mesh[-1]
+    room, name = mesh[-1], "homotopy_homology_any" if any_kind else "homotopy_homology"
     numbers = (ctypes.c_int64 * max(room, 1))()
-    call("homotopy_homology", *mesh, *one.words, *other.words, ctypes.addressof(numbers), room, outcome)
+    call(name, *mesh, *one.words, *other.words, ctypes.addressof(numbers), room, outcome)
     if outcome.code in (Answer.HOMOLOGOUS, Answer.NOT_HOMOLOGOUS):
         return Answer(outcome.code), numbers[:outcome.numbers[0]]
     return _check(outcome)

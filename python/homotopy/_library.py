@@ -35,6 +35,7 @@ _ARGUMENTS = {
     "homotopy_mesh_free": [ctypes.POINTER(Handle)],
     "homotopy_certify": [ctypes.c_uint32] + 5 * _ARRAY + _ENDING,
     "homotopy_homology": [ctypes.c_uint32] + 5 * _ARRAY + _ENDING,
+    "homotopy_homology_any": [ctypes.c_uint32] + 5 * _ARRAY + _ENDING,
     "homotopy_verify": [ctypes.c_uint32] + 5 * _ARRAY + _ENDING,
     "homotopy_verify_homology": [ctypes.c_uint32] + 4 * _ARRAY + [ctypes.c_uint32] + _ARRAY + _ENDING,
 }

@@ -42,11 +42,15 @@ static int is(homotopy_outcome outcome, uint32_t code, uint64_t first, uint64_t 
     return outcome.code == code && outcome.numbers[0] == first && outcome.numbers[1] == second && outcome.numbers[2] == 0;
 }
 
+/* The call that is asked. */
+static void (*ask)(uint32_t, const uint32_t *, size_t, const uint32_t *, size_t, const uint32_t *, size_t, const uint32_t *, size_t,
+                   int64_t *, size_t, homotopy_outcome *) = homotopy_homology;
+
 /* Asks with so much room, in a block of its own, so that a sanitizer sees what is written behind it. */
 static homotopy_outcome asked(mesh it, walk first, walk second, int64_t *numbers, size_t room) {
     homotopy_outcome outcome = {99, {9, 9, 9}};
-    homotopy_homology(it.vertices, SIZES, it.faces, it.corners, 3 * it.faces, first.vertices, first.count, second.vertices, second.count,
-                      numbers, room, &outcome);
+    ask(it.vertices, SIZES, it.faces, it.corners, 3 * it.faces, first.vertices, first.count, second.vertices, second.count, numbers, room,
+        &outcome);
     return outcome;
 }
 
@@ -65,9 +69,10 @@ static int is_chain(mesh it, walk first, walk second, const int64_t *numbers) {
 }
 
 /* Whether the two sides of each edge have opposite numbers, which add up to 0 round each face and to different sums along the walks. All
- * faces of the meshes here are turned alike. */
+ * faces of the meshes here are turned alike, and a side on the boundary is alone. */
 static int is_cocycle(mesh it, walk first, walk second, const int64_t *numbers) {
     int64_t dart[MOST][MOST] = {{0}}, along = 0;
+    for (size_t corner = 0; corner < 3 * it.faces; corner++) dart[next(it, corner)][it.corners[corner]] = -numbers[corner];
     for (size_t corner = 0; corner < 3 * it.faces; corner++) dart[it.corners[corner]][next(it, corner)] = numbers[corner];
     for (size_t low = 0; low < MOST; low++)
         for (size_t high = low; high < MOST; high++)
@@ -144,6 +149,35 @@ static void answers(void) {
     expect(pieces, WALK(0, 1, 2), WALK(0, 2), HOMOTOPY_HOMOLOGOUS);
     expect(pieces, WALK(4, 5, 7), WALK(4, 6, 7), HOMOTOPY_HOMOLOGOUS);
     expect(pieces, WALK(4, 5, 6, 4), WALK(4), HOMOTOPY_NOT_HOMOLOGOUS);
+}
+
+/* Round the hole of an annulus once and twice, with the walk round its other end, and round the hole of a torus without face 0: what bounds
+ * the surface bounds all its faces. A disc has one chain for two walks. */
+static void bounded(void) {
+    static const uint32_t ring[18] = {0, 1, 3, 1, 4, 3, 1, 2, 4, 2, 5, 4, 2, 0, 5, 0, 3, 5};
+    const mesh annulus = {6, 6, ring}, disc = {4, 3, TETRA}, holed = {7, 13, torus + 3};
+    int64_t numbers[3] = {7, 7, 7};
+    expect(annulus, WALK(0, 1, 2, 0), WALK(0), HOMOTOPY_NOT_HOMOLOGOUS);
+    expect(annulus, WALK(0, 1, 2, 0, 1, 2, 0), WALK(0, 1, 2, 0), HOMOTOPY_NOT_HOMOLOGOUS);
+    expect(annulus, WALK(0, 1, 2, 0, 3), WALK(0, 3, 4, 5, 3), HOMOTOPY_HOMOLOGOUS);
+    expect(holed, WALK(0, 1, 3, 0), WALK(0), HOMOTOPY_HOMOLOGOUS);
+    expect(holed, WALK(0, 1, 2, 0), WALK(0), HOMOTOPY_NOT_HOMOLOGOUS);
+    expect(disc, WALK(2, 0, 3), WALK(2, 3), HOMOTOPY_HOMOLOGOUS);
+    EXPECT(is(asked(disc, WALK(2, 0, 3), WALK(2, 3), numbers, 3), HOMOTOPY_HOMOLOGOUS, 3, 0));
+    EXPECT(numbers[0] == 0 && numbers[1] == 0 && numbers[2] == -1);
+}
+
+static void faults_of_any(void) {
+    static const uint32_t band[15] = {0, 1, 2, 1, 2, 3, 2, 3, 4, 3, 4, 0, 4, 0, 1}, fan[9] = {0, 1, 2, 0, 1, 2, 0, 1, 2};
+    const mesh twisted = {5, 5, band}, crowded = {3, 3, fan}, none = {4, 0, TETRA}, disc = {4, 3, TETRA};
+    /* What is wrong with the mesh is told before what is with the walks. */
+    refused(twisted, (walk){0, TETRA}, WALK(0), HOMOTOPY_NOT_ORIENTABLE, 0, 0, 0);
+    refused(crowded, (walk){0, TETRA}, WALK(0), HOMOTOPY_EDGE_SIDES, 0, 1, 3);
+    refused(none, WALK(0), WALK(0), HOMOTOPY_NO_FACE, 0, 0, 0);
+    refused(disc, WALK(0), (walk){0, TETRA}, HOMOTOPY_EMPTY_WALK, 2, 0, 0);
+    /* The walks are those of the mesh: the mirror of vertex 0, which the double has as vertex 4, is none of it. */
+    refused(disc, WALK(0, 1), WALK(0, 4), HOMOTOPY_NO_VERTEX, 2, 1, 0);
+    refused(disc, WALK(0, 1), WALK(0, 2), HOMOTOPY_ENDS_DIFFER, 0, 0, 0);
 }
 
 static void faults(void) {
@@ -266,6 +300,10 @@ int main(void) {
     judges_chains();
     judges_cocycles();
     judges_nothing();
+    ask = homotopy_homology_any;
+    answers();
+    bounded();
+    faults_of_any();
     if (!failures) printf("homology.c: all as wanted\n");
     return failures != 0;
 }

@@ -19,6 +19,7 @@ from homotopy import Answer, Faces, Mesh, Surface, certify, decide, homology, su
 
 numpy = homotopy.numpy
 TETRA = [[0, 1, 2], [0, 3, 1], [0, 2, 3], [1, 3, 2]]
+ANNULUS = [[0, 1, 3], [1, 4, 3], [1, 2, 4], [2, 5, 4], [2, 0, 5], [0, 3, 5]]
 TORUS = [[i, (i + 1) % 7, (i + 3) % 7] for i in range(7)] + [[i, (i + 3) % 7, (i + 2) % 7] for i in range(7)]
 SPHERE = Surface(4, 6, 4, 2, [0])
 LIST = b"MOVES 1 2\nf 0 0 0 + 2\n"
@@ -41,6 +42,10 @@ def refuse(kind, words, function, *arguments):
         failures.append("%s%r gives %r, and %s is wanted" % (function.__name__, arguments, told, kind.__name__))
 
 
+def homology_any(*asked):
+    return homology(*asked, any_kind=True)
+
+
 def take():
     for faces in (TETRA, tuple(map(tuple, TETRA)), iter(TETRA), Faces([3] * 4, sum(TETRA, [])), [array.array("I", face) for face in TETRA]):
         expect(surface(4, faces), SPHERE, "a tetrahedron")
@@ -60,6 +65,18 @@ def take():
     expect([sum(numbers[3 * face:3 * face + 3]) for face in range(14)], [0] * 14, "the sums round the faces")
     expect([u for u, v in sides if sides[u, v] != -sides[v, u]], [], "the two sides of an edge")
     expect(sides[0, 1] + sides[1, 2] + sides[2, 0] != 0, True, "the sum along the walk")
+    # A disc has one chain for two walks, by hand: across its face 0 2 3, listed so, the walk 2 0 3 bounds with 2 3 the face turned.
+    expect(homology_any(4, TETRA[:3], [2, 0, 3], [2, 3]), (Answer.HOMOLOGOUS, [0, 0, -1]), "a chain of a disc")
+    answer, numbers = homology_any(6, ANNULUS, [0, 1, 2, 0], [0])
+    expect((answer, len(numbers)), (Answer.NOT_HOMOLOGOUS, 18), "a cocycle of an annulus")
+    expect(homology_any(6, ANNULUS, [0, 1, 2, 0, 3], [0, 3, 4, 5, 3]), (Answer.HOMOLOGOUS, [1] * 6), "the chain of an annulus")
+    # The sum of all faces of a torus is 0, so without face 0 it is minus the walk round that one.
+    expect(homology_any(7, TORUS[1:], [0, 1, 3, 0], [0]), (Answer.HOMOLOGOUS, [-1] * 13), "round the hole of a torus")
+    expect(homology_any(7, TORUS[1:], [0, 1, 2, 0], [0])[0], Answer.NOT_HOMOLOGOUS, "round a torus with a hole")
+    band = [[i, (i + 1) % 5, (i + 2) % 5] for i in range(5)]
+    refuse(homotopy.Refused, "the mesh is not orientable", homology_any, 5, band, [0], [0])
+    crowded = "the edge 0 1 should be in two sides of faces, and is in 3"
+    refuse(homotopy.Refused, crowded, homology_any, 4, [TETRA[0]] * 3, [0], [0])
     refuse(homotopy.Refused, "the walks end at different vertices", homology, 4, TETRA, [0, 1], [0])
     refuse(homotopy.Refused, "walk 2 has no vertex", homology, 4, TETRA, [0, 1], [])
     refuse(homotopy.Refused, "the edge 1 2 should be in two sides of faces, and is in 1", homology, 4, TETRA[:3], [0], [0])

@@ -1,7 +1,6 @@
 -- What answers for a compact surface is a closed manifold.
-use Rattle.compact_surfaces.proofs.Common.{IsClosedFor, IsCompactSurface, IsCoverBeyond, IsFaultBehind, IsFirstFault, IsKept, first_faces, CompactFault, Cover, OutOfMemory, few_of_two, no_edge_no_side, double_of, mirror_face, rim_quads, HasBoundary, ◌≡◌, ◌⊎◌, ◌↔◌, Bool, false, ℕ, ◌<◌, ◌≤◌, List, ◌++◌, length, map, take, append_assoc, ap, sym, ◌∙◌, subst, inl, inr, arith, true, both_ways, cases_Bool, IsTrue, Option, MatchOption, Edge, IsTableOf, FaceList, HasFileSize, IsFaceList, is_edge, IsOrientableSurface, IsClosedManifold, IsOrientable, sides_between}
+use Rattle.compact_surfaces.proofs.Common.{double_orientable, orientable_there, IsClosedFor, IsCompactSurface, IsCoverBeyond, IsFaultBehind, IsFirstFault, IsKept, first_faces, CompactFault, Cover, OutOfMemory, few_of_two, no_edge_no_side, double_of, mirror_face, rim_quads, HasBoundary, ◌≡◌, ◌⊎◌, ◌↔◌, Bool, false, ℕ, ◌<◌, ◌≤◌, List, ◌++◌, length, map, take, append_assoc, ap, sym, ◌∙◌, subst, inl, inr, arith, true, both_ways, cases_Bool, IsTrue, Option, MatchOption, Edge, IsTableOf, FaceList, HasFileSize, IsFaceList, is_edge, IsOrientableSurface, IsClosedManifold, IsOrientable, sides_between}
 use Rattle.closed_doubles.proofs.DoubleRings.{double_rings}
-use Rattle.closed_doubles.proofs.DoubleSigns.{double_orientable, orientable_there}
 use Rattle.closed_doubles.proofs.SidePlaces.{some_side}
 use Rattle.closed_doubles.proofs.TwoSides.{double_two_sides}
 use Rattle.closed_surfaces.specs.SignedSurfaces.{IsNoSurface, no_memory}

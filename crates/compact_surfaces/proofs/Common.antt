@@ -1,6 +1,7 @@
 -- What proofs of this crate cite of its definitions and of other crates, passed on from one place (by tools/imports). Declares nothing.
+pub use Rattle.closed_doubles.proofs.DoubleSigns.{double_orientable, orientable_there}
 pub use Rattle.closed_walks.specs.FreeHomotopy.{FreelyHomotopic, IsClosedWalk}
-pub use Rattle.compact_surfaces.specs.CompactSurfaces.{IsClosedFor, IsCompactSurface}
+pub use Rattle.compact_surfaces.specs.CompactSurfaces.{IsClosedFor, IsCompactSurface, IsOrientableCompactSurface}
 pub use Rattle.compact_surfaces.specs.Faults.{IsConditionFault, IsCoverBeyond, IsFaultBehind, IsFirstFault, IsLimitFault}
 pub use Rattle.compact_surfaces.specs.Kept.{IsKept, first_faces}
 pub use Rattle.compact_surfaces.specs.Manifolds.{has_signs, mesh_of_manifold}

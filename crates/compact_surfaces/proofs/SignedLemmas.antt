@@ -1,7 +1,5 @@
 -- Why a surface with boundary has no signs, and that one with signs has them.
-use Rattle.compact_surfaces.proofs.Common.{IsCompactSurface, double_of, HasBoundary, ◌≡◌, ◌⊎◌, sym, subst, inl, inr, FaceList, HasFileSize, IsFaceList, IsOrientable}
-use Rattle.closed_doubles.proofs.DoubleSigns.{double_orientable, orientable_there}
-use Rattle.compact_surfaces.specs.CompactSurfaces.{IsOrientableCompactSurface}
+use Rattle.compact_surfaces.proofs.Common.{double_orientable, orientable_there, IsCompactSurface, IsOrientableCompactSurface, double_of, HasBoundary, ◌≡◌, ◌⊎◌, sym, subst, inl, inr, FaceList, HasFileSize, IsFaceList, IsOrientable}
 use Rattle.compact_surfaces.specs.Signed.{IsSignedFault, no_memory}
 use Rattle.compact_surfaces.specs.declared.signed.SignedFault.{SignedFault}
 use Rattle.compact_surfaces.specs.declared.signed.SignedFault.TheVariants.{NotOrientable}

@@ -3,14 +3,17 @@ pub use Rattle.closed_surfaces.proofs.Components.{signed_surface, walk_there}
 pub use Rattle.closed_surfaces.specs.SignedSurfaces.{IsComponentOf, IsNoSurface, IsSigned}
 pub use Rattle.closed_surfaces.specs.declared.signed_mesh.SignedMesh.{SignedMesh}
 pub use Rattle.closed_walks.specs.FreeHomotopy.{FreelyHomotopic, IsClosedWalk}
-pub use Rattle.compact_surfaces.specs.CompactSurfaces.{IsCompactSurface}
+pub use Rattle.compact_surfaces.specs.CompactSurfaces.{IsCompactSurface, IsOrientableCompactSurface}
+pub use Rattle.doubling.specs.Doubles.{double_of}
+pub use Rattle.folded_homology.specs.FoldedNumbers.{AreFolded}
 pub use Rattle.homology.specs.ArrayCertificates.{AreSmall, DoShow}
+pub use Rattle.homology.specs.declared.array.HomologyNumbers.{HomologyNumbers}
 pub use Rattle.homotopy_arrays.specs.Certifications.{Certifies, IsCertified, IsCertifyFault, IsFaultOfPair, IsLimitFault, no_memory}
 pub use Rattle.homotopy_arrays.specs.CheckedPairs.{AreCheckedLoops, AreListed, IsChecked}
 pub use Rattle.homotopy_arrays.specs.Classes.{AreClassed, AreClassesIn, AreCut, IsFirstNone, IsNoClassesIn, IsWalkIn, first_walks}
-pub use Rattle.homotopy_arrays.specs.Compact.{AreDecidedOnAny, IsCompactFault, IsCompactKept, IsDecideAnyFault, of_compact_fault}
+pub use Rattle.homotopy_arrays.specs.Compact.{AreDecidedOnAny, IsCompactFault, IsCompactKept, IsDecideAnyFault, IsOrientableCompactFault, IsSignedOf, of_compact_fault, of_signed_fault}
 pub use Rattle.homotopy_arrays.specs.Decisions.{AreAnsweredOn, AreDecided, IsAskedFault, IsDecideFault, IsKept}
-pub use Rattle.homotopy_arrays.specs.Homologies.{AreLong, AreShown, IsHomologyFault, IsHomologyFaultOfPair, ShowsWalks, answer_by}
+pub use Rattle.homotopy_arrays.specs.Homologies.{AreLong, AreShown, AreShownAs, IsAsked, IsHomologyFaultOfPair, IsHomologyFaultOn, ShowsWalksOn, Sized, answer_by, mesh_asked}
 pub use Rattle.homotopy_arrays.specs.HomologyJudgements.{IsArrayVerdict, IsVerifyHomologyFault, IsVerifyHomologyFaultOn, JudgesNumbers, JudgesNumbersOn}
 pub use Rattle.homotopy_arrays.specs.Judgements.{IsFaultOfMoves, IsFaultOfSpelling, IsFaultOfText, IsFaultOfWalks, IsVerdictOnMoves, IsVerifyFault, Judges, JudgesSpelt, JudgesText, JudgesWalks, of_certificate_fault}
 pub use Rattle.homotopy_arrays.specs.MeshArrays.{AreArraysOf, counts_fault, face_fault, mesh_in, unless}
@@ -31,6 +34,7 @@ pub use Rattle.std.proofs.lemmas.Result.{err_from_is_err_and}
 pub use Rattle.std.specs.Global.{Vec}
 pub use Rattle.std.specs.List.{list_all}
 pub use Rattle.std.specs.Prelude.{All, Err, IfOk, MatchOption, MatchResult, None, Ok, Option, Result, Some, flat_map, if◌then◌else◌, is_some, nat_lt, option_map, slice_get, sum_by, ℤ}
+pub use Rattle.std.specs.declared.alloc.AllocError.{AllocError}
 pub use Rattle.surf_model.specs.FaceLists.{FaceList, IsFace, PendingFace, total_sides}
 pub use Rattle.surf_model.specs.OrientableSurfaces.{IsOrientableSurface}
 pub use Rattle.surf_model.specs.Walks.{HaveCommonEnds, IsWalk, darts}

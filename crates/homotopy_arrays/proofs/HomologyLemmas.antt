@@ -1,26 +1,19 @@
 -- Numbers that show whether walks are homologous, from their parts.
-use Rattle.homotopy_arrays.proofs.Common.{SignedMesh, AreSmall, DoShow, AreLong, AreShown, IsHomologyFaultOfPair, answer_by, AreWalks, IsSurfaceOf, OfMesh, Fault, OutOfMemory, ◌≡◌, ◌⊎◌, ℕ, ◌+◌, ◌≤◌, List, refl, sym, subst, arith, ap, ◌∙◌, inl, inr, ◌↔◌, MatchResult, Result, Ok, Err, IfOk, FaceList, darts, IsWalk}
+use Rattle.homotopy_arrays.proofs.Common.{SignedMesh, IsOrientableCompactSurface, double_of, AreFolded, AreSmall, DoShow, HomologyNumbers, IsOrientableCompactFault, IsSignedOf, of_signed_fault, AreLong, AreShown, IsHomologyFaultOfPair, answer_by, AreShownAs, IsAsked, IsHomologyFaultOn, ShowsWalksOn, Sized, mesh_asked, AreWalks, IsSurfaceOf, OfMesh, Fault, OutOfMemory, ◌≡◌, ◌⊎◌, ℕ, ◌+◌, ◌≤◌, List, refl, sym, subst, arith, ap, ◌∙◌, inl, inr, ◌↔◌, MatchResult, Result, Ok, Err, IfOk, AllocError, FaceList, darts, IsWalk}
 use Rattle.commands.specs.HomologyCertificates.{Homologous}
-use Rattle.homology.proofs.PairingLemmas.{refuted}
-use Rattle.homology.specs.Chains.{AreHomologous}
-use Rattle.homology.specs.Tallies.{number_at}
-use Rattle.homology.specs.declared.array.HomologyNumbers.{HomologyNumbers}
-use Rattle.homology.specs.declared.array.HomologyNumbers.TheVariants.{Chain, Cocycle}
-use Rattle.homology.specs.declared.certificate.TheConstants.{MOST_NUMBER}
-use Rattle.homotopy_arrays.specs.Homologies.{AreShownAs, IsAsked, IsHomologyFaultOn, ShowsWalksOn, Sized, mesh_asked, no_memory}
-use Rattle.homotopy_arrays.specs.Compact.{IsOrientableCompactFault, IsSignedOf, of_signed_fault}
-use Rattle.compact_surfaces.specs.CompactSurfaces.{IsOrientableCompactSurface}
-use Rattle.compact_surfaces.specs.Signed.{IsBoundedFor, IsSignedFault, IsSignedFor}
-use Rattle.compact_surfaces.specs.Signed.{no_memory as wanting}
+use Rattle.compact_surfaces.specs.Signed.{IsBoundedFor, IsSignedFault, IsSignedFor, no_memory as wanting}
 use Rattle.compact_surfaces.specs.declared.signed.SignedCompact.{SignedCompact}
 use Rattle.compact_surfaces.specs.declared.signed.SignedCompact.TheVariants.{Closed, Bounded}
 use Rattle.compact_surfaces.specs.declared.signed.SignedFault.{SignedFault}
 use Rattle.doubling.proofs.KeptMoves.{kept_walk}
-use Rattle.doubling.specs.Doubles.{double_of}
-use Rattle.folded_homology.specs.FoldedNumbers.{AreFolded}
+use Rattle.homology.proofs.PairingLemmas.{refuted}
+use Rattle.homology.specs.Chains.{AreHomologous}
+use Rattle.homology.specs.Tallies.{number_at}
+use Rattle.homology.specs.declared.array.HomologyNumbers.TheVariants.{Chain, Cocycle}
+use Rattle.homology.specs.declared.certificate.TheConstants.{MOST_NUMBER}
+use Rattle.homotopy_arrays.specs.Homologies.{no_memory}
 use Rattle.homotopy_arrays.specs.declared.homologies.HomologyFault.{HomologyFault}
 use Rattle.homotopy_arrays.specs.declared.homologies.HomologyFault.TheVariants.{Mesh}
-use Rattle.std.specs.declared.alloc.AllocError.{AllocError}
 
 -- ---- what numbers show
 

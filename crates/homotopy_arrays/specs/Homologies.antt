@@ -44,8 +44,8 @@ pub record AreShownAs (Small : HomologyNumbers → Type 0) (mesh : FaceList) (fi
 abbrev pub AreShown : FaceList → (first second : List ℕ) → HomologyNumbers → Type 0
 AreShown mesh first second shown = AreShownAs AreSmall mesh first second shown
 
--- the arrays are a surface of a kind, and the numbers are for two walks of it; `read` is the mesh that they are, or what is first wrong with
--- them
+-- the arrays are a surface of a kind, and the numbers are for two walks of it; `read` is the mesh that they are, or what is first wrong
+-- with them
 abbrev pub ShowsWalksOn : (IsSurface : FaceList → Type 0) → (Small : HomologyNumbers → Type 0) → (read : Result FaceList Fault)
     → (first second : List ℕ) → HomologyNumbers → Type 0
 ShowsWalksOn IsSurface Small read first second shown = OfMesh read (λ mesh. IsSurface mesh × AreShownAs Small mesh first second shown)

@@ -3,11 +3,12 @@ pub use Rattle.compact_surfaces.specs.CompactSurfaces.{IsCompactSurface, IsOrien
 pub use Rattle.core.proofs.alloc.Calls.{Al, Goes-blank, handle_tells}
 pub use Rattle.core.proofs.atomic.Steps.{fm}
 pub use Rattle.core.proofs.cell.Inside.{Good, one}
+pub use Rattle.homology.specs.ArrayCertificates.{AreSmall}
 pub use Rattle.homology.specs.declared.array.HomologyNumbers.{HomologyNumbers}
 pub use Rattle.homology.specs.declared.array.HomologyNumbers.TheVariants.{Chain, Cocycle}
-pub use Rattle.homotopy_arrays.specs.Compact.{IsCompactFault, IsCompactKept, IsDecideAnyFault}
+pub use Rattle.homotopy_arrays.specs.Compact.{IsCompactFault, IsCompactKept, IsDecideAnyFault, IsOrientableCompactFault}
 pub use Rattle.homotopy_arrays.specs.Decisions.{AreAnsweredOn, IsAskedFault, IsDecideFault, IsKept}
-pub use Rattle.homotopy_arrays.specs.Homologies.{AreShown, IsHomologyFault, ShowsWalks}
+pub use Rattle.homotopy_arrays.specs.Homologies.{AreShown, AreShownAs, IsHomologyFaultOn, ShowsWalksOn}
 pub use Rattle.homotopy_arrays.specs.Loops.{IsLoopAnswer}
 pub use Rattle.homotopy_arrays.specs.MeshArrays.{mesh_of}
 pub use Rattle.homotopy_arrays.specs.Pairs.{AreWalks, IsAnswer, are_pairs, walk_at}
@@ -21,10 +22,10 @@ pub use Rattle.homotopy_arrays.specs.declared.pair.WalkFault.TheVariants.{Empty,
 pub use Rattle.homotopy_arrays.specs.declared.verify.VerifyFault.{VerifyFault}
 pub use Rattle.homotopy_c.specs.Certified.{IsCertifyCall, TellsCertificate, code_of, told_certify}
 pub use Rattle.homotopy_c.specs.Handles.{holds_at}
-pub use Rattle.homotopy_c.specs.Homologous.{IsHomologyCall, TellsHomology, answer_code, numbers_of, told_homology}
+pub use Rattle.homotopy_c.specs.Homologous.{IsHomologyCall, IsHomologyCallAs, TellsHomology, answer_code, numbers_of, told_homology}
 pub use Rattle.homotopy_c.specs.Judged.{IsVerifyCall, ended, judged, judged_denial, judged_labels, judged_moves, move_code, told_certificate, told_verify}
 pub use Rattle.homotopy_c.specs.Kept.{IsMeshAnswersCall, IsMeshClassesCall, IsMeshDecideCall, IsMeshNewAnyCall, IsMeshNewCall, TellsHeld, TellsKept}
-pub use Rattle.homotopy_c.specs.Meanings.{DoesAnswer, DoesAnswerLoops, DoesMeasure, IsAccepted, IsAcceptedChain, IsAcceptedCocycle, Shows, ShowsDifferent, ShowsHomologous, ShowsHomotopic, ShowsNotHomologous, StandCounted}
+pub use Rattle.homotopy_c.specs.Meanings.{DoesAnswer, DoesAnswerLoops, DoesMeasure, IsAccepted, IsAcceptedChain, IsAcceptedCocycle, Shows, ShowsDifferent, ShowsHomologousOn, ShowsHomotopic, ShowsNotHomologousOn, StandCounted}
 pub use Rattle.homotopy_c.specs.Outcomes.{byte_of, done, loop_byte, told, told_no_classes, told_walks, walk_code}
 pub use Rattle.homotopy_c.specs.Told.{AreClassesTold, IsBytesCall, IsClassesCall, IsDecideAnyCall, IsDecideCall, IsPut, IsSurfaceTold, TellsBytes, TellsClasses, TellsSurface, in_front}
 pub use Rattle.homotopy_c.specs.declared.outcome.Outcome.{Outcome}

@@ -1,5 +1,5 @@
 -- What is told of homology, and what it means.
-use Rattle.homotopy_c.proofs.Common.{HomologyNumbers, Chain, Cocycle, AreShown, IsHomologyFault, ShowsWalks, Fault, WalkFault, Empty, Long, Pair, Loops, IsHomologyCall, TellsHomology, answer_code, numbers_of, told_homology, ShowsHomologous, ShowsNotHomologous, StandCounted, told, told_walks, Outcome, ◌≡◌, ◌≢◌, ◌⊎◌, inl, inr, ℕ, true, false, List, length, get_or, refl, sym, ap, ◌∙◌, arith, cases_lt, Result, Ok, Err, MatchResult, Bool, ℤ, ◌==◌, ◌||◌, FaceList, IsOrientableSurface, NotTwo, NoVertex, NoEdge, EndsDiffer}
+use Rattle.homotopy_c.proofs.Common.{HomologyNumbers, Chain, Cocycle, AreShownAs, IsHomologyFaultOn, ShowsWalksOn, Fault, WalkFault, Empty, Long, Pair, Loops, IsHomologyCallAs, TellsHomology, answer_code, numbers_of, told_homology, StandCounted, ShowsHomologousOn, ShowsNotHomologousOn, told, told_walks, Outcome, ◌≡◌, ◌≢◌, ◌⊎◌, inl, inr, ℕ, true, false, List, length, get_or, refl, sym, ap, ◌∙◌, arith, cases_lt, Result, Ok, Err, MatchResult, Bool, ℤ, ◌==◌, ◌||◌, FaceList, NotTwo, NoVertex, NoEdge, EndsDiffer}
 use Rattle.homotopy_arrays.specs.declared.homologies.HomologyFault.{HomologyFault}
 use Rattle.homotopy_arrays.specs.declared.fault.Fault.TheVariants as faults
 use Rattle.homotopy_arrays.specs.declared.homologies.HomologyFault.TheVariants as homologies
@@ -50,45 +50,10 @@ homology_else (homologies.Darts darts) = refl
 
 -- ---- what is written
 
--- numbers were written, and what they show
-pub record AreWritten (mesh : FaceList) (first second : List ℕ) (old new : List ℤ) (outcome : Outcome) : Type 0 where
-  pub shown : HomologyNumbers
-  pub surface : IsOrientableSurface mesh
-  pub are : AreShown mesh first second shown
-  pub code : outcome.code ≡ answer_code shown
-  pub stand : StandCounted (numbers_of shown) old new outcome
-
 -- or none were, and neither answer is told
 pub record AreNotWritten (old new : List ℤ) (outcome : Outcome) : Type 0 where
   pub same : new ≡ old
   pub code : is_answer outcome.code ≡ false
-
-written : (mesh : FaceList) (first second : List ℕ) (old new : List ℤ) (outcome : Outcome) (end : Result HomologyNumbers HomologyFault)
-    → MatchResult end (ShowsWalks (Ok mesh) first second) (IsHomologyFault (Ok mesh) first second) → TellsHomology end old new outcome
-    → AreWritten mesh first second old new outcome ⊎ AreNotWritten old new outcome
-written mesh first second old new outcome (Ok shown) right put =
-    elim (cases_lt (length old) (length (numbers_of shown))) [
-      | inl less ↦
-          (let short = put.short less in
-          inr (record { same = short.0; code = ap (λ (o : Outcome). is_answer o.code) short.1 }))
-      | inr room ↦
-          (let there = put.room room in
-          let holds = of_one mesh (λ m. IsOrientableSurface m × AreShown m first second shown) right in
-          inl (record {
-            shown = shown;
-            surface = holds.0;
-            are = holds.1;
-            code = ap (λ (o : Outcome). o.code) there.1;
-            stand = record { stand = there.0; counted = ap (λ (o : Outcome). get_or o.numbers 0 0) there.1; fit = room };
-          }))
-    ]
-written mesh first second old new outcome (Err fault) right tells =
-    inr (record { same = tells.0; code = ap (λ (o : Outcome). is_answer o.code) tells.1 ∙ homology_else fault })
-
-pub call_written : (mesh : FaceList) (first second : List ℕ) (old new : List ℤ) (outcome : Outcome)
-    → IsHomologyCall (Ok mesh) first second old new outcome
-    → AreWritten mesh first second old new outcome ⊎ AreNotWritten old new outcome
-call_written mesh first second old new outcome h = written mesh first second old new outcome h.end h.right h.tells
 
 -- no test is passed and failed
 pub clash : {P : Type 0} (b : Bool) → b ≡ true → b ≡ false → P
@@ -96,60 +61,101 @@ clash b e f =
     let both : true ≡ false = sym e ∙ f in
     cc
 
--- numbers with the first code are those of a chain, and with the other one those of a cocycle
-shows_yes : (mesh : FaceList) (first second : List ℕ) (old new : List ℤ) (outcome : Outcome) (shown : HomologyNumbers)
-    → IsOrientableSurface mesh → AreShown mesh first second shown → answer_code shown ≡ codes.HOMOLOGOUS
-    → StandCounted (numbers_of shown) old new outcome → ShowsHomologous mesh first second old new outcome
-shows_yes mesh first second old new outcome (Chain numbers) surface are e stand = record {
-  surface = surface;
-  walks = are.walks;
-  homologous = are.exactly.0 refl;
-  numbers = numbers.items;
-  chain = are.show;
-  stand = stand;
-}
-shows_yes mesh first second old new outcome (Cocycle numbers) surface are e stand = absurd (omega (arith, e))
-
-shows_no : (mesh : FaceList) (first second : List ℕ) (old new : List ℤ) (outcome : Outcome) (shown : HomologyNumbers)
-    → IsOrientableSurface mesh → AreShown mesh first second shown → answer_code shown ≡ codes.NOT_HOMOLOGOUS
-    → StandCounted (numbers_of shown) old new outcome → ShowsNotHomologous mesh first second old new outcome
-shows_no mesh first second old new outcome (Chain numbers) surface are e stand = absurd (omega (arith, e))
-shows_no mesh first second old new outcome (Cocycle numbers) surface are e stand = record {
-  surface = surface;
-  walks = are.walks;
-  apart = λ h. (let same = are.exactly.1 h in cc);
-  numbers = numbers.items;
-  cocycle = are.show;
-  stand = stand;
-}
-
-pub homology_yes : (mesh : FaceList) (first second : List ℕ) (old new : List ℤ) (outcome : Outcome)
-    → IsHomologyCall (Ok mesh) first second old new outcome → outcome.code ≡ codes.HOMOLOGOUS
-    → ShowsHomologous mesh first second old new outcome
-homology_yes mesh first second old new outcome h e =
-    elim (call_written mesh first second old new outcome h) [
-      | inl w ↦ shows_yes mesh first second old new outcome w.shown w.surface w.are (sym w.code ∙ e) w.stand
-      | inr none ↦ clash (is_answer outcome.code) (ap is_answer e) none.code
-    ]
-
-pub homology_no : (mesh : FaceList) (first second : List ℕ) (old new : List ℤ) (outcome : Outcome)
-    → IsHomologyCall (Ok mesh) first second old new outcome → outcome.code ≡ codes.NOT_HOMOLOGOUS
-    → ShowsNotHomologous mesh first second old new outcome
-homology_no mesh first second old new outcome h e =
-    elim (call_written mesh first second old new outcome h) [
-      | inl w ↦ shows_no mesh first second old new outcome w.shown w.surface w.are (sym w.code ∙ e) w.stand
-      | inr none ↦ clash (is_answer outcome.code) (ap is_answer e) none.code
-    ]
-
 answer_either : (shown : HomologyNumbers) → (answer_code shown ≡ codes.HOMOLOGOUS) ⊎ (answer_code shown ≡ codes.NOT_HOMOLOGOUS)
 answer_either (Chain numbers) = inl refl
 answer_either (Cocycle numbers) = inr refl
 
-pub homology_nothing : (mesh : FaceList) (first second : List ℕ) (old new : List ℤ) (outcome : Outcome)
-    → IsHomologyCall (Ok mesh) first second old new outcome → outcome.code ≢ codes.HOMOLOGOUS → outcome.code ≢ codes.NOT_HOMOLOGOUS
-    → new ≡ old
-homology_nothing mesh first second old new outcome h not_yes not_no =
-    elim (call_written mesh first second old new outcome h) [
-      | inl w ↦ absurd (elim (answer_either w.shown) [ inl e ↦ not_yes (w.code ∙ e) | inr e ↦ not_no (w.code ∙ e) ])
-      | inr none ↦ none.same
-    ]
+module _ (IsSurface : FaceList → Type 0) (Refuses : FaceList → Fault → Type 0) (Small : HomologyNumbers → Type 0) where
+  -- the call of surfaces of a kind, about the mesh that arrays are
+  abbrev IsCall : FaceList → (first second : List ℕ) → (old new : List ℤ) → Outcome → Type 0
+  IsCall mesh first second old new outcome =
+      IsHomologyCallAs (λ end. MatchResult end (ShowsWalksOn IsSurface Small (Ok mesh) first second)
+      (IsHomologyFaultOn IsSurface Refuses (Ok mesh) first second)) old new outcome
+
+  -- numbers were written, and what they show
+  pub record AreWritten (mesh : FaceList) (first second : List ℕ) (old new : List ℤ) (outcome : Outcome) : Type 0 where
+    pub shown : HomologyNumbers
+    pub surface : IsSurface mesh
+    pub are : AreShownAs Small mesh first second shown
+    pub code : outcome.code ≡ answer_code shown
+    pub stand : StandCounted (numbers_of shown) old new outcome
+
+  written : (mesh : FaceList) (first second : List ℕ) (old new : List ℤ) (outcome : Outcome) (end : Result HomologyNumbers HomologyFault)
+      → MatchResult end (ShowsWalksOn IsSurface Small (Ok mesh) first second) (IsHomologyFaultOn IsSurface Refuses (Ok mesh) first second)
+      → TellsHomology end old new outcome → AreWritten mesh first second old new outcome ⊎ AreNotWritten old new outcome
+  written mesh first second old new outcome (Ok shown) right put =
+      elim (cases_lt (length old) (length (numbers_of shown))) [
+        | inl less ↦
+            (let short = put.short less in
+            inr (record { same = short.0; code = ap (λ (o : Outcome). is_answer o.code) short.1 }))
+        | inr room ↦
+            (let there = put.room room in
+            let holds = of_one mesh (λ m. IsSurface m × AreShownAs Small m first second shown) right in
+            inl (record {
+              shown = shown;
+              surface = holds.0;
+              are = holds.1;
+              code = ap (λ (o : Outcome). o.code) there.1;
+              stand = record { stand = there.0; counted = ap (λ (o : Outcome). get_or o.numbers 0 0) there.1; fit = room };
+            }))
+      ]
+  written mesh first second old new outcome (Err fault) right tells =
+      inr (record { same = tells.0; code = ap (λ (o : Outcome). is_answer o.code) tells.1 ∙ homology_else fault })
+
+  pub call_written : (mesh : FaceList) (first second : List ℕ) (old new : List ℤ) (outcome : Outcome)
+      → IsCall mesh first second old new outcome → AreWritten mesh first second old new outcome ⊎ AreNotWritten old new outcome
+  call_written mesh first second old new outcome h = written mesh first second old new outcome h.end h.right h.tells
+
+  -- numbers with the first code are those of a chain, and with the other one those of a cocycle
+  shows_yes : (mesh : FaceList) (first second : List ℕ) (old new : List ℤ) (outcome : Outcome) (shown : HomologyNumbers) → IsSurface mesh
+      → AreShownAs Small mesh first second shown → answer_code shown ≡ codes.HOMOLOGOUS → StandCounted (numbers_of shown) old new outcome
+      → ShowsHomologousOn IsSurface mesh first second old new outcome
+  shows_yes mesh first second old new outcome (Chain numbers) surface are e stand = record {
+    surface = surface;
+    walks = are.walks;
+    homologous = are.exactly.0 refl;
+    numbers = numbers.items;
+    chain = are.show;
+    stand = stand;
+  }
+  shows_yes mesh first second old new outcome (Cocycle numbers) surface are e stand = absurd (omega (arith, e))
+
+  shows_no : (mesh : FaceList) (first second : List ℕ) (old new : List ℤ) (outcome : Outcome) (shown : HomologyNumbers) → IsSurface mesh
+      → AreShownAs Small mesh first second shown → answer_code shown ≡ codes.NOT_HOMOLOGOUS
+      → StandCounted (numbers_of shown) old new outcome
+      → ShowsNotHomologousOn IsSurface mesh first second old new outcome
+  shows_no mesh first second old new outcome (Chain numbers) surface are e stand = absurd (omega (arith, e))
+  shows_no mesh first second old new outcome (Cocycle numbers) surface are e stand = record {
+    surface = surface;
+    walks = are.walks;
+    apart = λ h. (let same = are.exactly.1 h in cc);
+    numbers = numbers.items;
+    cocycle = are.show;
+    stand = stand;
+  }
+
+  pub homology_yes : (mesh : FaceList) (first second : List ℕ) (old new : List ℤ) (outcome : Outcome)
+      → IsCall mesh first second old new outcome → outcome.code ≡ codes.HOMOLOGOUS
+      → ShowsHomologousOn IsSurface mesh first second old new outcome
+  homology_yes mesh first second old new outcome h e =
+      elim (call_written mesh first second old new outcome h) [
+        | inl w ↦ shows_yes mesh first second old new outcome w.shown w.surface w.are (sym w.code ∙ e) w.stand
+        | inr none ↦ clash (is_answer outcome.code) (ap is_answer e) none.code
+      ]
+
+  pub homology_no : (mesh : FaceList) (first second : List ℕ) (old new : List ℤ) (outcome : Outcome)
+      → IsCall mesh first second old new outcome → outcome.code ≡ codes.NOT_HOMOLOGOUS
+      → ShowsNotHomologousOn IsSurface mesh first second old new outcome
+  homology_no mesh first second old new outcome h e =
+      elim (call_written mesh first second old new outcome h) [
+        | inl w ↦ shows_no mesh first second old new outcome w.shown w.surface w.are (sym w.code ∙ e) w.stand
+        | inr none ↦ clash (is_answer outcome.code) (ap is_answer e) none.code
+      ]
+
+  pub homology_nothing : (mesh : FaceList) (first second : List ℕ) (old new : List ℤ) (outcome : Outcome)
+      → IsCall mesh first second old new outcome → outcome.code ≢ codes.HOMOLOGOUS → outcome.code ≢ codes.NOT_HOMOLOGOUS → new ≡ old
+  homology_nothing mesh first second old new outcome h not_yes not_no =
+      elim (call_written mesh first second old new outcome h) [
+        | inl w ↦ absurd (elim (answer_either w.shown) [ inl e ↦ not_yes (w.code ∙ e) | inr e ↦ not_no (w.code ∙ e) ])
+        | inr none ↦ none.same
+      ]

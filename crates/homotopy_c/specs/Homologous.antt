@@ -3,7 +3,7 @@ use Rattle.std.specs.Prelude.{◌≡◌, ℕ, ◌<◌, ◌≤◌, List, length, 
 use Rattle.surf_model.specs.FaceLists.{FaceList}
 use Rattle.homology.specs.declared.array.HomologyNumbers.{HomologyNumbers}
 use Rattle.homology.specs.declared.array.HomologyNumbers.TheVariants.{Chain, Cocycle}
-use Rattle.homotopy_arrays.specs.Homologies.{IsHomologyFault, ShowsWalks}
+use Rattle.homotopy_arrays.specs.Homologies.{IsHomologyFault, IsHomologyFaultOnAny, ShowsWalks, ShowsWalksOnAny}
 use Rattle.homotopy_arrays.specs.declared.fault.Fault.{Fault}
 use Rattle.homotopy_arrays.specs.declared.homologies.HomologyFault.{HomologyFault}
 use Rattle.homotopy_arrays.specs.declared.homologies.HomologyFault.TheVariants.{Mesh, Walks, Darts}
@@ -38,8 +38,18 @@ abbrev pub TellsHomology : Result HomologyNumbers HomologyFault → (old new : L
 TellsHomology (Ok shown) old new outcome = AreNumbersPut (numbers_of shown) old new (answer_code shown) outcome
 TellsHomology (Err fault) old new outcome = (new ≡ old) × (outcome ≡ told_homology fault)
 
--- `read` is the mesh that the arrays are, or what is first wrong with them
-pub record IsHomologyCall (read : Result FaceList Fault) (first second : List ℕ) (old new : List ℤ) (outcome : Outcome) : Type 0 where
+-- an end of the question that is right is told
+pub record IsHomologyCallAs (IsRight : Result HomologyNumbers HomologyFault → Type 0) (old new : List ℤ) (outcome : Outcome) : Type 0 where
   pub end : Result HomologyNumbers HomologyFault
-  pub right : MatchResult end (ShowsWalks read first second) (IsHomologyFault read first second)
+  pub right : IsRight end
   pub tells : TellsHomology end old new outcome
+
+-- on an orientable closed surface; `read` is the mesh that the arrays are, or what is first wrong with them
+abbrev pub IsHomologyCall : (read : Result FaceList Fault) → (first second : List ℕ) → (old new : List ℤ) → Outcome → Type 0
+IsHomologyCall read first second old new outcome =
+    IsHomologyCallAs (λ end. MatchResult end (ShowsWalks read first second) (IsHomologyFault read first second)) old new outcome
+
+-- on an orientable compact surface, closed or with boundary
+abbrev pub IsHomologyAnyCall : (read : Result FaceList Fault) → (first second : List ℕ) → (old new : List ℤ) → Outcome → Type 0
+IsHomologyAnyCall read first second old new outcome =
+    IsHomologyCallAs (λ end. MatchResult end (ShowsWalksOnAny read first second) (IsHomologyFaultOnAny read first second)) old new outcome

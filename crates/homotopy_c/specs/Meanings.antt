@@ -100,24 +100,32 @@ pub record StandCounted (numbers old new : List ℤ) (outcome : Outcome) : Type 
   pub counted : slice_index outcome.numbers 0 ≡ length numbers
   pub fit : length numbers ≤ length old
 
--- the two walks are homologous walks of the surface, and a number for each face is a chain for them
-pub record ShowsHomologous (mesh : FaceList) (first second : List ℕ) (old new : List ℤ) (outcome : Outcome) : Type 0 where
-  pub surface : IsOrientableSurface mesh
+-- the mesh is a surface of a kind, the two walks are homologous walks of it, and a number for each face is a chain for them
+pub record ShowsHomologousOn (IsSurface : FaceList → Type 0) (mesh : FaceList) (first second : List ℕ) (old new : List ℤ)
+    (outcome : Outcome) : Type 0 where
+  pub surface : IsSurface mesh
   pub walks : AreWalks mesh first second
   pub homologous : AreHomologous mesh first second
   pub numbers : List ℤ
   pub chain : AreChainNumbers mesh first second numbers
   pub stand : StandCounted numbers old new outcome
 
+abbrev pub ShowsHomologous : FaceList → (first second : List ℕ) → (old new : List ℤ) → Outcome → Type 0
+ShowsHomologous mesh first second old new outcome = ShowsHomologousOn IsOrientableSurface mesh first second old new outcome
+
 -- the two walks are walks of the surface with common ends that are not homologous, and a number for each side is what a cocycle gives it
 -- that separates them
-pub record ShowsNotHomologous (mesh : FaceList) (first second : List ℕ) (old new : List ℤ) (outcome : Outcome) : Type 0 where
-  pub surface : IsOrientableSurface mesh
+pub record ShowsNotHomologousOn (IsSurface : FaceList → Type 0) (mesh : FaceList) (first second : List ℕ) (old new : List ℤ)
+    (outcome : Outcome) : Type 0 where
+  pub surface : IsSurface mesh
   pub walks : AreWalks mesh first second
   pub apart : AreHomologous mesh first second → ⊥
   pub numbers : List ℤ
   pub cocycle : AreCocycleNumbers mesh first second numbers
   pub stand : StandCounted numbers old new outcome
+
+abbrev pub ShowsNotHomologous : FaceList → (first second : List ℕ) → (old new : List ℤ) → Outcome → Type 0
+ShowsNotHomologous mesh first second old new outcome = ShowsNotHomologousOn IsOrientableSurface mesh first second old new outcome
 
 -- a list of moves leads within its peak, or a denial holds
 abbrev pub IsAccepted : FaceList → (first second : List ℕ) → Certificate → Type 0

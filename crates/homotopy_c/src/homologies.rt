@@ -1,7 +1,7 @@
 //! Whether two walks are homologous.
 ghost use Rattle.std.specs.Prelude.{◌≡◌};
 ghost use Rattle.homotopy_arrays.specs.MeshArrays.{mesh_of};
-ghost use Rattle.homotopy_c.specs.Homologous.{AreNumbersPut, IsHomologyCall, answer_code, numbers_of, told_homology};
+ghost use Rattle.homotopy_c.specs.Homologous.{AreNumbersPut, IsHomologyCall, TellsHomology, answer_code, numbers_of, told_homology};
 
 use crate::codes;
 use crate::outcome::{Outcome, coded, told, told_walks};
@@ -34,9 +34,16 @@ pub extern "C" fn homotopy_homology(
         sizes,
         corners,
     };
-    match homology_arrays(alloc, mesh, first, second) {
-        Ok(shown) => *outcome = put_shown(&shown, numbers),
-        Err(fault) => *outcome = told_homology(fault),
+    *outcome = put_homology(homology_arrays(alloc, mesh, first, second), numbers);
+}
+
+/// How a question about homology ended, with what shows the answer in front of an array.
+pub(crate) fn put_homology(end: Result<HomologyNumbers, HomologyFault>, room: &mut [i64]) -> Outcome
+    ensures { TellsHomology end room.old room.new result }
+{
+    match end {
+        Ok(shown) => put_shown(&shown, room),
+        Err(fault) => told_homology(fault),
     }
 }
 

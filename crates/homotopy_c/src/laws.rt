@@ -1,6 +1,6 @@
 //! What the calls tell, said of their definitions. A call of one of these functions does nothing; its contract is the law. Each of
 //! `homotopy_surface`, `homotopy_decide`, `homotopy_decide_any`, `homotopy_mesh_new`, `homotopy_mesh_new_any`, `homotopy_mesh_decide`,
-//! `homotopy_mesh_loops`, `homotopy_mesh_classes`, `homotopy_certify`, `homotopy_verify`, `homotopy_homology` and
+//! `homotopy_mesh_loops`, `homotopy_mesh_classes`, `homotopy_certify`, `homotopy_verify`, `homotopy_homology`, `homotopy_homology_any` and
 //! `homotopy_verify_homology` ensures the record that its law takes as a premise; `Ok mesh` there says that the arrays are a mesh, and
 //! `Some mesh` that the handle holds it.
 ghost use Rattle.std.specs.Prelude.{◌≡◌, ◌≢◌, ◌⊎◌, ◌↔◌, ◌*◌, ◌+◌, ◌/◌, ◌<◌, ◌≤◌, ℕ, ℤ, List, length, take, slice_index, IsTrue, Option, Some, Result, Ok};
@@ -17,10 +17,10 @@ ghost use Rattle.homotopy_arrays.specs.Classes.{walks_in};
 ghost use Rattle.homotopy_arrays.specs.Pairs.{AreWalks, walk_at};
 ghost use Rattle.homotopy_arrays.specs.declared.fault.Fault.{Fault};
 ghost use Rattle.homotopy_c.specs.Certified.{IsCertifyCall};
-ghost use Rattle.homotopy_c.specs.Homologous.{IsHomologyCall};
+ghost use Rattle.homotopy_c.specs.Homologous.{IsHomologyAnyCall, IsHomologyCall};
 ghost use Rattle.homotopy_c.specs.Judged.{IsVerifyCall};
 ghost use Rattle.homotopy_c.specs.Kept.{IsMeshClassesCall, IsMeshDecideCall, IsMeshLoopsCall, IsMeshNewAnyCall, IsMeshNewCall};
-ghost use Rattle.homotopy_c.specs.Meanings.{DoesAnswer, DoesAnswerLoops, DoesMeasure, IsAccepted, IsAcceptedChain, IsAcceptedCocycle, ShowsDifferent, ShowsHomologous, ShowsHomotopic, ShowsNotHomologous, are_distinct, all_codes};
+ghost use Rattle.homotopy_c.specs.Meanings.{DoesAnswer, DoesAnswerLoops, DoesMeasure, IsAccepted, IsAcceptedChain, IsAcceptedCocycle, ShowsDifferent, ShowsHomologous, ShowsHomologousOn, ShowsHomotopic, ShowsNotHomologous, ShowsNotHomologousOn, are_distinct, all_codes};
 ghost use Rattle.homotopy_c.specs.NumbersJudged.{IsVerifyHomologyCall};
 ghost use Rattle.homotopy_c.specs.Told.{IsDecideAnyCall, IsDecideCall, IsSurfaceTold};
 ghost use Rattle.homotopy_c.specs.declared.codes.TheConstants as codes;
@@ -168,6 +168,21 @@ pub fn homology_shows_what_is_homologous()
         → ShowsNotHomologous mesh first second old numbers outcome }
     ensures else_nothing { (mesh : FaceList) (first second : List ℕ) (old numbers : List ℤ) (outcome : Outcome)
         → IsHomologyCall (Ok mesh) first second old numbers outcome → outcome.code ≢ codes.HOMOLOGOUS
+        → outcome.code ≢ codes.NOT_HOMOLOGOUS → numbers ≡ old }
+{}
+
+/// `homotopy_homology_any` tells the same of orientable compact surfaces, in one piece or in several, closed or with boundary: `HOMOLOGOUS`
+/// with a chain of the mesh where the two walks are homologous on it, and `NOT_HOMOLOGOUS` with a cocycle where they are not. Where it does
+/// not answer, nothing is written.
+pub fn homology_any_shows_what_is_homologous()
+    ensures homologous { (mesh : FaceList) (first second : List ℕ) (old numbers : List ℤ) (outcome : Outcome)
+        → IsHomologyAnyCall (Ok mesh) first second old numbers outcome → outcome.code ≡ codes.HOMOLOGOUS
+        → ShowsHomologousOn IsOrientableCompactSurface mesh first second old numbers outcome }
+    ensures apart { (mesh : FaceList) (first second : List ℕ) (old numbers : List ℤ) (outcome : Outcome)
+        → IsHomologyAnyCall (Ok mesh) first second old numbers outcome → outcome.code ≡ codes.NOT_HOMOLOGOUS
+        → ShowsNotHomologousOn IsOrientableCompactSurface mesh first second old numbers outcome }
+    ensures else_nothing { (mesh : FaceList) (first second : List ℕ) (old numbers : List ℤ) (outcome : Outcome)
+        → IsHomologyAnyCall (Ok mesh) first second old numbers outcome → outcome.code ≢ codes.HOMOLOGOUS
         → outcome.code ≢ codes.NOT_HOMOLOGOUS → numbers ≡ old }
 {}
 

@@ -13,6 +13,7 @@ mod decide;
 mod decide_any;
 pub mod handle;
 mod homologies;
+mod homologies_any;
 pub mod laws;
 mod loops;
 mod loose;

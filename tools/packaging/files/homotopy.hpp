@@ -223,14 +223,27 @@ inline Certificate certify(const Mesh &mesh, const Walk &first, const Walk &seco
     return {static_cast<Answer>(outcome.code), std::move(text)};
 }
 
-inline Homology homology(const Mesh &mesh, const Walk &first, const Walk &second) {
+namespace detail {
+
+inline Homology shown(decltype(&homotopy_homology) ask, const Mesh &mesh, const Walk &first, const Walk &second) {
     std::vector<std::int64_t> numbers(mesh.corners.size() + 1);
     homotopy_outcome outcome;
-    homotopy_homology(mesh.vertices, detail::of(mesh.sizes), mesh.sizes.size(), detail::of(mesh.corners), mesh.corners.size(),
-                      detail::of(first), first.size(), detail::of(second), second.size(), numbers.data(), numbers.size(), &outcome);
-    if (outcome.code != HOMOTOPY_HOMOLOGOUS && outcome.code != HOMOTOPY_NOT_HOMOLOGOUS) detail::refuse(outcome);
+    ask(mesh.vertices, of(mesh.sizes), mesh.sizes.size(), of(mesh.corners), mesh.corners.size(), of(first), first.size(), of(second),
+        second.size(), numbers.data(), numbers.size(), &outcome);
+    if (outcome.code != HOMOTOPY_HOMOLOGOUS && outcome.code != HOMOTOPY_NOT_HOMOLOGOUS) refuse(outcome);
     numbers.resize(outcome.numbers[0]);
     return {static_cast<Answer>(outcome.code), std::move(numbers)};
+}
+
+}  // namespace detail
+
+inline Homology homology(const Mesh &mesh, const Walk &first, const Walk &second) {
+    return detail::shown(homotopy_homology, mesh, first, second);
+}
+
+// The same on an orientable surface that may have boundary.
+inline Homology homology_any(const Mesh &mesh, const Walk &first, const Walk &second) {
+    return detail::shown(homotopy_homology_any, mesh, first, second);
 }
 
 inline Verdict verify(const Mesh &mesh, const Walk &first, const Walk &second, const std::string &certificate) {

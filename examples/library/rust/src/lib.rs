@@ -176,6 +176,11 @@ extern "C" {
         first: *const u32, first_count: usize, second: *const u32, second_count: usize,
         numbers: *mut i64, number_room: usize, outcome: *mut Outcome,
     );
+    fn homotopy_homology_any(
+        vertices: u32, sizes: *const u32, face_count: usize, corners: *const u32, corner_count: usize,
+        first: *const u32, first_count: usize, second: *const u32, second_count: usize,
+        numbers: *mut i64, number_room: usize, outcome: *mut Outcome,
+    );
     fn homotopy_verify(
         vertices: u32, sizes: *const u32, face_count: usize, corners: *const u32, corner_count: usize,
         first: *const u32, first_count: usize, second: *const u32, second_count: usize,
@@ -208,6 +213,16 @@ impl Outcome {
         match self.code {
             ACCEPTED => Ok(Verdict::Accepted),
             code if REJECTED.contains(&code) => Ok(Verdict::Rejected(told(code, &self.numbers))),
+            _ => Err(self.refused()),
+        }
+    }
+
+    /// The numbers that were written, where they show whether walks are homologous.
+    fn shown(&self, mut numbers: Vec<i64>) -> Result<Homology, Refused> {
+        numbers.truncate(self.numbers[0] as usize);
+        match self.code {
+            HOMOLOGOUS => Ok(Homology::Chain(numbers)),
+            NOT_HOMOLOGOUS => Ok(Homology::Cocycle(numbers)),
             _ => Err(self.refused()),
         }
     }
@@ -327,11 +342,20 @@ impl Mesh<'_> {
                 first.as_ptr(), first.len(), second.as_ptr(), second.len(), numbers.as_mut_ptr(), numbers.len(), &mut outcome,
             );
         }
-        match outcome.code {
-            HOMOLOGOUS | NOT_HOMOLOGOUS => numbers.truncate(outcome.numbers[0] as usize),
-            _ => return Err(outcome.refused()),
+        outcome.shown(numbers)
+    }
+
+    /// The same on an orientable surface that may have boundary.
+    pub fn homology_any(&self, first: &[u32], second: &[u32]) -> Result<Homology, Refused> {
+        let (mut outcome, mut numbers) = (Outcome::default(), vec![0i64; self.corners.len()]);
+        // SAFETY: as above.
+        unsafe {
+            homotopy_homology_any(
+                self.vertices, self.sizes.as_ptr(), self.sizes.len(), self.corners.as_ptr(), self.corners.len(),
+                first.as_ptr(), first.len(), second.as_ptr(), second.len(), numbers.as_mut_ptr(), numbers.len(), &mut outcome,
+            );
         }
-        Ok(if outcome.code == HOMOLOGOUS { Homology::Chain(numbers) } else { Homology::Cocycle(numbers) })
+        outcome.shown(numbers)
     }
 
     /// What comes of a certificate between two walks of the mesh, which need be no surface.

@@ -1,7 +1,4 @@
-use Rattle.homotopy_arrays.proofs.Common.{AreShown, IfOk, Result, subst}
-use Rattle.doubling.specs.Doubles.{double_of}
-use Rattle.homology.specs.declared.array.HomologyNumbers.{HomologyNumbers}
-use Rattle.std.specs.declared.alloc.AllocError.{AllocError}
+use Rattle.homotopy_arrays.proofs.Common.{double_of, HomologyNumbers, AreShown, subst, IfOk, Result, AllocError}
 use Rattle.homotopy_arrays.proofs.HomologyLemmas.{shown_folded}
 use Rattle.homotopy_arrays.proofs.homologies.fold_found.Goals as goal
 

@@ -1,8 +1,4 @@
-use Rattle.homotopy_arrays.proofs.Common.{mesh_in, err_from_is_err_and}
-use Rattle.compact_surfaces.specs.CompactSurfaces.{IsOrientableCompactSurface}
-use Rattle.folded_homology.specs.FoldedNumbers.{AreFolded}
-use Rattle.homotopy_arrays.specs.Compact.{IsOrientableCompactFault}
-use Rattle.homotopy_arrays.specs.Homologies.{IsHomologyFaultOfPair, mesh_asked}
+use Rattle.homotopy_arrays.proofs.Common.{IsOrientableCompactSurface, AreFolded, IsOrientableCompactFault, IsHomologyFaultOfPair, mesh_asked, mesh_in, err_from_is_err_and}
 use Rattle.homotopy_arrays.proofs.HomologyLemmas.{is_asked, shown_on_none, shown_on_surface, shown_sized, signed_read}
 use Rattle.homotopy_arrays.proofs.homologies.homology_any_arrays.Goals as goal
 

@@ -1,4 +1,4 @@
-use Rattle.homotopy_arrays.proofs.Common.{mesh_in, err_from_is_err_and, signed_surface, IsSurfaceFault, IsOrientableSurface, AreSmall}
+use Rattle.homotopy_arrays.proofs.Common.{signed_surface, AreSmall, mesh_in, IsSurfaceFault, err_from_is_err_and, IsOrientableSurface}
 use Rattle.homotopy_arrays.proofs.HomologyLemmas.{shown_on_none, shown_on_surface, surface_read}
 use Rattle.homotopy_arrays.proofs.homologies.homology_arrays.Goals as goal
 

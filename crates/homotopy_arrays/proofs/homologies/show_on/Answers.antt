@@ -1,5 +1,5 @@
-use Rattle.homotopy_arrays.proofs.Common.{IsChecked, AreLong, AreWalks, Pair, Faulty, ◌≡◌, ◌⊎◌, List, ℕ, arith, refl, sym, subst, inl, inr, MatchResult}
-use Rattle.homotopy_arrays.specs.Homologies.{AreShownAs, Sized, mesh_asked, no_memory}
+use Rattle.homotopy_arrays.proofs.Common.{IsChecked, AreLong, AreShownAs, Sized, mesh_asked, AreWalks, Pair, Faulty, ◌≡◌, ◌⊎◌, List, ℕ, arith, refl, sym, subst, inl, inr, MatchResult}
+use Rattle.homotopy_arrays.specs.Homologies.{no_memory}
 use Rattle.homotopy_arrays.proofs.HomologyLemmas.{shown_on_walks}
 use Rattle.homotopy_arrays.proofs.JudgementLemmas.{first_of, second_of, two_walks}
 use Rattle.homotopy_arrays.proofs.homologies.show_on.Goals as goal
