@@ -1,12 +1,10 @@
 -- The way back along a list of moves: its peak, and the moves one by one.
-use Rattle.free_forms.proofs.Common.{greatest_darts-more, greatest_darts-none, greatest_darts-push, greatest_both, LeadsAtPeak, IsWithin, IsMoveOf, ◌≡◌, inl, inr, ℕ, zero, suc, ◌+◌, ◌<◌, ◌≤◌, max, List, [], ◌∷◌, ◌++◌, length, drop, refl, ap, sym, ◌∙◌, subst, arith, length-append, cases_eq, drop_more, get_or_from_slice_get, All, Some, slice_get, first_answer, one_after_another, stays_walk, by_replacing, keeps_walk, undone, list_undone, FaceList, PeakedMoves, apply, apply_all, greatest_darts, inverse_of, sides_of_move, way_back, IsWalk, darts, Move, Insert, Remove, Across}
+use Rattle.free_forms.proofs.Common.{greatest_darts-more, greatest_darts-none, greatest_darts-push, greatest_both, LeadsAtPeak, IsWithin, IsMoveOf, ◌≡◌, inl, inr, ℕ, zero, suc, ◌+◌, ◌<◌, ◌≤◌, max, List, [], ◌∷◌, ◌++◌, length, drop, refl, ap, sym, ◌∙◌, subst, arith, length-append, cases_eq, common_steps, drop_more, get_or_from_slice_get, All, Some, slice_get, first_answer, one_after_another, stays_walk, by_replacing, keeps_walk, undone, list_undone, FaceList, PeakedMoves, apply, apply_all, greatest_darts, inverse_of, sides_of_move, way_back, IsWalk, darts, Move, Insert, Remove, Across}
 
 -- the way back passes the same walks
 greatest_darts-back : (mesh : FaceList) (moves : List Move) (walk next : List ℕ) → IsWalk mesh walk → apply_all mesh walk moves ≡ Some next
     → greatest_darts mesh next (way_back mesh moves) ≡ greatest_darts mesh walk moves
-greatest_darts-back mesh [] walk next w e =
-    let same : walk ≡ next = cc in
-    ap (λ (x : List ℕ). greatest_darts mesh x []) (sym same)
+greatest_darts-back mesh [] walk next w e = grind arith
 greatest_darts-back mesh (move ∷ moves) walk next w e =
     let told = first_answer (λ x. apply_all mesh x moves) (apply mesh walk move) next e in
     let on : IsWalk mesh told.0 = keeps_walk mesh walk told.0 move w told.1 in
@@ -20,15 +18,12 @@ move_of : (mesh : FaceList) (walk next : List ℕ) (move : Move) → 0 < length 
 move_of mesh walk next (Insert at via) start e = tt
 move_of mesh walk next (Remove at via) start e = tt
 move_of mesh walk next (Across at face corner forward taken) start e =
-    let r = (by_replacing mesh walk next (Across at face corner forward taken) start).0 e in
-    (r.replaces.0, r.replaces.2)
+    let r = (by_replacing mesh walk next (Across at face corner forward taken) start).0 e in grind arith
 
 pub moves_of : (mesh : FaceList) (moves : List Move) (walk next : List ℕ) → 0 < length walk → apply_all mesh walk moves ≡ Some next
     → All (IsMoveOf mesh) moves
 moves_of mesh [] walk next start e k d l = absurd (omega arith)
-moves_of mesh (move ∷ moves) walk next start e zero d l =
-    let told = first_answer (λ x. apply_all mesh x moves) (apply mesh walk move) next e in
-    move_of mesh walk told.0 move start told.1
+moves_of mesh (move ∷ moves) walk next start e zero d l = grind (arith, first_answer, move_of)
 moves_of mesh (move ∷ moves) walk next start e (suc k) d l =
     let told = first_answer (λ x. apply_all mesh x moves) (apply mesh walk move) next e in
     moves_of mesh moves told.0 next (stays_walk mesh walk told.0 move start told.1) told.2 k d (omega arith)
@@ -44,9 +39,7 @@ back_more mesh moves k move l is =
 -- the walk at the end is one of those that are passed
 greatest_darts-last : (mesh : FaceList) (moves : List Move) (first walk : List ℕ) → apply_all mesh first moves ≡ Some walk
     → darts walk ≤ greatest_darts mesh first moves
-greatest_darts-last mesh [] first walk e =
-    let same : walk ≡ first = cc in
-    omega (arith, ap darts same, greatest_darts-none mesh first)
+greatest_darts-last mesh [] first walk e = grind (arith, greatest_darts-none)
 greatest_darts-last mesh (move ∷ moves) first walk e =
     let told = first_answer (λ x. apply_all mesh x moves) (apply mesh first move) walk e in
     omega (arith, greatest_darts-last mesh moves told.0 walk told.2, greatest_darts-more mesh first told.0 move moves told.1)
@@ -57,11 +50,7 @@ no_others : {mesh : FaceList} {first second one two : List ℕ} {list others : P
     → max list.peak others.peak ≡ list.peak
 no_others h k same (m ∷ ms) is none = absurd (omega arith)
 no_others {mesh} {first} {second} {one} {two} {list} {others} h k same [] is none =
-    let leads : apply_all mesh second [] ≡ Some two = ap (apply_all mesh second) (sym is) ∙ k.leads in
-    let here : second ≡ two = cc in
-    let peak : others.peak ≡ darts second = k.peak ∙ ap (greatest_darts mesh second) is ∙ greatest_darts-none mesh second in
-    let last : darts one ≤ greatest_darts mesh first list.moves = greatest_darts-last mesh list.moves first one h.leads in
-    omega (arith, last, peak, h.peak, ap darts here, ap darts same)
+    grind (arith, greatest_darts-none, greatest_darts-last)
 
 -- from the first walk to the one where both lists lead, and back along the second list
 pub there_and_back_leads : {mesh : FaceList} {first second one two : List ℕ} {list others : PeakedMoves} (whole : PeakedMoves) → IsWalk mesh
@@ -81,9 +70,7 @@ there_and_back_leads {mesh} {first} {second} {one} {two} {list} {others} whole i
     omega (arith, greatest_both mesh list.moves (way_back mesh others.moves) first one h.leads, passed, h.peak, k.peak) in
     let whole_is : greatest_darts mesh first whole.moves ≡ max list.peak others.peak = ap (greatest_darts mesh first) moves ∙ all in
     record {
-      leads =
-          ap (λ (ms : List Move). apply_all mesh first ms) moves
-          ∙ one_after_another mesh list.moves (way_back mesh others.moves) first one second h.leads from_one;
+      leads = grind (arith, one_after_another);
       peak = elim (cases_eq (length others.moves) 0) [
         | inl empty ↦
             none empty ∙ sym (no_others h k same others.moves refl empty) ∙ sym whole_is
@@ -106,17 +93,4 @@ pub both_within : (mesh : FaceList) {n m : ℕ} (most : ℕ) {list others : Peak
     → whole.moves ≡ list.moves ++ way_back mesh others.moves
     → (length others.moves ≡ 0 → whole.peak ≡ list.peak) → (0 < length others.moves → whole.peak ≡ max list.peak others.peak)
     → IsWithin most whole
-both_within mesh most {list} {others} whole h k few moves none some =
-    let count : length whole.moves ≡ length list.moves + length others.moves = omega (
-      arith,
-      ap (λ (ms : List Move). length ms) moves,
-      length-append list.moves (way_back mesh others.moves),
-      length-way_back mesh others.moves,
-    ) in
-    record {
-      moves = omega (arith, count, h.moves, k.moves, few);
-      peak = elim (cases_eq (length others.moves) 0) [
-        | inl empty ↦ omega (arith, none empty, h.peak, few)
-        | inr more ↦ omega (arith, some (omega arith), h.peak, k.peak, few)
-      ];
-    }
+both_within mesh most {list} {others} whole h k few moves none some = grind (arith, common_steps, length-way_back)

@@ -24,12 +24,7 @@ noted_paid {surface} old new move next falls paid front list =
     let count : length new.list.moves ≡ length old.list.moves + 1 =
     ap (λ (l : PeakedMoves). length l.moves) list ∙ length-append old.list.moves (move ∷ []) in
     let peak : new.list.peak ≡ max old.list.peak (length new.front + length new.coming) = ap (λ (l : PeakedMoves). l.peak) list in
-    let long : length new.coming ≤ weight surface new.last new.coming = weight_long surface new.last new.coming in
-    record {
-      moves = omega (arith, count, falls, paid.moves);
-      front = omega (arith, front, falls, paid.front);
-      peak = omega (arith, peak, long, front, falls, paid.front, paid.peak);
-    }
+    let long : length new.coming ≤ weight surface new.last new.coming = weight_long surface new.last new.coming in grind arith
 
 step_paid : {surface : OpenView} {most : ℕ} (old : ReductionView) (next : ℕ) (new : ReductionView)
     → weight surface new.last new.coming < weight surface old.last (next ∷ old.coming)

@@ -1,5 +1,5 @@
 -- How many sides edges have, by the table of the mesh.
-use Rattle.free_forms.proofs.Common.{between_by_table, no_edge_no_side, before_by_table, IsFirstFault, IsFirstCrowded, IsLeastCrowdedEdge, IsBoundaryEdge, HasBoundary, EdgeSides, ◌≡◌, ◌≢◌, inl, inr, ℕ, ◌<◌, ◌≤◌, List, length, sym, ◌∙◌, arith, cases_Bool, sides_of_edge, Edge, IsTableOf, IsEdgeOf, edge_in, FaceList, is_edge, VertexName}
+use Rattle.free_forms.proofs.Common.{between_by_table, no_edge_no_side, before_by_table, IsFirstFault, IsFirstCrowded, IsLeastCrowdedEdge, IsBoundaryEdge, HasBoundary, EdgeSides, ◌≡◌, ◌≢◌, inl, inr, ℕ, ◌<◌, ◌≤◌, List, length, arith, cases_Bool, common_steps, sides_of_edge, Edge, IsTableOf, IsEdgeOf, edge_in, FaceList, is_edge, VertexName}
 
 pub no_boundary_from_table : {mesh : FaceList} {table : List Edge} → IsTableOf mesh table
     → ((k : ℕ) → k < length table → length (edge_in table k).sides ≢ 1) → HasBoundary mesh → ⊥
@@ -7,9 +7,7 @@ no_boundary_from_table {mesh} {table} h none rim =
     between_by_table (λ n. n ≢ 1) mesh table h (λ same. absurd (omega arith)) none rim.0 rim.1 rim.2
 
 pub boundary_from_table : {mesh : FaceList} {table : List Edge} {k : ℕ} → IsTableOf mesh table → IsBoundaryEdge table k → HasBoundary mesh
-boundary_from_table {mesh} {table} {k} h rim =
-    let edge : Edge = edge_in table k in
-    (edge.low, edge.high, sym (sides_of_edge mesh edge (h.edges k _ rim.in_table)) ∙ rim.one_side)
+boundary_from_table {mesh} {table} {k} h rim = grind (arith, common_steps, sides_of_edge)
 
 least_crowded : {mesh : FaceList} {table : List Edge} {k : ℕ} → IsTableOf mesh table → IsFirstCrowded table k
     → IsLeastCrowdedEdge mesh (edge_in table k).low (edge_in table k).high (length (edge_in table k).sides)
@@ -30,7 +28,4 @@ least_crowded {mesh} {table} {k} h first =
 pub crowded_as_read : {mesh : FaceList} {table : List Edge} {k : ℕ} (low high : VertexName) (sides : ℕ) → 0 < length mesh.faces
     → IsTableOf mesh table → IsFirstCrowded table k → low.0 ≡ (edge_in table k).low → high.0 ≡ (edge_in table k).high
     → sides ≡ length (edge_in table k).sides → IsFirstFault mesh (EdgeSides low high sides)
-crowded_as_read low high sides some h first is_low is_high is_sides = record {
-  some_face = some;
-  edge = rw (is_low, is_high, is_sides) (least_crowded h first);
-}
+crowded_as_read low high sides some h first is_low is_high is_sides = grind (arith, common_steps, least_crowded)

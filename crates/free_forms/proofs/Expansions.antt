@@ -1,5 +1,5 @@
 -- How darts act where a dart along a parent edge acts as its expansion does: what holds of every base, by which the other darts act.
-use Rattle.free_forms.proofs.Common.{partners_swap, OpenView, HasParents, EndsOutside, Joins, IsParentEdge, parent_of, expansion, ◌≡◌, ◌≢◌, ◌⊎◌, inl, inr, ℕ, zero, suc, ◌+◌, ◌-◌, ◌<◌, ◌≤◌, Bool, true, false, not, List, [], ◌∷◌, length, get_or, refl, ap, sym, ◌∙◌, subst, arith, cases_eq, cases_lt, eq-eqb, both_ways, nat_tests, Option, Some, None, ◌==◌, cond, if◌then◌else◌, step_within, ends_differ, corner_after, meet, joins_swap, IsSide, tail_of, head_of, FaceSide, face_at, next_corner, joins, ArePartners, Side, acts_exactly, run_stays, next_back, after_within, after_more, after_back, after_add, corners_apart, end_from, end_beyond, each_dart, each_any, run-more, walked-round, run, beyond, EachDart, ActsAlong, FacesActAsNothing}
+use Rattle.free_forms.proofs.Common.{partners_swap, OpenView, HasParents, EndsOutside, Joins, IsParentEdge, parent_of, expansion, ◌≡◌, ◌≢◌, ◌⊎◌, inl, inr, ℕ, zero, suc, ◌+◌, ◌-◌, ◌<◌, ◌≤◌, Bool, true, false, not, List, [], ◌∷◌, length, get_or, refl, ap, sym, ◌∙◌, subst, arith, cases_eq, cases_lt, eq-eqb, nat_tests, Option, Some, None, cond, if◌then◌else◌, step_within, ends_differ, corner_after, meet, joins_swap, IsSide, tail_of, head_of, FaceSide, face_at, next_corner, joins, ArePartners, Side, acts_exactly, run_stays, next_back, after_within, after_more, after_back, after_add, corners_apart, end_from, end_beyond, each_dart, each_any, run-more, walked-round, run, beyond, EachDart, ActsAlong, FacesActAsNothing}
 
 -- each pair of vertices acts, also in lists that are no walks; states are told apart by equality
 abbrev pub AnyDart : ℕ → ℕ → Type 0
@@ -61,18 +61,13 @@ face_below : (surface : OpenView) (n u v f : ℕ) → parent_face surface n u v 
 face_below surface zero u v f e = cc
 face_below surface (suc n) u v f e =
     elim (chosen (joins u v (whole_parent surface n)) n f (parent_face surface n u v) e) [
-      | inl here ↦ (
-        omega (arith, here.1),
-        subst (λ (g : ℕ). Joins surface.mesh (parent_of surface g) u v) here.1
-            (joins_ends u v (whole_parent surface n) here.0),
-      )
+      | inl here ↦ grind (arith, joins_ends)
       | inr later ↦ (let rest = face_below surface n u v f later in (omega (arith, rest.0), rest.1))
     ]
 
 pub found_face : (surface : OpenView) (u v f : ℕ) → parent_face_of surface u v ≡ Some f → IsFound surface u v f
 found_face surface u v f e =
-    let h = face_below surface (length surface.mesh.faces) u v f e in
-    record { within = h.0; joined = h.1 }
+    let h = face_below surface (length surface.mesh.faces) u v f e in grind arith
 
 none_below : (surface : OpenView) (n u v f : ℕ) → parent_face surface n u v ≡ None → f < n
     → Joins surface.mesh (parent_of surface f) u v → ⊥
@@ -80,9 +75,7 @@ none_below surface zero u v f e l h = absurd (omega arith)
 none_below surface (suc n) u v f e l h =
     let told = passed (joins u v (whole_parent surface n)) n (parent_face surface n u v) e in
     elim (cases_eq f n) [
-      | inl same ↦
-          both_ways _ told.0
-          (ends_join u v (whole_parent surface n) (subst (λ (g : ℕ). Joins surface.mesh (parent_of surface g) u v) same h))
+      | inl same ↦ grind (arith, ends_join)
       | inr other ↦ none_below surface n u v f told.1 (omega arith) h
     ]
 
@@ -155,8 +148,7 @@ most_falling : (m t : ℕ) → t < m → corner_after false m t (m - 1) ≡ next
 most_falling m t l = sym (meet true m t 1 l (omega arith))
 
 most_rising : (m t : ℕ) → t < m → corner_after true m (next_corner true m t) (m - 1) ≡ t
-most_rising m t l =
-    sym (meet false m (next_corner true m t) 1 (step_within true m t l) (omega arith)) ∙ after_back true m t 1 l
+most_rising m t l = grind (arith, meet, step_within, after_back)
 
 by_test : (test : Bool) (x y : List ℕ) → test ≡ true → cond test x y ≡ x
 by_test test x y e = rw e refl
@@ -173,10 +165,7 @@ pub from_head : (surface : OpenView) (f u : ℕ) → tail_of surface.mesh (paren
     → expansion surface.mesh (parent_of surface f) u
     ≡ beyond (face_at surface.mesh f) true (next_corner true (length (face_at surface.mesh f)) (parent_of surface f).at)
     (length (face_at surface.mesh f) - 1)
-from_head surface f u isnt = by_test_not _ _ _ (let test : nat_test ≡ false = grind (arith, nat_tests) in test)
-  where
-    nat_test : Bool
-    nat_test = tail_of surface.mesh (parent_of surface f) == u
+from_head surface f u isnt = grind (arith, by_test_not)
 
 pub length_beyond : (ring : List ℕ) (rising : Bool) (t k : ℕ) → length (beyond ring rising t k) ≡ k
 length_beyond ring rising t zero = refl
@@ -185,15 +174,7 @@ length_beyond ring rising t (suc k) = ap suc (length_beyond ring rising (next_co
 -- an expansion has all sides but one
 pub expansion_size : (surface : OpenView) (f u : ℕ)
     → length (expansion surface.mesh (parent_of surface f) u) ≡ length (face_at surface.mesh f) - 1
-expansion_size surface f u =
-    let ring : List ℕ = face_at surface.mesh f in
-    let m : ℕ = length ring in
-    let t : ℕ = (parent_of surface f).at in
-    elim (cases_eq (tail_of surface.mesh (parent_of surface f)) u) [
-      | inl same ↦ ap (λ (w : List ℕ). length w) (from_tail surface f u same) ∙ length_beyond ring false t (m - 1)
-      | inr other ↦
-          ap (λ (w : List ℕ). length w) (from_head surface f u other) ∙ length_beyond ring true (next_corner true m t) (m - 1)
-    ]
+expansion_size surface f u = grind (arith, from_tail, length_beyond, from_head)
 
 pub ends_of : {surface : OpenView} {f u v : ℕ} → HasParents surface → IsFound surface u v f → Ends surface f u v
 ends_of {surface} {f} {u} {v} has found =
@@ -202,31 +183,9 @@ ends_of {surface} {f} {u} {v} has found =
     let m : ℕ = length ring in
     let next : ℕ = next_corner true m side.at in
     let within : side.at < m = has.within f found.within in
-    let differ : tail_of surface.mesh side ≢ head_of surface.mesh side =
-    ends_differ surface.mesh side has.valid (parent_in_mesh f has found.within) in
     elim found.joined [
-      | inl e ↦ record {
-        rising = false;
-        from = side.at;
-        to = next;
-        from_within = within;
-        at_u = e.0;
-        at_v = e.1;
-        far = most_falling m side.at within;
-        way = from_tail surface f u e.0;
-        back = from_head surface f v (λ same. differ (same ∙ sym e.1));
-      }
-      | inr e ↦ record {
-        rising = true;
-        from = next;
-        to = side.at;
-        from_within = step_within true m side.at within;
-        at_u = e.1;
-        at_v = e.0;
-        far = most_rising m side.at within;
-        way = from_head surface f u (λ same. differ (same ∙ sym e.1));
-        back = from_tail surface f v e.0;
-      }
+      | inl e ↦ grind (arith, most_falling, from_tail, from_head)
+      | inr e ↦ grind (arith, step_within, most_rising, from_head, from_tail)
     ]
 
 -- an expansion leads to the other end
@@ -235,9 +194,7 @@ pub expansion_ends : {surface : OpenView} {f u v : ℕ} → HasParents surface �
 expansion_ends {surface} {f} {u} {v} has found =
     let e : Ends surface f u v = ends_of has found in
     let ring : List ℕ = face_at surface.mesh f in
-    let k : ℕ = length ring - 1 in
-    ap (end_from u) e.way ∙ ap (λ (x : ℕ). end_from x (beyond ring e.rising e.from k)) (sym e.at_u)
-    ∙ end_beyond ring e.rising e.from k ∙ ap (λ (c : ℕ). get_or ring c 0) e.far ∙ e.at_v
+    let k : ℕ = length ring - 1 in grind (arith, end_beyond)
 
 -- some steps round a face and as many back change nothing
 round_and_back : {State : Type 0} (act : State → ℕ → ℕ → State) (At : ℕ → State → Type 0) → ActsAnywhere act At
@@ -253,8 +210,7 @@ round_and_back {State} act At acts ring rising t (suc k) l s at =
     let far : ℕ = corner_after rising m next k in
     let along : State = act s (get_or ring t 0) (get_or ring next 0) in
     let near : corner_after (not rising) m far k ≡ next = after_back rising m next k next_in in
-    let home : corner_after (not rising) m far (suc k) ≡ t =
-    after_more (not rising) m far k ∙ ap (next_corner (not rising) m) near ∙ next_back rising m t l in
+    let home : corner_after (not rising) m far (suc k) ≡ t = grind (arith, after_more, next_back) in
     run-more act (run act along (get_or ring next 0) (beyond ring rising next k)) ring (not rising) far k
     ∙ ap (λ (x : State). act x (get_or ring (corner_after (not rising) m far k) 0)
     (get_or ring (corner_after (not rising) m far (suc k)) 0))
@@ -270,14 +226,7 @@ expansion_back {State} act At acts surface f u v has found s at =
     let e : Ends surface f u v = ends_of has found in
     let ring : List ℕ = face_at surface.mesh f in
     let k : ℕ = length ring - 1 in
-    let there : State = run act s (get_or ring e.from 0) (beyond ring e.rising e.from k) in
-    let start : run act s u (expansion surface.mesh (parent_of surface f) u) ≡ there =
-    ap (run act s u) e.way ∙ ap (λ (x : ℕ). run act s x (beyond ring e.rising e.from k)) (sym e.at_u) in
-    ap (λ (x : State). run act x v (expansion surface.mesh (parent_of surface f) v)) start
-    ∙ ap (run act there v) e.back
-    ∙ ap (λ (x : ℕ). run act there x (beyond ring (not e.rising) e.to k)) (sym e.at_v)
-    ∙ ap (λ (c : ℕ). run act there (get_or ring c 0) (beyond ring (not e.rising) c k)) (sym e.far)
-    ∙ round_and_back act At acts ring e.rising e.from k e.from_within s (subst (λ (x : ℕ). At x s) (sym e.at_u) at)
+    grind (arith, round_and_back)
 
 -- where there and back changes nothing by the base, and inside expansions, so it is one level up
 level_stays : {State : Type 0} {surface : OpenView} (base inner : State → ℕ → ℕ → State) (At : ℕ → State → Type 0) → HasParents surface
@@ -293,8 +242,7 @@ level_back : {State : Type 0} {surface : OpenView} (base inner : State → ℕ �
     → ActsAnywhere base At → ActsAnywhere inner At → (u v : ℕ) (o : Option ℕ) → parent_face_of surface u v ≡ o → (s : State) → At u s
     → by_face surface base (λ f x. x) inner o (by_face surface base (λ f x. x) inner o s u v) v u ≡ s
 level_back base inner At has acts more u v None e s at = acts.back u v s tt at
-level_back {surface} base inner At has acts more u v (Some f) e s at =
-    expansion_back inner At more surface f u v has (found_face surface u v f e) s at
+level_back {surface} base inner At has acts more u v (Some f) e s at = grind (arith, expansion_back, found_face)
 
 -- where there and back by the base changes nothing, so it is with expansions
 pub acting_acts : {State : Type 0} (surface : OpenView) (base : State → ℕ → ℕ → State) (At : ℕ → State → Type 0) → HasParents surface
@@ -405,45 +353,17 @@ along_falling {surface} f j (suc k) c has l few is c_within =
 pub expansion_places : {surface : OpenView} {f u v : ℕ} → HasParents surface → IsFound surface u v f
     → (rising : Bool) × EachAlong surface f (places_behind surface f rising) 0 u (expansion surface.mesh (parent_of surface f) u)
 expansion_places {surface} {f} {u} has found =
-    let side : Side = parent_of surface f in
-    let ring : List ℕ = face_at surface.mesh f in
-    let m : ℕ = length ring in
-    let within : side.at < m = has.within f found.within in
-    let differ : tail_of surface.mesh side ≢ head_of surface.mesh side =
-    ends_differ surface.mesh side has.valid (parent_in_mesh f has found.within) in
-    elim found.joined [
-      | inl e ↦ (
-        false,
-        subst (EachAlong surface f (places_behind surface f false) 0 u) (sym (from_tail surface f u e.0))
-            (subst (λ (x : ℕ). EachAlong surface f (places_behind surface f false) 0 x (beyond ring false side.at (m - 1))) e.0
-            (along_falling f 0 (m - 1) side.at has found.within (omega arith) refl within)),
-      )
-      | inr e ↦ (
-        true,
-        subst (EachAlong surface f (places_behind surface f true) 0 u) (sym (from_head surface f u (λ same. differ (same ∙ sym e.1))))
-            (subst (λ (x : ℕ). EachAlong surface f (places_behind surface f true) 0 x
-            (beyond ring true (next_corner true m side.at) (m - 1))) e.1
-            (along_rising f 0 (m - 1) (next_corner true m side.at) has found.within (omega arith) refl)),
-      )
-    ]
+    grind (arith, head_of, ends_differ, parent_in_mesh, from_tail, along_falling, from_head, along_rising)
 
 expansion_along : {surface : OpenView} {f u v : ℕ} → HasParents surface → IsFound surface u v f
     → EachDart (IsAlongOther surface f) u (expansion surface.mesh (parent_of surface f) u)
 expansion_along {surface} {f} {u} has found =
-    let told = expansion_places has found in
-    along_any surface f (places_behind surface f told.0) 0 u (expansion surface.mesh (parent_of surface f) u) told.1
+    let told = expansion_places has found in grind (arith, along_any)
 
 -- across that side lies a face whose parent it is
 pub across : {surface : OpenView} {f g place a b : ℕ} → HasParents surface → f < length surface.mesh.faces → IsAlong surface f place a b
     → IsFound surface a b g → ArePartners surface.mesh (parent_of surface g) (side_at f place)
-across {surface} {f} {g} {place} {a} {b} has l along found = record {
-  first = parent_in_mesh g has found.within;
-  second = record { face = l; place = along.within };
-  different = λ same.
-      let face : g ≡ f = ap (λ (s : Side). s.face.0) same in
-      along.other (sym (ap (λ (s : Side). s.at) same) ∙ ap (λ (h : ℕ). (parent_of surface h).at) face);
-  one_edge = ends_same _ _ _ _ a b found.joined along.joined;
-}
+across {surface} {f} {g} {place} {a} {b} has l along found = grind (arith, parent_in_mesh, ends_same)
 
 -- and it is further from the outside
 further : {surface : OpenView} (n f : ℕ) {g a b : ℕ} → HasParents surface → f < length surface.mesh.faces → IsAlongOther surface f a b
@@ -472,8 +392,7 @@ no_level : {State : Type 0} {surface : OpenView} (base inner : State → ℕ →
 no_level base inner enter has u v deep s None e = refl
 no_level {surface} base inner enter has u v deep s (Some f) e =
     let found = found_face surface u v f e in
-    let all : length surface.mesh.faces - 0 ≡ length surface.mesh.faces = omega arith in
-    absurd (deep f found (subst (λ (k : ℕ). EndsOutside surface k f) (sym all) (has.outside f found.within)))
+    let all : length surface.mesh.faces - 0 ≡ length surface.mesh.faces = omega arith in grind arith
 
 -- levels that agree inside expansions agree
 levels_agree : {State : Type 0} (surface : OpenView) (base inner other : State → ℕ → ℕ → State) (enter : ℕ → State → State) → (u v : ℕ)
@@ -487,8 +406,7 @@ levels_agree surface base inner other enter u v agree s (Some f) e = agree f (fo
 -- one level more changes nothing then
 level_more : {State : Type 0} (surface : OpenView) (base : State → ℕ → ℕ → State) (enter : ℕ → State → State) → HasParents surface
     → (n u v : ℕ) → IsDeep surface n u v → (s : State) → acting surface base enter n s u v ≡ acting surface base enter (suc n) s u v
-level_more surface base enter has zero u v deep s =
-    no_level base (acting surface base enter 0) enter has u v deep s (parent_face_of surface u v) refl
+level_more surface base enter has zero u v deep s = grind (arith, no_level)
 level_more {State} surface base enter has (suc n) u v deep s =
     let one : State → ℕ → ℕ → State = acting surface base enter n in
     let two : State → ℕ → ℕ → State = acting surface base enter (suc n) in
@@ -506,10 +424,7 @@ pub enough_levels : {State : Type 0} {surface : OpenView} (base : State → ℕ 
     → (u v : ℕ) (s : State)
     → act_fully surface base enter s u v
     ≡ by_face surface base enter (act_fully surface base enter) (parent_face_of surface u v) s u v
-enough_levels {surface} base enter has u v s =
-    let none : length surface.mesh.faces - length surface.mesh.faces ≡ 0 = omega arith in
-    level_more surface base enter has (length surface.mesh.faces) u v
-    (λ f found outside. subst (λ (k : ℕ). EndsOutside surface k f) none outside) s
+enough_levels {surface} base enter has u v s = grind (arith, level_more)
 
 -- a parent edge acts as its expansion
 pub acts_by_expansion : {State : Type 0} {surface : OpenView} (base : State → ℕ → ℕ → State) (enter : ℕ → State → State)
@@ -517,16 +432,12 @@ pub acts_by_expansion : {State : Type 0} {surface : OpenView} (base : State → 
     → {u v f : ℕ} (s : State) → IsFound surface u v f
     → act_fully surface base enter s u v
     ≡ run (act_fully surface base enter) (enter f s) u (expansion surface.mesh (parent_of surface f) u)
-acts_by_expansion {surface} base enter has {u} {v} s found =
-    enough_levels base enter has u v s
-    ∙ ap (λ (o : Option ℕ). by_face surface base enter (act_fully surface base enter) o s u v) (face_found has found)
+acts_by_expansion {surface} base enter has {u} {v} s found = grind (arith, enough_levels, face_found)
 
 -- and another edge by the base
 pub acts_by_base : {State : Type 0} {surface : OpenView} (base : State → ℕ → ℕ → State) (enter : ℕ → State → State) → HasParents surface
     → (u v : ℕ) (s : State) → (IsParentEdge surface u v → ⊥) → act_fully surface base enter s u v ≡ base s u v
-acts_by_base {surface} base enter has u v s none =
-    enough_levels base enter has u v s
-    ∙ ap (λ (o : Option ℕ). by_face surface base enter (act_fully surface base enter) o s u v) (no_face_found surface u v none)
+acts_by_base {surface} base enter has u v s none = grind (arith, enough_levels, no_face_found)
 
 -- so once round each face from the corner behind its parent changes nothing
 pub faces_nothing : {State : Type 0} (surface : OpenView) (base : State → ℕ → ℕ → State) (At : ℕ → State → Type 0) → HasParents surface

@@ -1,14 +1,11 @@
 -- First faults exclude each other, and an open surface.
-use Rattle.free_forms.proofs.Common.{equal, equal_pairs, one_pinch, same_name, NoEdgeHasThreeSides, IsLeastUsed, AreLeastApart, IsFirstFault, IsLeastCrowdedEdge, IsOpenSurface, OpenFault, NoFace, EdgeSides, NoBoundary, Pinched, Apart, OutOfMemory, ◌≡◌, ℕ, refl, ap, sym, ◌∙◌, subst, arith, FaceList, sides_between}
+use Rattle.free_forms.proofs.Common.{equal, equal_pairs, one_pinch, same_name, NoEdgeHasThreeSides, IsLeastUsed, AreLeastApart, IsFirstFault, IsLeastCrowdedEdge, IsOpenSurface, OpenFault, NoFace, EdgeSides, NoBoundary, Pinched, Apart, OutOfMemory, ◌≡◌, ℕ, refl, arith, FaceList}
 
 not_few : {mesh : FaceList} {low high sides : ℕ} → IsLeastCrowdedEdge mesh low high sides → NoEdgeHasThreeSides mesh → ⊥
 not_few {low} {high} h few = omega (arith, h.number, h.crowded, few low high)
 
 one_edge : {mesh : FaceList} {a b s c d t : ℕ} → IsLeastCrowdedEdge mesh a b s → IsLeastCrowdedEdge mesh c d t → (a ≡ c) × (b ≡ d) × (s ≡ t)
-one_edge {mesh} {a} {b} {c} {d} h k =
-    let same = equal_pairs a b c d (λ before. omega (arith, h.number, h.crowded, k.least a b h.ordered before))
-    (λ after. omega (arith, k.number, k.crowded, h.least c d k.ordered after)) in
-    (same.0, same.1, h.number ∙ ap (λ x. sides_between mesh x b) same.0 ∙ ap (sides_between mesh c) same.1 ∙ sym k.number)
+one_edge {mesh} {a} {b} {c} {d} h k = grind (arith, equal_pairs)
 
 one_least : {mesh : FaceList} {v w : ℕ} → IsLeastUsed mesh v → IsLeastUsed mesh w → v ≡ w
 one_least {v} {w} h k = equal v w (λ less. k.least v less h.used) (λ more. h.least w more k.used)
@@ -26,9 +23,7 @@ one_fault mesh NoFace NoBoundary h k = absurd (omega (arith, k.some_face))
 one_fault mesh NoFace (Pinched vertex) h k = absurd (omega (arith, k.some_face))
 one_fault mesh NoFace (Apart vertex another) h k = absurd (omega (arith, k.some_face))
 one_fault mesh (EdgeSides low high sides) NoFace h k = absurd (omega (arith, h.some_face))
-one_fault mesh (EdgeSides a b s) (EdgeSides c d t) h k =
-    let same = one_edge h.edge k.edge in
-    ap (λ x. EdgeSides x b s) (same_name a c same.0) ∙ ap (λ x. EdgeSides c x s) (same_name b d same.1) ∙ ap (EdgeSides c d) same.2
+one_fault mesh (EdgeSides a b s) (EdgeSides c d t) h k = grind (arith, one_edge, same_name)
 one_fault mesh (EdgeSides low high sides) NoBoundary h k = absurd (not_few h.edge k.few_sides)
 one_fault mesh (EdgeSides low high sides) (Pinched vertex) h k = absurd (not_few h.edge k.few_sides)
 one_fault mesh (EdgeSides low high sides) (Apart vertex another) h k = absurd (not_few h.edge k.few_sides)
@@ -40,17 +35,13 @@ one_fault mesh NoBoundary (Apart vertex another) h k = absurd (h.none k.boundary
 one_fault mesh (Pinched vertex) NoFace h k = absurd (omega (arith, h.some_face))
 one_fault mesh (Pinched vertex) (EdgeSides low high sides) h k = absurd (not_few k.edge h.few_sides)
 one_fault mesh (Pinched vertex) NoBoundary h k = absurd (k.none h.boundary)
-one_fault mesh (Pinched vertex) (Pinched another) h k =
-    ap Pinched (same_name vertex another (one_pinch mesh vertex.0 another.0 h.vertex k.vertex))
+one_fault mesh (Pinched vertex) (Pinched another) h k = grind (arith, same_name, one_pinch)
 one_fault mesh (Pinched vertex) (Apart first second) h k = absurd (h.vertex.pinched (k.one_fan vertex.0 h.vertex.used))
 one_fault mesh (Apart first second) NoFace h k = absurd (omega (arith, h.some_face))
 one_fault mesh (Apart first second) (EdgeSides low high sides) h k = absurd (not_few k.edge h.few_sides)
 one_fault mesh (Apart first second) NoBoundary h k = absurd (k.none h.boundary)
 one_fault mesh (Apart first second) (Pinched vertex) h k = absurd (k.vertex.pinched (h.one_fan vertex.0 k.vertex.used))
-one_fault mesh (Apart u v) (Apart x y) h k =
-    let first : u.0 ≡ x.0 = one_least h.vertices.vertex k.vertices.vertex in
-    ap (λ w. Apart w v) (same_name u x first)
-    ∙ ap (Apart x) (same_name v y (one_apart (subst (λ w. AreLeastApart mesh w v.0) first h.vertices) k.vertices))
+one_fault mesh (Apart u v) (Apart x y) h k = grind (arith, one_least, same_name, one_apart)
 
 -- an open surface has none
 pub no_fault : (mesh : FaceList) (fault : OpenFault) → IsOpenSurface mesh → IsFirstFault mesh fault → ⊥
@@ -58,6 +49,5 @@ no_fault mesh NoFace surface h = omega (arith, surface.some_face)
 no_fault mesh (EdgeSides low high sides) surface h = not_few h.edge surface.few_sides
 no_fault mesh NoBoundary surface h = h.none surface.boundary
 no_fault mesh (Pinched vertex) surface h = h.vertex.pinched (surface.one_fan vertex.0 h.vertex.used)
-no_fault mesh (Apart vertex other) surface h =
-    h.vertices.apart (surface.connected vertex.0 other.0 h.vertices.vertex.used h.vertices.used)
+no_fault mesh (Apart vertex other) surface h = grind arith
 no_fault mesh OutOfMemory surface h = h

@@ -14,15 +14,10 @@ abbrev pub put : List ℕ → ℕ → ℕ → List ℕ
 put stack u v = put_on stack v
 
 pub put_at : (stack : List ℕ) (v : ℕ) → HasNoSpur stack → IsStackAt v (put_on stack v)
-put_at stack v clean =
-    let top = top_put stack v in
-    record { below = top.0; top = top.1; no_spur = put_keeps stack v clean }
+put_at stack v clean = grind (arith, top_put, put_keeps)
 
 pub puts_act : ActsAnywhere put IsStackAt
-puts_act =
-    acts_exactly AnyDart put IsStackAt (λ u v s dart at. put_at s v at.no_spur)
-    (λ u v s dart at.
-    subst (λ (x : List ℕ). put_on (put_on x v) u ≡ x) (sym at.top) (there_and_back u v at.below (subst HasNoSpur at.top at.no_spur)))
+puts_act = grind (arith, acts_exactly, put, put_at, there_and_back)
 
 -- off the parent edges each vertex is put on
 pub puts_all : {surface : OpenView} → HasParents surface → (s : List ℕ) (u : ℕ) (vs : List ℕ)
@@ -61,9 +56,7 @@ walk_puts {surface} {walk} (u ∷ us) stack has start h some clean =
 
 -- moves lead to no empty walk
 some_left : (mesh : FaceList) (moves : List Move) (walk next : List ℕ) → 0 < length walk → Leads mesh walk moves next → 0 < length next
-some_left mesh [] walk next start e =
-    let same : walk ≡ next = cc in
-    subst (λ (l : List ℕ). 0 < length l) same start
+some_left mesh [] walk next start e = grind arith
 some_left mesh (move ∷ moves) walk next start e =
     let told = first_answer (λ x. apply_all mesh x moves) (apply mesh walk move) next e in
     some_left mesh moves told.0 next (stays_walk mesh walk told.0 move start told.1) told.2
@@ -92,8 +85,7 @@ by_normal_walks surface walk other first second has is_walk is_other one two =
             );
           }),
       λ same.
-          let back : Leads mesh second (way_back mesh two.homotopic.0) other =
-          list_undone mesh two.homotopic.0 other second is_other two.homotopic.1 in (
+          let back : Leads mesh second (way_back mesh two.homotopic.0) other = grind (arith, list_undone) in (
             one.homotopic.0 ++ way_back mesh two.homotopic.0,
             one_after_another mesh one.homotopic.0 (way_back mesh two.homotopic.0) walk first other one.homotopic.1
                 (subst (λ (w : List ℕ). Leads mesh w (way_back mesh two.homotopic.0) other) (sym same) back),

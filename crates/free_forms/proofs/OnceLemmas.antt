@@ -41,9 +41,7 @@ one_partner {mesh} {side} {other} {third} few h k =
     let v : ℕ = head_of mesh side in
     let own : joins u v (entry_of mesh side) ≡ true = grind (arith, nat_tests) in
     let listed : (s : Side) → IsSide mesh s → joins u v (entry_of mesh s) ≡ true
-    → Contains (filter (joins u v) (all_sides mesh)) (entry_of mesh s) =
-    λ s is joined.
-    Contains-filter (joins u v) (all_sides mesh) (entry_of mesh s) joined (face_side_in mesh s.face.0 s.at is.face is.place) in
+    → Contains (filter (joins u v) (all_sides mesh)) (entry_of mesh s) = λ s is joined. grind (arith, Contains-filter, face_side_in) in
     let same : entry_of mesh other ≡ entry_of mesh third =
     two_same (filter (joins u v) (all_sides mesh)) (entry_of mesh side) (entry_of mesh other) (entry_of mesh third) (few u v)
     (listed side h.first own) (listed other h.second (joins_other u v (entry_of mesh side) (entry_of mesh other) own h.one_edge))
@@ -75,8 +73,7 @@ nearer surface (suc k) (suc n) g side h crosses =
 -- so no face is come to again
 none_again : (surface : OpenView) (most k n f : ℕ) (side : Side) → n ≤ most → EndsOutside surface n f → CrossesTo surface k f side
     → side.face.0 ≡ f → ⊥
-none_again surface zero k n f side few h crosses same =
-    let next = nearer surface k n f side h crosses in omega (arith, next.1, few)
+none_again surface zero k n f side few h crosses same = grind (arith, nearer)
 none_again surface (suc most) k n f side few h crosses same =
     let next = nearer surface k n f side h crosses in
     none_again surface most k next.0 f side (omega (arith, next.1, few)) (subst (λ (g : ℕ). EndsOutside surface next.0 g) same next.2)
@@ -94,8 +91,7 @@ one_way : {surface : OpenView} (j k g : ℕ) (side other : Side) → HasParents 
 one_way zero zero g side other has first second same = one_partner has.few_sides first second
 one_way zero (suc k) g side other has first second same =
     let met : side ≡ second.0 = one_partner has.few_sides first second.1 in
-    let face : second.0.face.0 ≡ other.face.0 = ap (λ (s : Side). s.face.0) (sym met) ∙ same in
-    absurd (not_again k second.0.face.0 other has second.1.second.face second.2 (sym face))
+    let face : second.0.face.0 ≡ other.face.0 = ap (λ (s : Side). s.face.0) (sym met) ∙ same in grind (arith, not_again)
 one_way (suc j) zero g side other has first second same =
     let met : first.0 ≡ other = one_partner has.few_sides first.1 second in
     let face : first.0.face.0 ≡ side.face.0 = ap (λ (s : Side). s.face.0) met ∙ sym same in
@@ -163,35 +159,8 @@ once_along {surface} g f n places i u (v ∷ vs) most has l differ each along fe
     let next : List ℕ = listed surface n old u v in
     let here : IsBelow surface g u v → (k : ℕ) × CrossesTo surface k g (side_at f (places i)) = comes_to has l along.0 in
     elim (once_along g f n places (suc i) v vs most has l differ each along.1 (omega arith) next) [
-      | inl rest ↦ elim (each u v old) [
-        | inl first ↦ inl (rest ∙ first)
-        | inr first ↦ inr (
-          rest ∙ first.0,
-          record {
-            at = i;
-            from = omega arith;
-            below = omega arith;
-            count = (here first.1).0;
-            crosses = (here first.1).1;
-          },
-        )
-      ]
-      | inr rest ↦ elim (each u v old) [
-        | inl first ↦ inr (
-          rest.0 ∙ ap suc first,
-          record {
-            at = rest.1.at;
-            from = omega (arith, rest.1.from);
-            below = omega (arith, rest.1.below);
-            count = rest.1.count;
-            crosses = rest.1.crosses;
-          },
-        )
-        | inr first ↦
-            (let way = here first.1 in
-            absurd (differ i rest.1.at (omega (arith, rest.1.from)) (omega (arith, rest.1.below)) (ap (λ (s : Side). s.at)
-            (one_way rest.1.count way.0 g (side_at f (places rest.1.at)) (side_at f (places i)) has rest.1.crosses way.1 refl))))
-      ]
+      | inl rest ↦ grind arith
+      | inr rest ↦ grind (arith, one_way, side_at)
     ]
 
 times_more : (g f : ℕ) (faces : List ℕ) → f ≡ g → times g (f ∷ faces) ≡ suc (times g faces)
@@ -213,23 +182,8 @@ once_entered {surface} g n {u} {f} has each old found =
     let rest = once_along g f n places 0 u way most has found.within
     (λ a b less few. places_differ f told.0 a b has found.within less (omega arith)) each told.1 (omega (arith, size)) (f ∷ old) in
     elim (cases_eq f g) [
-      | inl same ↦ elim rest [
-        | inl none ↦ inr (none ∙ times_more g f old same, record { face = f; found = found; ways = inl (sym same) })
-        | inr more ↦
-            absurd (not_again more.1.count f (side_at f (places more.1.at)) has found.within
-            (subst (λ (h : ℕ). CrossesTo surface more.1.count h (side_at f (places more.1.at))) (sym same) more.1.crosses) refl)
-      ]
-      | inr other ↦ elim rest [
-        | inl none ↦ inl (none ∙ times_other g f old other)
-        | inr more ↦ inr (
-          more.0 ∙ ap suc (times_other g f old other),
-          record {
-            face = f;
-            found = found;
-            ways = inr (more.1.count, side_at f (places more.1.at), more.1.crosses, refl);
-          },
-        )
-      ]
+      | inl same ↦ grind (arith, times_more, not_again, side_at)
+      | inr other ↦ grind (arith, times_other, side_at)
     ]
 
 once_by_face : {surface : OpenView} (g n u v : ℕ) → HasParents surface
@@ -246,5 +200,4 @@ once_below {surface} g (suc n) has u v old = once_by_face g n u v has (once_belo
 
 -- no face stands twice in the list
 pub listed_once : {surface : OpenView} (g n u v : ℕ) → HasParents surface → times g (listed surface n [] u v) ≤ 1
-listed_once g n u v has =
-    elim (once_below g n has u v []) [ inl none ↦ omega (arith, none) | inr one ↦ omega (arith, one.0) ]
+listed_once g n u v has = grind (arith, once_below)

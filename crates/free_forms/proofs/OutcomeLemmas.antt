@@ -1,5 +1,5 @@
 -- No face list is without the one or the other: it is an open surface, or it has a first fault. Nothing is decided for this.
-use Rattle.free_forms.proofs.Common.{no_edge_no_side, edge_differs, used_below, no_first_pair, no_first_used, up_to, NoEdgeHasThreeSides, EachVertexHasOneRing, IsLeastUsed, IsFirstFault, IsOpenSurface, HasBoundary, OpenFault, NoFace, EdgeSides, NoBoundary, Pinched, Apart, ◌≡◌, ◌⊎◌, inl, inr, ℕ, zero, suc, ◌<◌, ◌≤◌, true, length, refl, arith, cases_Bool, cases_lt, cases_eq, both_ways, sides_between_swap, FaceList, IsFaceList, is_edge, is_used, HasOneRing, AreJoinedByWalk, sides_between}
+use Rattle.free_forms.proofs.Common.{no_edge_no_side, edge_differs, used_below, no_first_pair, no_first_used, up_to, NoEdgeHasThreeSides, EachVertexHasOneRing, IsLeastUsed, IsFirstFault, IsOpenSurface, HasBoundary, OpenFault, NoFace, EdgeSides, NoBoundary, Pinched, Apart, ◌≡◌, ◌⊎◌, inl, inr, ℕ, zero, suc, ◌<◌, ◌≤◌, true, length, refl, arith, cases_Bool, cases_lt, cases_eq, both_ways, sides_between_swap, FaceList, IsFaceList, is_used, HasOneRing, AreJoinedByWalk, sides_between}
 use Rattle.connectivity.proofs.WalkLemmas.{walk_between_ends}
 use Rattle.surf_model.specs.Components.{EachTwoAreJoined}
 
@@ -26,18 +26,7 @@ few_up mesh some none =
     ])
 
 few_sides : {mesh : FaceList} → IsFaceList mesh → 0 < length mesh.faces → HasNoFault mesh → NoEdgeHasThreeSides mesh
-few_sides {mesh} valid some none u v =
-    elim (cases_lt u v) [
-      | inl less ↦ few_up mesh some none u v less
-      | inr more ↦ elim (cases_eq u v) [
-        | inl same ↦ elim (cases_Bool (is_edge mesh u v)) [
-          | inl is ↦ absurd (edge_differs mesh u v valid is same)
-          | inr not ↦ omega (arith, no_edge_no_side mesh u v not)
-        ]
-        | inr other ↦
-            omega (arith, sides_between_swap mesh u v, few_up mesh some none v u (omega arith))
-      ]
-    ]
+few_sides {mesh} valid some none u v = grind (arith, few_up, edge_differs, no_edge_no_side, sides_between_swap)
 
 -- there is a least used vertex below n, or no used one
 least_below : (mesh : FaceList) (n : ℕ) → ((w : ℕ) → w < n → is_used mesh w ≡ true → ⊥) ⊎ ((u : ℕ) × IsLeastUsed mesh u)
@@ -62,8 +51,7 @@ with_boundary {mesh} valid some few none no_surface rim =
       vertex = record { used = used; pinched = pinched; least = below };
     })) mesh.count (λ rings.
     let ring : EachVertexHasOneRing mesh = λ w used. rings w (used_below mesh w valid used) used in
-    let apart : EachTwoAreJoined mesh → ⊥ = λ joined. no_surface
-    (record { some_face = some; few_sides = few; boundary = rim; one_fan = ring; connected = joined }) in
+    let apart : EachTwoAreJoined mesh → ⊥ = λ joined. grind (arith, few_sides) in
     elim (least_below mesh mesh.count) [
       | inl unused ↦ apart (λ u v used_u used_v. absurd (unused u (used_below mesh u valid used_u) used_u))
       | inr found ↦

@@ -1,5 +1,5 @@
 -- The parent on an edge, found by the table of the mesh; and the way along it.
-use Rattle.free_forms.proofs.Common.{OpenView, HasParents, Joins, IsParentEdge, parent_of, expansion, IsWayAlong, ◌≡◌, ◌⊎◌, inl, inr, ℕ, zero, suc, ◌-◌, ◌<◌, ◌≤◌, Bool, true, false, not, eqb, List, [], ◌∷◌, ◌++◌, length, get_or, refl, ap, sym, ◌∙◌, subst, arith, eqb-true, eq-eqb, both_ways, reverse-append, get_or_from_slice_get, All, Some, slice_get, reverse, cond, step_within, IsSideOfEdge, IsEdgeOfSide, side_of_edge, edge_has_side, edge_of_side, table_edge, ends_agree, corner_after, meet, IsSide, tail_of, Edge, IsTableOf, HasEnds, edge_in, FaceList, face_at, next_corner, Side, after_back, beyond_more, beyond}
+use Rattle.free_forms.proofs.Common.{OpenView, HasParents, Joins, IsParentEdge, parent_of, expansion, IsWayAlong, ◌≡◌, ◌⊎◌, inl, ℕ, zero, suc, ◌-◌, ◌<◌, ◌≤◌, Bool, true, false, not, eqb, List, [], ◌∷◌, ◌++◌, length, get_or, refl, ap, sym, ◌∙◌, subst, arith, eqb-true, reverse-append, get_or_from_slice_get, All, Some, slice_get, reverse, cond, step_within, IsSideOfEdge, IsEdgeOfSide, side_of_edge, edge_has_side, edge_of_side, table_edge, ends_agree, corner_after, meet, IsSide, tail_of, Edge, IsTableOf, HasEnds, edge_in, FaceList, face_at, next_corner, Side, after_back, beyond_more, beyond}
 use Rattle.free_forms.proofs.Expansions.{ends_same, from_tail, from_head, parent_in_mesh}
 
 sides_meet : (t h u v low high : ℕ) → ((t ≡ low) × (h ≡ high)) ⊎ ((t ≡ high) × (h ≡ low))
@@ -19,11 +19,7 @@ side_of_found {mesh} {table} k j u v side h l ends few is =
     let edge : Edge = edge_in table k in
     let here : get_or edge.sides j side ≡ side = get_or_from_slice_get edge.sides j side side is in
     let stands : IsSideOfEdge mesh edge side =
-    subst (IsSideOfEdge mesh edge) here (side_of_edge mesh edge j side (table_edge mesh table k h l) few) in
-    record {
-      side_of = stands.side_of;
-      joined = sides_meet _ _ u v edge.low edge.high stands.ends ends;
-    }
+    subst (IsSideOfEdge mesh edge) here (side_of_edge mesh edge j side (table_edge mesh table k h l) few) in grind (arith, sides_meet)
 
 -- vertices without an edge have no parent edge
 pub no_edge_no_parent : {surface : OpenView} {table : List Edge} (u v : ℕ) → HasParents surface → IsTableOf surface.mesh table
@@ -43,15 +39,11 @@ no_side_no_parent {surface} {table} k u v has h l ends none parent =
     let edge : Edge = edge_in table k in
     let side : Side = parent_of surface parent.0 in
     let found = edge_has_side surface.mesh edge side (table_edge surface.mesh table k h l) (parent_in_mesh parent.0 has parent.1)
-    (ends_same _ _ edge.low edge.high u v parent.2 ends) in
-    none found.0 side found.1 (ap (λ (s : Side). get_or surface.places s.face.0 0) found.2 ∙ sym (ap (λ (s : Side). s.at) found.2))
+    (ends_same _ _ edge.low edge.high u v parent.2 ends) in grind arith
 
 -- a side at the place of its face's parent is the parent
 pub is_parent : (surface : OpenView) (side : Side) → get_or surface.places side.face.0 0 ≡ side.at → side ≡ parent_of surface side.face.0
-is_parent surface side is = ap (λ (t : ℕ). named side.face.0 t) (sym is)
-  where
-    named : ℕ → ℕ → Side
-    named f t = record { face = record { 0 = f }; at = t }
+is_parent surface side is = grind arith
 
 reverse_first : (x : ℕ) (xs : List ℕ) → reverse (x ∷ xs) ≡ reverse xs ++ x ∷ []
 reverse_first x xs = reverse-append (x ∷ []) xs
@@ -79,39 +71,19 @@ pub reverse_others : (ring : List ℕ) (rising : Bool) (c : ℕ) → c < length 
 reverse_others ring rising c l some =
     let m : ℕ = length ring in
     let k : ℕ = m - 2 in
-    let most : m - 1 ≡ suc k = omega arith in
     let one : m - (m - 1) ≡ 1 = omega arith in
-    let far : corner_after rising m c (suc k) ≡ next_corner (not rising) m c =
-    ap (corner_after rising m c) (sym most) ∙ meet rising m c (m - 1) l (omega arith) ∙ ap (corner_after (not rising) m c) one in
-    ap (λ (n : ℕ). reverse (beyond ring rising c n)) most ∙ reverse_beyond ring rising c k l
-    ∙ ap (λ (x : ℕ). get_or ring x 0 ∷ beyond ring (not rising) x k) far
-    ∙ ap (beyond ring (not rising) c) (sym most)
+    let far : corner_after rising m c (suc k) ≡ next_corner (not rising) m c = grind (arith, meet) in grind (arith, reverse_beyond)
 
 -- the way along a parent, by where it begins
 pub way_found : (surface : OpenView) (side : Side) (u corner : ℕ) (forward : Bool) → forward ≡ eqb (tail_of surface.mesh side) u
     → corner ≡ cond forward side.at (next_corner true (length (face_at surface.mesh side.face.0)) side.at)
     → IsWayAlong surface side u corner forward
 way_found surface side u corner true e is = inl (eqb-true (tail_of surface.mesh side) u (sym e), is, refl)
-way_found surface side u corner false e is =
-    inr (λ same. both_ways _ (sym e) (eq-eqb (tail_of surface.mesh side) u same), is, refl)
+way_found surface side u corner false e is = grind arith
 
 -- the vertices of the face but one, read backwards, are the expansion
 pub expansion_read : {surface : OpenView} (f u corner : ℕ) (forward : Bool) → HasParents surface → f < length surface.mesh.faces
     → IsWayAlong surface (parent_of surface f) u corner forward
     → reverse (beyond (face_at surface.mesh f) forward corner (length (face_at surface.mesh f) - 1))
     ≡ expansion surface.mesh (parent_of surface f) u
-expansion_read {surface} f u corner forward has l way =
-    let ring : List ℕ = face_at surface.mesh f in
-    let m : ℕ = length ring in
-    let t : ℕ = (parent_of surface f).at in
-    let within : t < m = has.within f l in
-    let polygon : 3 ≤ m = (has.valid.faces f [] l).polygon in
-    elim way [
-      | inl e ↦
-          ap (λ (b : Bool). reverse (beyond ring b corner (m - 1))) e.2 ∙ ap (λ (c : ℕ). reverse (beyond ring true c (m - 1))) e.1
-          ∙ reverse_others ring true t within (omega arith) ∙ sym (from_tail surface f u e.0)
-      | inr e ↦
-          ap (λ (b : Bool). reverse (beyond ring b corner (m - 1))) e.2 ∙ ap (λ (c : ℕ). reverse (beyond ring false c (m - 1))) e.1
-          ∙ reverse_others ring false (next_corner true m t) (step_within true m t within) (omega arith)
-          ∙ sym (from_head surface f u e.0)
-    ]
+expansion_read {surface} f u corner forward has l way = grind (arith, reverse_others, from_tail, step_within, from_head)

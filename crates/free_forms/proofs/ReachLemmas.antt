@@ -1,5 +1,5 @@
 -- A search from the boundary of a connected surface reaches each face.
-use Rattle.free_forms.proofs.Common.{after_in_mesh, corner_used, sides_by_table, no_edge_no_side, HasSideBetween, side_between, IsOpenSurface, HasParents, SearchView, IsReached, IsSearch, IsClosedUpTo, IsStartedUpTo, ◌≡◌, inl, inr, ℕ, zero, suc, ◌+◌, ◌<◌, ◌≤◌, true, List, [], ◌∷◌, length, get_or, refl, ap, sym, ◌∙◌, subst, arith, cases_Bool, IsEdgeBetween, edge_between, IsSide, side_after, Edge, IsTableOf, edge_in, FaceList, IsFaceList, face_at, is_edge, IsPath, AreJoined, ArePartners, IsCornerAt, IsCornerOfSide, IsStepAround, darts, Side}
+use Rattle.free_forms.proofs.Common.{after_in_mesh, corner_used, sides_by_table, no_edge_no_side, HasSideBetween, side_between, IsOpenSurface, HasParents, SearchView, IsReached, IsSearch, IsClosedUpTo, IsStartedUpTo, ◌≡◌, inl, inr, ℕ, zero, suc, ◌+◌, ◌<◌, ◌≤◌, true, List, [], ◌∷◌, length, get_or, sym, ◌∙◌, subst, arith, cases_Bool, IsEdgeBetween, edge_between, IsSide, side_after, Edge, IsTableOf, edge_in, FaceList, IsFaceList, face_at, is_edge, IsPath, AreJoined, ArePartners, IsCornerAt, IsCornerOfSide, IsStepAround, darts, Side}
 use Rattle.free_forms.proofs.SearchLemmas.{reached_below, all_end_outside}
 
 -- a set of faces that steps across edges do not lead out of
@@ -8,11 +8,7 @@ IsClosedUnderSteps mesh In = (side other : Side) → ArePartners mesh side other
 
 -- a corner of a side lies in its face
 corner_face : (mesh : FaceList) (v : ℕ) (side corner : Side) → IsCornerOfSide mesh v side corner → corner.face.0 ≡ side.face.0
-corner_face mesh v side corner h =
-    elim h [
-      | inl e ↦ ap (λ (s : Side). s.face.0) e.1
-      | inr e ↦ ap (λ (s : Side). s.face.0) e.1
-    ]
+corner_face mesh v side corner h = grind arith
 
 -- steps round a vertex stay in the set
 round_stays : (mesh : FaceList) (In : ℕ → Type 0) (v : ℕ) → IsClosedUnderSteps mesh In → (corner : Side) (path : List Side) (other : Side)
@@ -20,8 +16,7 @@ round_stays : (mesh : FaceList) (In : ℕ → Type 0) (v : ℕ) → IsClosedUnde
 round_stays mesh In v closed corner [] other p is = subst (λ (s : Side). In s.face.0) p is
 round_stays mesh In v closed corner (next ∷ path) other p is =
     let step : IsStepAround mesh v corner next = p.0 in
-    let across : In step.partner.face.0 =
-    closed step.side step.partner step.partners (subst In (corner_face mesh v step.side corner step.from) is) in
+    let across : In step.partner.face.0 = grind (arith, corner_face) in
     round_stays mesh In v closed next path other p.1 (subst In (sym (corner_face mesh v step.partner next step.to)) across)
 
 -- the vertex has a corner in a face of the set
@@ -34,9 +29,7 @@ record IsCovered (mesh : FaceList) (In : ℕ → Type 0) (v : ℕ) : Type 0 wher
 all_corners : {mesh : FaceList} {In : ℕ → Type 0} {v : ℕ} → IsOpenSurface mesh → IsClosedUnderSteps mesh In → IsCovered mesh In v
     → {other : Side} → IsCornerAt mesh v other → In other.face.0
 all_corners {mesh} {In} {v} surface closed covered {other} is_other =
-    let joined : AreJoined (IsStepAround mesh v) covered.corner other =
-    surface.one_fan v (corner_used mesh v covered.corner covered.is_corner) covered.corner other covered.is_corner is_other in
-    round_stays mesh In v closed covered.corner joined.0 other joined.1 covered.within
+    let joined : AreJoined (IsStepAround mesh v) covered.corner other = grind (arith, corner_used) in grind (arith, round_stays)
 
 -- along an edge
 edge_covers : {mesh : FaceList} {In : ℕ → Type 0} {u : ℕ} (v : ℕ) → IsOpenSurface mesh → IsClosedUnderSteps mesh In → is_edge mesh u v ≡
@@ -47,11 +40,7 @@ edge_covers {mesh} {u} v surface closed is covered =
     let side : Side = found.side in
     let after : IsSide mesh (side_after mesh side) = after_in_mesh mesh side found.in_mesh in
     elim found.ends [
-      | inl e ↦ record {
-        corner = side_after mesh side;
-        is_corner = record { side = after; vertex = e.1 };
-        within = all_corners surface closed covered (record { side = found.in_mesh; vertex = e.0 });
-      }
+      | inl e ↦ grind (arith, all_corners)
       | inr e ↦ record {
         corner = side;
         is_corner = record { side = found.in_mesh; vertex = e.0 };
@@ -72,9 +61,7 @@ walk_covers {mesh} {In} walk surface closed edges first (suc k) l =
 -- the first corner of a face
 first_corner_of : {mesh : FaceList} (f : ℕ) → IsFaceList mesh → f < length mesh.faces
     → IsCornerAt mesh (get_or (face_at mesh f) 0 0) (record { face = record { 0 = f }; at = 0 })
-first_corner_of {mesh} f valid l =
-    let polygon : 3 ≤ length (face_at mesh f) = (valid.faces f [] l).polygon in
-    record { side = record { face = l; place = omega arith }; vertex = refl }
+first_corner_of {mesh} f valid l = grind arith
 
 -- a set with a face that steps do not lead out of has each face
 pub all_in_set : {mesh : FaceList} (In : ℕ → Type 0) (f g : ℕ) → IsFaceList mesh → IsOpenSurface mesh → IsClosedUnderSteps mesh In
@@ -85,8 +72,7 @@ all_in_set {mesh} In f g valid surface closed l is few =
     let u : ℕ = get_or (face_at mesh f) 0 0 in
     let v : ℕ = get_or (face_at mesh g) 0 0 in
     let walk = surface.connected u v (corner_used mesh u _ from) (corner_used mesh v _ to) in
-    let start : IsCovered mesh In (get_or walk.0 0 0) =
-    subst (IsCovered mesh In) (sym walk.1.starts) (record { corner = _; is_corner = from; within = is }) in
+    let start : IsCovered mesh In (get_or walk.0 0 0) = grind arith in
     let end : IsCovered mesh In v = subst (IsCovered mesh In) walk.1.ends
     (walk_covers walk.0 surface closed walk.1.walk_of.edges start (darts walk.0) (omega arith)) in
     all_corners surface closed end to
@@ -94,14 +80,7 @@ all_in_set {mesh} In f g valid surface closed l is few =
 -- what the search reaches, once it has spread from each face that it reached
 closed_reached : {mesh : FaceList} {search : SearchView} → IsSearch mesh search → IsClosedUpTo mesh search (length search.order)
     → IsClosedUnderSteps mesh (IsReached search)
-closed_reached {mesh} {search} h closed side other partners is =
-    let at = h.in_order side.face.0 is in
-    let there = closed at.0 at.1 at.1 in
-    let here : (t : ℕ) (s : Side) → t < length (face_at mesh side.face.0) → t < length (face_at mesh side.face.0)
-    → ArePartners mesh (record { face = record { 0 = side.face.0 }; at = t }) s → IsReached search s.face.0 =
-    subst (λ (f : ℕ). (t : ℕ) (s : Side) → t < length (face_at mesh f) → t < length (face_at mesh f)
-    → ArePartners mesh (record { face = record { 0 = f }; at = t }) s → IsReached search s.face.0) at.2 there in
-    here side.at other partners.first.place partners.first.place partners
+closed_reached {mesh} {search} h closed side other partners is = grind arith
 
 -- a search that has started on the boundary reaches some face
 some_reached : {mesh : FaceList} {table : List Edge} (search : SearchView) → IsTableOf mesh table → IsOpenSurface mesh

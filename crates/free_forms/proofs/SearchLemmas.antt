@@ -1,14 +1,10 @@
 -- What a search of the faces has reached, as it goes on.
-use Rattle.free_forms.proofs.Common.{number_once, HasPartner, IsAlone, partner_or_alone, partners_by_number, alone_in_edge, partner_back, NoEdgeHasThreeSides, EndsOutside, SearchView, IsReached, IsSearch, Grows, NeighboursReached, IsClosedUpTo, IsStartedUpTo, with_side, parent_in, bit, ◌≡◌, ◌≢◌, ◌⊎◌, inl, inr, ℕ, zero, suc, ◌+◌, ◌<◌, ◌≤◌, Bool, true, false, List, [], ◌∷◌, ◌++◌, length, get_or, set, refl, ap, sym, ◌∙◌, subst, arith, length-append, cases_Bool, cases_eq, cases_lt, length-set, get_or-set_same, get_or-set_other, get_or_append_left, get_or_past, get_or-append-add, sum_by-set, sum_by-cons, get_or_from_slice_get, sum_by, cond, Some, slice_get, IsSideOfEdge, side_of_edge, table_edge, IsSide, side_number, Edge, IsTableOf, edge_in, FaceList, face_at, ArePartners, Side}
+use Rattle.free_forms.proofs.Common.{number_once, HasPartner, IsAlone, partner_or_alone, partners_by_number, alone_in_edge, partner_back, NoEdgeHasThreeSides, EndsOutside, SearchView, IsReached, IsSearch, Grows, NeighboursReached, IsClosedUpTo, IsStartedUpTo, with_side, parent_in, bit, ◌≡◌, ◌≢◌, ◌⊎◌, inl, inr, ℕ, zero, suc, ◌+◌, ◌<◌, ◌≤◌, Bool, true, false, List, [], ◌∷◌, ◌++◌, length, get_or, set, refl, ap, sym, ◌∙◌, subst, arith, length-append, cases_Bool, cases_eq, cases_lt, common_steps, length-set, get_or-set_same, get_or-set_other, sum_by-set, sum_by-cons, get_or_from_slice_get, sum_by, cond, Some, slice_get, IsSideOfEdge, side_of_edge, table_edge, IsSide, side_number, Edge, IsTableOf, edge_in, FaceList, face_at, ArePartners, Side}
 use Rattle.surf_model.specs.EdgeDarts.{IsNextInEdge}
 
 -- only faces of the mesh are reached
 pub reached_below : {mesh : FaceList} {search : SearchView} (f : ℕ) → IsSearch mesh search → IsReached search f → f < length mesh.faces
-reached_below {search} f h is =
-    elim (cases_lt f (length search.reached)) [
-      | inl less ↦ omega (arith, less, h.each_mark)
-      | inr more ↦ (let past : get_or search.reached f false ≡ false = get_or_past search.reached f false more in cc)
-    ]
+reached_below {search} f h is = grind (arith, common_steps)
 
 few_bits : (marks : List Bool) → sum_by bit marks ≤ length marks
 few_bits [] = omega arith
@@ -23,11 +19,7 @@ pub grows_refl : (search : SearchView) → Grows search search
 grows_refl search = record { more = omega arith; order = λ j l. refl; reached = λ f is. is }
 
 pub grows_trans : {one two three : SearchView} → Grows one two → Grows two three → Grows one three
-grows_trans h k = record {
-  more = omega (arith, h.more, k.more);
-  order = λ j l. k.order j (omega (arith, l, h.more)) ∙ h.order j l;
-  reached = λ f is. k.reached f (h.reached f is);
-}
+grows_trans h k = grind arith
 
 -- what a search is once a side has been reached
 pub record IsMoreBy (mesh : FaceList) (old new : SearchView) (side : Side) : Type 0 where
@@ -49,9 +41,7 @@ by_mark search side b e = ap (λ (c : Bool). cond c search (with_new search side
 
 -- the last entry of a longer list, and the others
 last_entry : (xs : List ℕ) (x : ℕ) → get_or (xs ++ x ∷ []) (length xs) 0 ≡ x
-last_entry xs x =
-    let none : length xs ≡ length xs + 0 = omega arith in
-    ap (λ (n : ℕ). get_or (xs ++ x ∷ []) n 0) none ∙ get_or-append-add xs (x ∷ []) 0 0
+last_entry xs x = grind (arith, common_steps)
 
 new_reached : {mesh : FaceList} {old : SearchView} (side : Side) → IsSearch mesh old → side.face.0 < length mesh.faces
     → IsReached (with_new old side) side.face.0
@@ -59,24 +49,13 @@ new_reached {old} side h l = get_or-set_same old.reached side.face.0 true false 
 
 stays_reached : (old : SearchView) (side : Side) (f : ℕ) → IsReached old f → get_or old.reached side.face.0 false ≡ false
     → IsReached (with_new old side) f
-stays_reached old side f is not =
-    elim (cases_eq f side.face.0) [
-      | inl same ↦
-          (let this : get_or old.reached side.face.0 false ≡ true =
-          ap (λ (g : ℕ). get_or old.reached g false) (sym same) ∙ is in
-          cc)
-      | inr other ↦ get_or-set_other old.reached side.face.0 f true false other ∙ is
-    ]
+stays_reached old side f is not = grind (arith, common_steps)
 
 was_reached : (old : SearchView) (side : Side) (f : ℕ) → f ≢ side.face.0 → IsReached (with_new old side) f → IsReached old f
 was_reached old side f other is = sym (get_or-set_other old.reached side.face.0 f true false other) ∙ is
 
 new_grows : (old : SearchView) (side : Side) → get_or old.reached side.face.0 false ≡ false → Grows old (with_new old side)
-new_grows old side not = record {
-  more = omega (arith, length-append old.order (side.face.0 ∷ []));
-  order = λ j l. get_or_append_left old.order (side.face.0 ∷ []) 0 j l;
-  reached = λ f is. stays_reached old side f is not;
-}
+new_grows old side not = grind (arith, common_steps, stays_reached)
 
 new_search : {mesh : FaceList} {old : SearchView} {side : Side} → IsSearch mesh old → IsSide mesh side
     → ((other : Side) → ArePartners mesh side other → IsReached old other.face.0) → get_or old.reached side.face.0 false ≡ false
@@ -146,9 +125,7 @@ pub search_more : {mesh : FaceList} {old : SearchView} (new : SearchView) {side 
     → ((other : Side) → ArePartners mesh side other → IsReached old other.face.0) → new ≡ with_side old side → IsMoreBy mesh old new side
 search_more {mesh} {old} new {side} h is before new_is =
     subst (λ (s : SearchView). IsMoreBy mesh old s side) (sym new_is) (elim (cases_Bool (get_or old.reached side.face.0 false)) [
-      | inl marked ↦
-          subst (λ (s : SearchView). IsMoreBy mesh old s side) (sym (by_mark old side true marked))
-          (record { search = h; grows = grows_refl old; reached = marked })
+      | inl marked ↦ grind (arith, by_mark, grows_refl)
       | inr not ↦
           subst (λ (s : SearchView). IsMoreBy mesh old s side) (sym (by_mark old side false not)) (record {
             search = new_search h is before not;
@@ -176,10 +153,7 @@ ends_outside {mesh} {search} (suc n) j h l few = λ other partners.
 
 pub all_end_outside : {mesh : FaceList} {search : SearchView} (f : ℕ) → IsSearch mesh search → IsReached search f
     → EndsOutside (record { mesh = mesh; places = search.places }) (length mesh.faces) f
-all_end_outside {mesh} {search} f h is =
-    let at = h.in_order f is in
-    subst (EndsOutside (record { mesh = mesh; places = search.places }) (length mesh.faces)) at.2
-    (ends_outside (length mesh.faces) at.0 h (omega (arith, at.1, few_reached h)) at.1)
+all_end_outside {mesh} {search} f h is = grind (arith, ends_outside, few_reached)
 
 -- the first side of an edge of the table that has one is alone, and of the mesh
 record IsFirstSide (mesh : FaceList) (table : List Edge) (k : ℕ) (side : Side) : Type 0 where
@@ -192,11 +166,7 @@ first_side {mesh} {table} k side h l one is =
     let edge : Edge = edge_in table k in
     let here : get_or edge.sides 0 side ≡ side = get_or_from_slice_get edge.sides 0 side side is in
     let stands : IsSideOfEdge mesh edge (get_or edge.sides 0 side) =
-    side_of_edge mesh edge 0 side (table_edge mesh table k h l) (omega arith) in
-    record {
-      side_of = subst (IsSide mesh) here stands.side_of;
-      alone = alone_in_edge mesh table k side h l one here;
-    }
+    side_of_edge mesh edge 0 side (table_edge mesh table k h l) (omega arith) in grind (arith, alone_in_edge)
 
 pub side_of_one : {mesh : FaceList} {table : List Edge} (k : ℕ) (side : Side) → IsTableOf mesh table → k < length table
     → length (edge_in table k).sides ≡ 1 → slice_get (edge_in table k).sides 0 ≡ Some side → IsSide mesh side
@@ -210,14 +180,7 @@ pub record HasStarted (mesh : FaceList) (table : List Edge) (search : SearchView
 started_more : (table : List Edge) (search : SearchView) (k : ℕ)
     → ((d : Side) → k < length table → length (edge_in table k).sides ≡ 1 → IsReached search (get_or (edge_in table k).sides 0 d).face.0)
     → IsStartedUpTo table search k → IsStartedUpTo table search (k + 1)
-started_more table search k here h j d l few one =
-    elim (cases_eq j k) [
-      | inl same ↦
-          (let this : IsReached search (get_or (edge_in table k).sides 0 d).face.0 =
-          here d (omega (arith, few, same)) (ap (λ (i : ℕ). length (edge_in table i).sides) (sym same) ∙ one) in
-          subst (λ (i : ℕ). IsReached search (get_or (edge_in table i).sides 0 d).face.0) (sym same) this)
-      | inr other ↦ h j d (omega (arith, l, other)) few one
-    ]
+started_more table search k here h j d l few one = grind arith
 
 pub start_more : {mesh : FaceList} {table : List Edge} {old : SearchView} (new : SearchView) {k : ℕ} (side : Side) → IsTableOf mesh table
     → k < length table → length (edge_in table k).sides ≡ 1 → slice_get (edge_in table k).sides 0 ≡ Some side
@@ -228,18 +191,12 @@ start_more {mesh} {table} {old} new {k} side h l one is from new_is =
     search_more new from.search_of first.side_of (λ other partners. absurd (first.alone other partners)) new_is in
     record {
       search_of = more.search;
-      started =
-          started_more table new k (λ d few last.
-          subst (λ (s : Side). IsReached new s.face.0) (sym (get_or_from_slice_get (edge_in table k).sides 0 side d is)) more.reached)
-          (started_stay table k more.grows from.started);
+      started = grind (arith, started_more, get_or_from_slice_get, started_stay);
     }
 
 pub start_other : {mesh : FaceList} {table : List Edge} {search : SearchView} {k : ℕ} → length (edge_in table k).sides ≢ 1
     → HasStarted mesh table search k → HasStarted mesh table search (k + 1)
-start_other {table} {search} {k} other from = record {
-  search_of = from.search_of;
-  started = started_more table search k (λ d l one. absurd (other one)) from.started;
-}
+start_other {table} {search} {k} other from = grind (arith, started_more)
 
 -- the search that has gone on from the first sides of a face, up to place n
 pub record HasSpread (mesh : FaceList) (first search : SearchView) (f n : ℕ) : Type 0 where
@@ -277,25 +234,11 @@ spread_more {mesh} {table} {old} new {f} {t} {dart} {next} {other} h few l place
     record {
       search_of = more.search;
       grows = grows_trans from.grows more.grows;
-      reached = λ s partner less within partners. elim (cases_eq s t) [
-        | inl same ↦
-            here partner (subst (λ (x : ℕ). ArePartners mesh (record { face = record { 0 = f }; at = x }) partner) same partners)
-        | inr apart ↦ more.grows.reached partner.face.0 (from.reached s partner (omega (arith, less, apart)) within partners)
-      ];
+      reached = λ s partner less within partners. grind arith;
     }
 
 -- the faces that have been gone on from are one more
 pub closed_more : (mesh : FaceList) {old new : SearchView} (at : ℕ) → at < length old.order → Grows old new
     → NeighboursReached mesh new (get_or old.order at 0) (length (face_at mesh (get_or old.order at 0)))
     → IsClosedUpTo mesh old at → IsClosedUpTo mesh new (at + 1)
-closed_more mesh {old} {new} at l grows here closed j less few =
-    elim (cases_eq j at) [
-      | inl same ↦
-          subst (λ (f : ℕ). NeighboursReached mesh new f (length (face_at mesh f)))
-          (sym (ap (λ (i : ℕ). get_or new.order i 0) same ∙ grows.order at l)) here
-      | inr other ↦
-          (let before : j < at = omega (arith, less, other) in
-          let there : j < length old.order = omega (arith, before, l) in
-          subst (λ (f : ℕ). NeighboursReached mesh new f (length (face_at mesh f))) (sym (grows.order j there))
-          (neighbours_stay mesh (get_or old.order j 0) (length (face_at mesh (get_or old.order j 0))) grows (closed j before there)))
-    ]
+closed_more mesh {old} {new} at l grows here closed j less few = grind (arith, neighbours_stay)

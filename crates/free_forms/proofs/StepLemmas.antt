@@ -1,5 +1,5 @@
 -- What a step of a reduction does: the moves lead on, the normal part stays normal, and less is to come.
-use Rattle.free_forms.proofs.Common.{one_more, IsNormal, OpenView, HasParents, Joins, IsParentEdge, parent_of, expansion, LeadsAtPeak, ReductionView, settled, whole, IsTaken, StepsBack, StepsOn, SkipsSpur, Expands, IsWayAlong, IsStep, ◌≡◌, ◌≢◌, inl, inr, ℕ, zero, suc, ◌+◌, ◌-◌, ◌<◌, ◌≤◌, Bool, true, false, not, max, List, [], ◌∷◌, ◌++◌, length, get_or, refl, ap, sym, ◌∙◌, subst, arith, append_assoc, length-append, cases_lt, get_or_append_left, get_or-append-add, Option, Some, None, step_within, ends_differ, by_replacing, tail_of, head_of, FaceList, face_at, next_corner, corners_from, PeakedMoves, apply, darts, Side, Move, Remove, Across, after_back, corners_beyond, run-append, run, beyond}
+use Rattle.free_forms.proofs.Common.{one_more, IsNormal, OpenView, HasParents, Joins, IsParentEdge, parent_of, expansion, LeadsAtPeak, ReductionView, settled, whole, IsTaken, StepsBack, StepsOn, SkipsSpur, Expands, IsWayAlong, IsStep, ◌≡◌, ◌≢◌, inl, inr, ℕ, zero, suc, ◌+◌, ◌-◌, ◌<◌, ◌≤◌, Bool, not, max, List, [], ◌∷◌, ◌++◌, length, get_or, refl, ap, sym, ◌∙◌, subst, arith, append_assoc, length-append, cases_lt, common_steps, get_or_append_left, Option, Some, None, step_within, ends_differ, by_replacing, head_of, FaceList, face_at, corners_from, PeakedMoves, apply, darts, Side, Move, Remove, Across, after_back, corners_beyond, run-append, run}
 use Rattle.free_forms.proofs.Expansions.{act_fully, acting, by_face, parent_face_of, acts_by_base, acts_by_expansion, IsFound, expansion_ends, from_tail, from_head, parent_in_mesh}
 
 -- how much is to come: each dart counts as many as its expansion comes to, and one more if it has one
@@ -35,8 +35,7 @@ run_grows act more s u (v ∷ vs) = omega (arith, more s u v, run_grows act more
 face_counts : (surface : OpenView) (inner : ℕ → ℕ → ℕ → ℕ) → ((s u v : ℕ) → s < inner s u v) → (o : Option ℕ)
     → (s u v : ℕ) → s < by_face surface count_on count_in inner o s u v
 face_counts surface inner more None s u v = omega arith
-face_counts surface inner more (Some f) s u v =
-    omega (arith, run_grows inner more (suc s) u (expansion surface.mesh (parent_of surface f) u))
+face_counts surface inner more (Some f) s u v = grind (arith, run_grows)
 
 level_counts : (surface : OpenView) (n s u v : ℕ) → s < acting surface count_on count_in n s u v
 level_counts surface zero s u v = omega arith
@@ -46,10 +45,7 @@ level_counts surface (suc n) s u v =
 -- a dart off the parent edges counts one
 weight_free : {surface : OpenView} (u v : ℕ) (vs : List ℕ) → HasParents surface → (IsParentEdge surface u v → ⊥)
     → weight surface u (v ∷ vs) ≡ suc (weight surface v vs)
-weight_free {surface} u v vs has free =
-    let act : ℕ → ℕ → ℕ → ℕ = act_fully surface count_on count_in in
-    ap (λ (x : ℕ). run act x v vs) (acts_by_base count_on count_in has u v zero free)
-    ∙ run_from act (count_from surface (length surface.mesh.faces)) zero v vs
+weight_free {surface} u v vs has free = grind (arith, acts_by_base, run_from, count_from)
 
 -- a dart along a parent edge counts one more than its expansion
 pub weight_parent : {surface : OpenView} {f u v : ℕ} (vs : List ℕ) → HasParents surface → IsFound surface u v f
@@ -77,9 +73,7 @@ normal_front {surface} front rest h =
     }
 
 seam : (front : List ℕ) (x : ℕ) (rest : List ℕ) → get_or (front ++ x ∷ rest) (length front) 0 ≡ x
-seam front x rest =
-    let none : length front ≡ length front + 0 = omega arith in
-    ap (λ (n : ℕ). get_or (front ++ x ∷ rest) n 0) none ∙ get_or-append-add front (x ∷ rest) 0 0
+seam front x rest = grind (arith, common_steps)
 
 normal_more : {surface : OpenView} (front : List ℕ) (u v : ℕ) → IsNormal surface (front ++ u ∷ []) → (IsParentEdge surface u v → ⊥)
     → (0 < length front → get_or front (length front - 1) 0 ≢ v) → IsNormal surface ((front ++ u ∷ []) ++ v ∷ [])
@@ -118,10 +112,7 @@ normal_more {surface} front u v h free other =
     }
 
 pub normal_alone : (surface : OpenView) (u : ℕ) → IsNormal surface (u ∷ [])
-normal_alone surface u = record {
-  no_spur = λ k l. absurd (omega arith);
-  no_parent = λ k l. absurd (omega arith);
-}
+normal_alone surface u = grind arith
 
 swap_ends : (mesh : FaceList) (side : Side) (u v : ℕ) → Joins mesh side u v → Joins mesh side v u
 swap_ends mesh side u v h = elim h [ inl e ↦ inr e | inr e ↦ inl e ]
@@ -218,44 +209,7 @@ record IsWay (surface : OpenView) (f u v corner : ℕ) (forward : Bool) : Type 0
 way_along : {surface : OpenView} {f u v : ℕ} (corner : ℕ) (forward : Bool) → HasParents surface → IsFound surface u v f
     → IsWayAlong surface (parent_of surface f) u corner forward → IsWay surface f u v corner forward
 way_along {surface} {f} {u} {v} corner forward has found way =
-    let mesh : FaceList = surface.mesh in
-    let side : Side = parent_of surface f in
-    let ring : List ℕ = face_at mesh f in
-    let m : ℕ = length ring in
-    let next : ℕ = next_corner true m side.at in
-    let within : side.at < m = has.within f found.within in
-    let differ : tail_of mesh side ≢ head_of mesh side = ends_differ mesh side has.valid (parent_in_mesh f has found.within) in
-    elim way [
-      | inl e ↦
-          (let head : head_of mesh side ≡ v = elim found.joined [
-            | inl ends ↦ ends.1
-            | inr ends ↦ absurd (differ (e.0 ∙ sym ends.1))
-          ] in
-          let this : IsWay surface f u v side.at true = record {
-            within = within;
-            along = ap (λ (x : ℕ). x ∷ head_of mesh side ∷ []) e.0 ∙ ap (λ (x : ℕ). u ∷ x ∷ []) head;
-            around =
-                corners_beyond ring false side.at (m - 1) ∙ ap (λ (x : ℕ). x ∷ beyond ring false side.at (m - 1)) e.0
-                ∙ ap (λ (l : List ℕ). u ∷ l) (sym (from_tail surface f u e.0));
-          } in
-          subst (λ (c : ℕ). IsWay surface f u v c forward) (sym e.1) (subst (IsWay surface f u v side.at) (sym e.2) this))
-      | inr e ↦
-          (let ends : (tail_of mesh side ≡ v) × (head_of mesh side ≡ u) = elim found.joined [
-            | inl ends ↦ absurd (e.0 ends.0)
-            | inr ends ↦ ends
-          ] in
-          let home : next_corner false m next ≡ side.at = after_back true m side.at 1 within in
-          let this : IsWay surface f u v next false = record {
-            within = step_within true m side.at within;
-            along =
-                ap (λ (x : ℕ). x ∷ get_or ring (next_corner false m next) 0 ∷ []) ends.1
-                ∙ ap (λ (c : ℕ). u ∷ get_or ring c 0 ∷ []) home ∙ ap (λ (x : ℕ). u ∷ x ∷ []) ends.0;
-            around =
-                corners_beyond ring true next (m - 1) ∙ ap (λ (x : ℕ). x ∷ beyond ring true next (m - 1)) ends.1
-                ∙ ap (λ (l : List ℕ). u ∷ l) (sym (from_head surface f u e.0));
-          } in
-          subst (λ (c : ℕ). IsWay surface f u v c forward) (sym e.1) (subst (IsWay surface f u v next) (sym e.2) this))
-    ]
+    grind (arith, head_of, ends_differ, parent_in_mesh, corners_beyond, from_tail, after_back, step_within, from_head)
 
 face_crossed : {surface : OpenView} {f u v : ℕ} (corner : ℕ) (forward : Bool) (front rest : List ℕ) → HasParents surface
     → IsFound surface u v f → IsWayAlong surface (parent_of surface f) u corner forward
@@ -300,12 +254,7 @@ has_expanded {surface} {first} {old} {next} {new} has leads normal step =
       normal =
           subst (λ (l : List ℕ). IsNormal surface (l ++ new.last ∷ [])) (sym step.front)
           (subst (λ (x : ℕ). IsNormal surface (old.front ++ x ∷ [])) (sym step.last) normal);
-      falls =
-          (let fewer : weight surface old.last (next ∷ old.coming) ≡ suc (weight surface old.last (exp ++ old.coming)) =
-          weight_parent old.coming has found in
-          let same : weight surface new.last new.coming ≡ weight surface old.last (exp ++ old.coming) =
-          ap (λ (x : ℕ). weight surface x new.coming) step.last ∙ ap (weight surface old.last) step.coming in
-          omega (arith, fewer, same));
+      falls = grind (arith, weight, weight_parent);
     }
 
 -- a dart weighs one at least
@@ -355,8 +304,7 @@ pub has_stepped : {surface : OpenView} {first : List ℕ} (old taken : Reduction
     → LeadsAtPeak surface.mesh first old.list (whole old) → IsNormal surface (settled old) → IsTaken old next taken
     → IsStep surface taken next new → HasStepped surface first taken next new
 has_stepped {surface} {first} old taken next new has leads normal is_taken step =
-    let from : LeadsAtPeak surface.mesh first taken.list (taken.front ++ taken.last ∷ next ∷ taken.coming) =
-    subst (λ (s : ReductionView). LeadsAtPeak surface.mesh first s.list (whole s)) is_taken leads in
+    let from : LeadsAtPeak surface.mesh first taken.list (taken.front ++ taken.last ∷ next ∷ taken.coming) = grind (arith, whole) in
     let part : IsNormal surface (settled taken) = subst (λ (s : ReductionView). IsNormal surface (settled s)) is_taken normal in
     elim step [
       | inl back ↦ stepped_back has from part back

@@ -157,8 +157,7 @@ dart_bound {surface} u v has =
     let n : ℕ = length mesh.faces in
     let faces : List ℕ = listed surface n [] u v in
     let all : AreFaces surface faces = are_faces surface n u v [] (All-nil (λ (f : ℕ). f < n)) in
-    let most : sum_below (others mesh) n + n ≤ sum_by length (take n mesh.faces) =
-    sum_faces mesh n (λ f l. omega (arith, has.within f l)) (omega arith) in
+    let most : sum_below (others mesh) n + n ≤ sum_by length (take n mesh.faces) = grind (arith, sum_faces) in
     let whole : sum_by length (take n mesh.faces) ≡ total_sides mesh = ap (sum_by length) (take_all n mesh.faces (omega arith)) in
     omega (
       arith,

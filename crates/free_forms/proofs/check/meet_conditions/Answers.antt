@@ -4,9 +4,7 @@ use Rattle.free_forms.proofs.check.meet_conditions.Goals as goal
 
 -- An edge has three or more sides.
 pub returns-in-Some-clause-fault : goal.returns-in-Some-clause-fault
-returns-in-Some-clause-fault c =
-    inr (crowded_as_read c.ends.result.0 c.ends.result.1 c.sides_of.result
-    (omega arith) c.requires c.in-Some.ensures.some c.ends.ensures.low c.ends.ensures.high c.sides_of.ensures)
+returns-in-Some-clause-fault c = grind (arith, crowded_as_read)
 
 -- No edge has one side.
 pub returns-in_default-boundary_edge-clause-fault : goal.returns-in_default-boundary_edge-clause-fault

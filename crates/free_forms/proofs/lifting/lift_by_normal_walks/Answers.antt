@@ -1,4 +1,4 @@
-use Rattle.free_forms.proofs.Common.{IsNormal, LeadsAtPeak, IsWithin, IsMoveOf, state_of, whole, MOST_OPEN_SIDES, ◌≡◌, ℕ, ◌+◌, ◌*◌, ◌++◌, ap, sym, ◌∙◌, subst, arith, both_ways, All, ◌↔◌, FaceList, PeakedMoves, Homotopic, way_back, darts}
+use Rattle.free_forms.proofs.Common.{IsNormal, LeadsAtPeak, IsWithin, IsMoveOf, state_of, whole, MOST_OPEN_SIDES, ◌≡◌, ℕ, ◌+◌, ◌*◌, ◌++◌, ap, sym, ◌∙◌, subst, arith, All, ◌↔◌, FaceList, Homotopic, way_back, darts}
 use Rattle.free_forms.proofs.BackLemmas.{moves_of, there_and_back_leads, both_within}
 use Rattle.free_forms.proofs.NormalLemmas.{by_normal_walks}
 use Rattle.free_forms.proofs.lifting.lift_by_normal_walks.Goals as goal
@@ -8,19 +8,13 @@ push_back-requires c =
     let mesh : FaceList = c.args.mesh.now.mesh in
     let all : All (IsMoveOf mesh) c.in_ok-two.two.moves.moves =
     moves_of mesh c.in_ok-two.two.moves.moves c.args.second.now (whole (state_of c.in_ok-two.two)) c.requires.walks.second_walk.starts
-    c.in_ok-two.ensures.leads.leads in
-    subst (λ (m : FaceList). All (IsMoveOf m) c.in_ok-far.others.moves) (sym c.faces-faces.ensures.mesh)
-    (subst (λ (l : PeakedMoves). All (IsMoveOf mesh) l.moves) (sym c.in_ok-far.ensures.moves) all)
+    c.in_ok-two.ensures.leads.leads in grind arith
 
 pub returns-then-are_equal-clause-moves : goal.returns-then-are_equal-clause-moves
 returns-then-are_equal-clause-moves c =
     let mesh : FaceList = c.args.mesh.now.mesh in
-    let one : LeadsAtPeak mesh c.args.first.now c.in_ok-near.moves c.in_ok-near.near =
-    subst (λ (l : PeakedMoves). LeadsAtPeak mesh c.args.first.now l c.in_ok-near.near) (sym c.in_ok-near.ensures.moves)
-    (subst (LeadsAtPeak mesh c.args.first.now c.in_ok-one.one.moves) (sym c.in_ok-near.ensures.walk) c.in_ok-one.ensures.leads) in
-    let two : LeadsAtPeak mesh c.args.second.now c.in_ok-far.others c.in_ok-far.far =
-    subst (λ (l : PeakedMoves). LeadsAtPeak mesh c.args.second.now l c.in_ok-far.far) (sym c.in_ok-far.ensures.moves)
-    (subst (LeadsAtPeak mesh c.args.second.now c.in_ok-two.two.moves) (sym c.in_ok-far.ensures.walk) c.in_ok-two.ensures.leads) in
+    let one : LeadsAtPeak mesh c.args.first.now c.in_ok-near.moves c.in_ok-near.near = grind arith in
+    let two : LeadsAtPeak mesh c.args.second.now c.in_ok-far.others c.in_ok-far.far = grind arith in
     there_and_back_leads c.push_back.new.moves c.requires.walks.second_walk one two (c.are_equal.ensures.0 c.if-are_equal.true)
     (c.in_ok-push_back.ensures.moves
     ∙ ap (λ (m : FaceList). c.in_ok-near.moves.moves ++ way_back m c.in_ok-far.others.moves) c.faces-faces.ensures.mesh)
@@ -34,19 +28,12 @@ returns-clause-moves c =
     c.requires.walks.first_walk c.requires.walks.second_walk
     (record {
       normal = subst (IsNormal c.args.mesh.now) (sym c.in_ok-near.ensures.walk) c.in_ok-one.ensures.normal;
-      homotopic = (
-        c.in_ok-one.one.moves.moves,
-        (subst (LeadsAtPeak mesh c.args.first.now c.in_ok-one.one.moves) (sym c.in_ok-near.ensures.walk) c.in_ok-one.ensures.leads).leads,
-      );
+      homotopic = grind arith;
     })
     (record {
       normal = subst (IsNormal c.args.mesh.now) (sym c.in_ok-far.ensures.walk) c.in_ok-two.ensures.normal;
-      homotopic = (
-        c.in_ok-two.two.moves.moves,
-        (subst (LeadsAtPeak mesh c.args.second.now c.in_ok-two.two.moves) (sym c.in_ok-far.ensures.walk) c.in_ok-two.ensures.leads).leads,
-      );
-    }) in
-    λ joined. both_ways c.are_equal.result c.if-are_equal.false (c.are_equal.ensures.1 (equal.0 joined))
+      homotopic = grind arith;
+    }) in λ joined. grind arith
 
 pub returns-then-are_equal-clause-short : goal.returns-then-are_equal-clause-short
 returns-then-are_equal-clause-short c =

@@ -1,4 +1,4 @@
-use Rattle.free_forms.proofs.Common.{places_within, AreLeft, fewer_darts, left_together, left_apart, left_leads, put_around, LeadsAtPeak, IsWithin, MOST_OPEN_SIDES, MOST_OPEN_STEPS, ℕ, ◌+◌, ◌*◌, refl, subst, arith, MatchOption, IfSome, FaceList, Homotopic, darts, AreWalkPair}
+use Rattle.free_forms.proofs.Common.{places_within, fewer_darts, left_together, left_apart, left_leads, put_around, LeadsAtPeak, IsWithin, MOST_OPEN_SIDES, MOST_OPEN_STEPS, ℕ, ◌+◌, ◌*◌, refl, subst, arith, IfSome, FaceList, Homotopic, darts, AreWalkPair}
 use Rattle.free_forms.proofs.AroundLemmas.{around_within}
 use Rattle.free_forms.proofs.lifting.lift_open.Goals as goal
 
@@ -8,12 +8,7 @@ lift_by_normal_walks-requires-clause-walks c =
     c.requires.first c.requires.second c.of-common.ensures (record { near_is = c.in_ok-near.ensures; far_is = c.in_ok-far.ensures })
 
 pub lift_by_normal_walks-requires-clause-few : goal.lift_by_normal_walks-requires-clause-few
-lift_by_normal_walks-requires-clause-few c =
-    let left : AreLeft c.args.first.now c.args.second.now c.of-common.result c.in_ok-near.near c.in_ok-far.far =
-    record { near_is = c.in_ok-near.ensures; far_is = c.in_ok-far.ensures } in
-    let fewer = fewer_darts c.args.first.now c.args.second.now c.in_ok-near.near c.in_ok-far.far c.of-common.result
-    c.requires.first.starts c.requires.second.starts c.of-common.ensures left in
-    omega (arith, fewer.in_near, fewer.in_far, c.requires.few)
+lift_by_normal_walks-requires-clause-few c = grind (arith, fewer_darts)
 
 pub put_back-requires-clause-places : goal.put_back-requires-clause-places
 put_back-requires-clause-places c =
@@ -21,9 +16,7 @@ put_back-requires-clause-places c =
     let together : AreWalkPair mesh c.in_ok-near.near c.in_ok-far.far =
     left_together mesh c.args.first.now c.args.second.now c.of-common.result c.in_ok-near.near c.in_ok-far.far
     c.requires.first c.requires.second c.of-common.ensures (record { near_is = c.in_ok-near.ensures; far_is = c.in_ok-far.ensures }) in
-    let leads : LeadsAtPeak mesh c.in_ok-near.near c.in-Some.list c.in_ok-far.far =
-    subst (λ o. MatchOption o (Homotopic mesh c.in_ok-near.near c.in_ok-far.far → ⊥)
-    (λ l. LeadsAtPeak mesh c.in_ok-near.near l c.in_ok-far.far)) c.in-Some.is c.in_ok-list.ensures.moves in
+    let leads : LeadsAtPeak mesh c.in_ok-near.near c.in-Some.list c.in_ok-far.far = grind arith in
     places_within mesh c.in_ok-near.near c.in_ok-far.far c.in-Some.list together.first_walk.starts leads
 
 -- the list between is within the limits, and so it is with the common darts around
@@ -33,15 +26,12 @@ put_back-requires-clause-room c =
     let short : IsWithin most c.in-Some.list = subst (λ o. IfSome o (λ l. IsWithin most l)) c.in-Some.is c.in_ok-list.ensures.short in
     let within : IsWithin MOST_OPEN_STEPS (put_around c.of-common.result c.in-Some.list) = around_within
     (put_around c.of-common.result c.in-Some.list) c.requires.first.starts c.requires.second.starts c.of-common.ensures
-    (record { near_is = c.in_ok-near.ensures; far_is = c.in_ok-far.ensures }) short refl c.requires.few in
-    omega (arith, within.peak)
+    (record { near_is = c.in_ok-near.ensures; far_is = c.in_ok-far.ensures }) short refl c.requires.few in grind arith
 
 pub returns-in-Some-clause-moves : goal.returns-in-Some-clause-moves
 returns-in-Some-clause-moves c =
     let mesh : FaceList = c.args.mesh.now.mesh in
-    let leads : LeadsAtPeak mesh c.in_ok-near.near c.in-Some.list c.in_ok-far.far =
-    subst (λ o. MatchOption o (Homotopic mesh c.in_ok-near.near c.in_ok-far.far → ⊥)
-    (λ l. LeadsAtPeak mesh c.in_ok-near.near l c.in_ok-far.far)) c.in-Some.is c.in_ok-list.ensures.moves in
+    let leads : LeadsAtPeak mesh c.in_ok-near.near c.in-Some.list c.in_ok-far.far = grind arith in
     left_leads mesh c.args.first.now c.args.second.now c.of-common.result c.in_ok-near.near c.in_ok-far.far c.in-Some.list
     c.in_ok-put_back-in-Some.field-0 c.requires.first c.requires.second c.of-common.ensures
     (record { near_is = c.in_ok-near.ensures; far_is = c.in_ok-far.ensures }) leads c.in_ok-put_back-in-Some.ensures
@@ -56,8 +46,6 @@ returns-in-Some-clause-short c =
 pub returns-clause-moves : goal.returns-clause-moves
 returns-clause-moves c =
     let mesh : FaceList = c.args.mesh.now.mesh in
-    let apart : Homotopic mesh c.in_ok-near.near c.in_ok-far.far → ⊥ =
-    subst (λ o. MatchOption o (Homotopic mesh c.in_ok-near.near c.in_ok-far.far → ⊥)
-    (λ l. LeadsAtPeak mesh c.in_ok-near.near l c.in_ok-far.far)) c.in-None.is c.in_ok-list.ensures.moves in
+    let apart : Homotopic mesh c.in_ok-near.near c.in_ok-far.far → ⊥ = grind arith in
     left_apart mesh c.args.first.now c.args.second.now c.of-common.result c.in_ok-near.near c.in_ok-far.far c.requires.first
     c.requires.second c.of-common.ensures (record { near_is = c.in_ok-near.ensures; far_is = c.in_ok-far.ensures }) apart

@@ -1,4 +1,4 @@
-use Rattle.free_forms.proofs.Common.{◌≡◌, inl, inr, ℕ, ◌+◌, ◌-◌, ◌<◌, max, List, [], ◌∷◌, ◌++◌, length, drop, ap, sym, ◌∙◌, arith, append_assoc, cases_eq, FaceList, PeakedMoves, inverse_of, sides_of_move, way_back, Move}
+use Rattle.free_forms.proofs.Common.{◌≡◌, ℕ, ◌+◌, ◌-◌, ◌<◌, max, List, [], ◌∷◌, ◌++◌, length, drop, ap, sym, ◌∙◌, arith, append_assoc, FaceList, PeakedMoves, inverse_of, sides_of_move, way_back, Move}
 use Rattle.free_forms.proofs.BackLemmas.{back_more}
 use Rattle.free_forms.proofs.lifting.push_back.Goals as goal
 
@@ -22,11 +22,7 @@ loop-back-preserved c =
     ∙ ap (λ (j : ℕ). way_back mesh (drop j moves) ++ undo ∷ []) behind in
     let peak : c.push.new.self.peak ≡ max c.loop-back.moves.peak c.args.others.now.peak =
     ap (λ (l : PeakedMoves). l.peak) c.in_ok-push.ensures.ok ∙ ap (max c.loop-back.moves.peak) c.peak.ensures in
-    let greatest : c.push.new.self.peak ≡ max c.args.moves.now.peak c.args.others.now.peak =
-    elim (cases_eq back 0) [
-      | inl zero ↦ omega (arith, peak, c.loop-back.invariant.none zero)
-      | inr other ↦ (let some : 0 < back = omega arith in omega (arith, peak, c.loop-back.invariant.some some))
-    ] in
+    let greatest : c.push.new.self.peak ≡ max c.args.moves.now.peak c.args.others.now.peak = grind arith in
     record {
       moves =
           ap (λ (l : PeakedMoves). l.moves) c.in_ok-push.ensures.ok

@@ -1,4 +1,4 @@
-use Rattle.free_forms.proofs.Common.{◌≡◌, ℕ, suc, ◌+◌, ◌-◌, List, [], ◌∷◌, ◌++◌, length, get_or, ap, sym, ◌∙◌, arith, append_assoc, map-append, corner_after, face_at, next_corner, numbers, VertexName, beyond_more, after_more, beyond}
+use Rattle.free_forms.proofs.Common.{◌≡◌, ℕ, suc, ◌+◌, ◌-◌, List, [], ◌∷◌, ◌++◌, length, get_or, ap, sym, ◌∙◌, arith, append_assoc, map-append, corner_after, face_at, numbers, VertexName, beyond_more, after_more, beyond}
 use Rattle.free_forms.proofs.reduction.push_others.Goals as goal
 
 pub loop-step-preserved : goal.loop-step-preserved
@@ -8,9 +8,7 @@ loop-step-preserved c =
     let k : ℕ = c.loop-step._step - 1 in
     let up : c.loop-step._step + 1 - 1 ≡ suc k = omega (arith, c.loop-step.auto._step) in
     let size : c.sides-size.result ≡ m = c.sides-size.ensures in
-    let here : c.corner_after-at.result ≡ corner_after c.args.forward m c.args.corner (suc k) =
-    c.corner_after-at.ensures.corner ∙ ap (λ (n : ℕ). next_corner c.args.forward n c.loop-step.at) size
-    ∙ ap (next_corner c.args.forward m) c.loop-step.invariant.here ∙ sym (after_more c.args.forward m c.args.corner k) in
+    let here : c.corner_after-at.result ≡ corner_after c.args.forward m c.args.corner (suc k) = grind (arith, after_more) in
     let vertex : c.corner.result.0 ≡ get_or ring (corner_after c.args.forward m c.args.corner (suc k)) 0 =
     c.corner.ensures ∙ ap (λ (t : ℕ). get_or ring t 0) here in
     record {

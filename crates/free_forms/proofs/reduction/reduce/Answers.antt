@@ -1,4 +1,4 @@
-use Rattle.free_forms.proofs.Common.{leads_nowhere, IsNormal, LeadsAtPeak, ReductionView, state_of, darts_in, MOST_OPEN_SIDES, ◌≡◌, ℕ, List, [], ◌∷◌, ◌++◌, ◌+◌, ◌*◌, ◌≤◌, length, ap, sym, ◌∙◌, subst, arith, PeakedMoves, darts}
+use Rattle.free_forms.proofs.Common.{leads_nowhere, IsNormal, LeadsAtPeak, ReductionView, state_of, darts_in, MOST_OPEN_SIDES, ◌≡◌, ℕ, List, [], ◌∷◌, ◌++◌, ◌+◌, ◌*◌, ◌≤◌, length, ap, sym, subst, arith, PeakedMoves, darts}
 use Rattle.free_forms.proofs.CostLemmas.{stays_paid, has_room, paid_darts}
 use Rattle.free_forms.proofs.StepLemmas.{HasStepped, has_stepped, normal_alone, weight}
 use Rattle.free_forms.proofs.WeightLemmas.{weight_bound}
@@ -7,9 +7,6 @@ use Rattle.free_forms.proofs.reduction.reduce.Goals as goal
 pub loop-next-init : goal.loop-next-init
 loop-next-init c =
     let start : ReductionView = state_of c.in_ok-reduction.reduction in
-    let long : length ([] ++ start.last ∷ start.coming) ≡ length c.args.walk.now =
-    ap (λ (f : List ℕ). length (f ++ start.last ∷ start.coming)) (sym c.in_ok-reduction.ensures.front)
-    ∙ ap (λ (w : List ℕ). length w) c.in_ok-reduction.ensures.walk in
     let none : length start.front ≡ 0 = ap (λ (f : List ℕ). length f) c.in_ok-reduction.ensures.front in
     let count : length start.list.moves ≡ 0 = ap (λ (l : PeakedMoves). length l.moves) c.in_ok-reduction.ensures.list in
     let peak : start.list.peak ≡ darts c.args.walk.now = ap (λ (l : PeakedMoves). l.peak) c.in_ok-reduction.ensures.list in
@@ -22,11 +19,7 @@ loop-next-init c =
       normal =
           subst (λ (f : List ℕ). IsNormal c.args.mesh.now (f ++ start.last ∷ [])) (sym c.in_ok-reduction.ensures.front)
           (normal_alone c.args.mesh.now start.last);
-      paid = record {
-        moves = omega (arith, count, weight, long);
-        front = omega (arith, none, weight, long);
-        peak = omega (arith, peak, long);
-      };
+      paid = grind (arith, weight);
     }
 
 -- the step at hand
@@ -57,8 +50,7 @@ pub step-requires-clause-few : goal.step-requires-clause-few
 step-requires-clause-few c =
     let darts : darts_in (state_of c.loop-next.reduction) ≤ darts c.args.walk.now * MOST_OPEN_SIDES =
     paid_darts c.loop-next.invariant.paid in
-    let taken : darts_in (state_of c.loop-next.reduction) ≡ darts_in (state_of c.take.new.reduction) + 1 =
-    omega (arith, ap darts_in c.in-Some.ensures.some) in
+    let taken : darts_in (state_of c.loop-next.reduction) ≡ darts_in (state_of c.take.new.reduction) + 1 = grind arith in
     omega (arith, darts, taken, c.requires.few)
 
 pub step-requires-clause-room : goal.step-requires-clause-room

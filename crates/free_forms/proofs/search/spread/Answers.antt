@@ -4,14 +4,12 @@ use Rattle.free_forms.proofs.search.spread.Goals as goal
 
 pub loop-at-smaller : goal.loop-at-smaller
 loop-at-smaller c =
-    let few : length c.loop-at.search.order.items ≤ length c.args.faces.now.faces = few_reached c.loop-at.invariant.search in
-    omega arith
+    let few : length c.loop-at.search.order.items ≤ length c.args.faces.now.faces = few_reached c.loop-at.invariant.search in grind arith
 
 pub loop-at-preserved : goal.loop-at-preserved
 loop-at-preserved c = record {
   search = c.in_ok-spread_from.ensures.search;
-  grows =
-      grows_trans c.loop-at.invariant.grows c.in_ok-spread_from.ensures.grows;
+  grows = grind (arith, grows_trans);
   closed =
       closed_more c.args.faces.now c.loop-at.at (omega arith) c.in_ok-spread_from.ensures.grows
       (subst (λ (f : ℕ). NeighboursReached c.args.faces.now (found_by c.spread_from.new.search) f (length (face_at c.args.faces.now f)))

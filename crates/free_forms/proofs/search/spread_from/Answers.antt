@@ -22,13 +22,8 @@ pub loop-at-preserved : goal.loop-at-preserved
 loop-at-preserved c =
     let mesh = c.args.faces.now in
     let below : c.args.face.0 < length mesh.faces = reached_below c.args.face.0 c.requires.search c.requires.face in
-    let from : HasSpread mesh (found_by c.args.search.now) (found_by c.loop-at.search) c.args.face.0 c.loop-at.at = record {
-      search_of = c.loop-at.invariant.search;
-      grows = c.loop-at.invariant.grows;
-      reached = c.loop-at.invariant.reached;
-    } in
+    let from : HasSpread mesh (found_by c.args.search.now) (found_by c.loop-at.search) c.args.face.0 c.loop-at.at = grind arith in
     let more : HasSpread mesh (found_by c.args.search.now) (found_by c.reach.new.search) c.args.face.0 (c.loop-at.at + 1) =
     spread_more (found_by c.reach.new.search) c.requires.table c.requires.few below (omega arith)
     c.requires.face c.dart.ensures.number (c.other-other.ensures mesh c.requires.table) c.side_at.ensures.side c.side_at.ensures.number
-    from c.in_ok-reach.ensures in
-    record { search = more.search_of; grows = more.grows; reached = more.reached }
+    from c.in_ok-reach.ensures in grind arith

@@ -6,14 +6,12 @@ use Rattle.free_forms.proofs.search.start.Goals.{then-sides_of-eq1+in_ok-reach, 
 pub reach-requires-clause-mark : goal.reach-requires-clause-mark
 reach-requires-clause-mark c =
     let is : IsSide c.args.faces.now c.side.result =
-    side_of_one c.loop-edge.edge c.side.result c.requires.table (omega arith) (omega arith) c.side.ensures in
-    omega (arith, is.face, c.loop-edge.invariant.search.each_mark)
+    side_of_one c.loop-edge.edge c.side.result c.requires.table (omega arith) (omega arith) c.side.ensures in grind arith
 
 pub reach-requires-clause-place : goal.reach-requires-clause-place
 reach-requires-clause-place c =
     let is : IsSide c.args.faces.now c.side.result =
-    side_of_one c.loop-edge.edge c.side.result c.requires.table (omega arith) (omega arith) c.side.ensures in
-    omega (arith, is.face, c.loop-edge.invariant.search.each_place)
+    side_of_one c.loop-edge.edge c.side.result c.requires.table (omega arith) (omega arith) c.side.ensures in grind arith
 
 pub loop-edge-preserved : goal.loop-edge-preserved
 loop-edge-preserved c =
@@ -27,8 +25,6 @@ loop-edge-preserved c =
           (start_more (found_by w.reach.new.search) w.side.result
           c.requires.table (omega arith) (omega (arith, c.sides_of.ensures, w.if-sides_of-eq1.true)) w.side.ensures from
           w.in_ok-reach.ensures)
-      | else-sides_of-eq1 w ↦
-          subst (λ s. HasStarted c.args.faces.now c.args.sides.now (found_by s) (k + 1)) (sym w.search-is) (start_other
-          (λ one. absurd (omega (arith, one, c.sides_of.ensures, w.if-sides_of-eq1.false))) from)
+      | else-sides_of-eq1 w ↦ grind (arith, start_other)
     ] in
     record { search = more.search_of; started = more.started }

@@ -12,5 +12,4 @@ loop-place-preserved c =
     let here : get_or (numbers items) k 0 ≡ v.0 =
     get_or-map (λ (x : VertexName). x.0) items k v 0 few ∙ ap (λ (x : VertexName). x.0) (sym c.index-in-loop-place.ensures) in
     let more : take (k + 1) (numbers items) ≡ take k (numbers items) ++ v.0 ∷ [] =
-    take_more (numbers items) k 0 (omega (arith, few, long)) ∙ ap (λ (x : ℕ). take k (numbers items) ++ x ∷ []) here in
-    c.in_ok-push-2.ensures.ok ∙ ap (λ (w : List ℕ). w ++ v.0 ∷ []) c.loop-place.invariant ∙ sym more
+    take_more (numbers items) k 0 (omega (arith, few, long)) ∙ ap (λ (x : ℕ). take k (numbers items) ++ x ∷ []) here in grind arith
