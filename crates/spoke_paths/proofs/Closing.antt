@@ -25,70 +25,30 @@ pub record Signs (d one back two run : ℕ) : Type 0 where
 
 module _ (d one back two run : ℕ) (signs : Signs d one back two run) where
   two-less : add d two back ≡ one
-  two-less =
-      let two_is = signs.two_is in
-      let sum = signs.sum in
-      let b = signs.back_in in
-      let o = signs.one_in in
-      omega (arith, add-cases d one one, add-cases d two back)
+  two-less = grind (arith, add-cases)
 
   one-less : add d one back ≡ 0
-  one-less =
-      let sum = signs.sum in omega (arith, add-cases d one back)
+  one-less = grind (arith, add-cases)
 
   -- the turn against a spoke that comes one later
   against-later : (v p : ℕ) → v < d → p < d → add d v (minus d (add d p one)) ≡ add d (add d v (minus d p)) back
-  against-later v p hv hp =
-      let sum = signs.sum in
-      let b = signs.back_in in
-      let o = signs.one_in in
-      let later = add-lt d p one hp o in
-      omega (
-        arith,
-        minus-cases d p hp,
-        add-cases d p one,
-        minus-cases d (add d p one) later,
-        add-cases d v (minus d (add d p one)),
-        add-cases d v (minus d p),
-        add-cases d (add d v (minus d p)) back,
-      )
+  against-later v p hv hp = grind (arith, add-lt, minus-cases, add-cases)
 
   -- the turn of a spoke that comes one earlier
   earlier-turn : (p q : ℕ) → p < d → q < d → add d (add d p back) (minus d q) ≡ add d (add d p (minus d q)) back
-  earlier-turn p q hp hq =
-      let b = signs.back_in in
-      omega (
-        arith,
-        minus-cases d q hq,
-        add-cases d p back,
-        add-cases d (add d p back) (minus d q),
-        add-cases d p (minus d q),
-        add-cases d
-            (add d p (minus d q)) back,
-      )
+  earlier-turn p q hp hq = grind (arith, minus-cases, add-cases)
 
   -- what a turn tells of the places
   by-turn : (p q t : ℕ) → p < d → q < d → add d p (minus d q) ≡ t → p ≡ add d q t
   by-turn p q t hp hq e = omega (arith, minus-cases d q hq, add-cases d p (minus d q), add-cases d q t)
 
 pub down-signs : (d : ℕ) → 4 ≤ d → Signs d 1 (minus d 1) 2 (minus d 2)
-down-signs d four =
-    let one_in : 1 < d = omega arith in
-    let two_in : 2 < d = omega arith in
-    let back_in = minus-lt d 1 one_in in
-    record {
-      one_in = one_in;
-      back_in = back_in;
-      sum = omega (arith, minus-cases d 1 one_in);
-      two_is = omega (arith, add-cases d 1 1);
-      run_is = omega (arith, minus-cases d 1 one_in, minus-cases d 2 two_in, add-cases d (minus d 1) (minus d 1));
-    }
+down-signs d four = grind (arith, minus-lt, minus-cases, add-cases)
 
 pub up-signs : (d : ℕ) → 4 ≤ d → Signs d (minus d 1) 1 (minus d 2) 2
 up-signs d four =
     let s = down-signs d four in
-    let sum = s.sum in
-    record { one_in = s.back_in; back_in = s.one_in; sum = omega arith; two_is = s.run_is; run_is = s.two_is }
+    let sum = s.sum in grind arith
 
 from-two : (n : ℕ) → from_vertex (suc (suc n)) ≡ from_vertex n
 from-two n = from-next (suc n) ∙ ap not (from-next n) ∙ not-not (from_vertex n)
@@ -100,9 +60,7 @@ module _ (places : List ℕ) (wheel : IsWheel places) (start one back two run : 
 
   turn-same : (now old : List ℕ) (k : ℕ) → get_or now k 0 ≡ get_or old k 0 → get_or now (k - 1) 0 ≡ get_or old (k - 1) 0
       → turn_of places now k ≡ turn_of places old k
-  turn-same now old k e f =
-      ap₂ (λ x y. add (length places) (place_round places (from_vertex k) x) (minus (length places) (place_round places (from_vertex k) y)))
-      e f
+  turn-same now old k e f = grind arith
 
   -- one more quad is gone round
   pub closing-next : (old now new : List ℕ) (at a : ℕ) → a + 1 ≡ at → start < at → 1 ≤ start
@@ -182,7 +140,6 @@ module _ (places : List ℕ) (wheel : IsWheel places) (start one back two run : 
       get_or now (start - 1) 0 ≡ get_or now start 0
   spur-stands old now at at_is positive below c =
       let d = length places in
-      let within = c.within in
       let b = from_vertex start in
       let x_in : get_or now start 0 < d = below start 0 (omega arith) in
       let y_in : get_or now (start - 1) 0 < d = below (start - 1) 0 (omega arith) in
@@ -190,8 +147,7 @@ module _ (places : List ℕ) (wheel : IsWheel places) (start one back two run : 
       let y_round = round-in places wheel start one back two run signs b _ y_in in
       let zero_turn : turn_of places now start ≡ 0 = ap (turn_of places now) (sym at_is) ∙ c.spur at_is in
       let places_same = by-turn d one back two run signs (place_round places b (get_or now start 0))
-      (place_round places b (get_or now (start - 1) 0)) 0 x_round y_round zero_turn in
-      same-place places wheel b (get_or now (start - 1) 0) (get_or now start 0) y_in x_in (sym (places_same ∙ add-zero d _ y_round))
+      (place_round places b (get_or now (start - 1) 0)) 0 x_round y_round zero_turn in grind (arith, same-place, add-zero)
 
   pub closed-is : (old now : List ℕ) (at : ℕ) → at ≡ start → 1 ≤ start → start + 1 < length old → All (λ spoke. spoke < length places) now →
       Closing places start one back run old now at → IsBracketClosed places start back run old (remove (remove now start) (start - 1))
@@ -222,8 +178,7 @@ module _ (places : List ℕ) (wheel : IsWheel places) (start one back two run : 
             let y_in : get_or now start 0 < d = below start 0 (omega arith) in
             let z_in : get_or now p 0 < d = below p 0 (omega arith) in
             let q_in : get_or now (p - 1) 0 < d = below (p - 1) 0 (omega arith) in
-            let next_turn : turn_of places now (start + 1) ≡ back = ap (turn_of places now) (let e : start + 1 ≡ at + 1 = omega arith in e)
-            ∙ c.next (omega arith) in
+            let next_turn : turn_of places now (start + 1) ≡ back = grind arith in
             let one_less : start + 1 - 1 ≡ start = omega arith in
             let plain : add d (place_round places b (get_or now (start + 1) 0)) (minus d (place_round places b (get_or now start 0)))
             ≡ back = rw (side, one_less) at next_turn in

@@ -6,9 +6,10 @@ pub use Rattle.spoke_paths.specs.PathTurns.{EndsNothing, HasQuads, IsBracketClos
 pub use Rattle.spoke_paths.specs.ReducedWords.{HasNoBracket, IsReduced, closes}
 pub use Rattle.spoke_paths.specs.declared.step.PathStep.{PathStep}
 pub use Rattle.spoke_paths.specs.declared.step.PathStep.TheVariants.{Spur, Turn}
-pub use Rattle.std.proofs.Common.{All, Bool, List, None, Option, Some, ap, ap₂, arith, drop, eqb, false, get_or, inl, inr, length, length-append, not, pos, refl, reverse, set, subst, suc, sym, take, true, zero, ℕ, ℤ, [], ◌%◌, ◌&&◌, ◌++◌, ◌+ℤ◌, ◌+◌, ◌-ℤ◌, ◌-◌, ◌<◌, ◌∙◌, ◌∷◌, ◌≡◌, ◌≢◌, ◌≤◌, ◌⊎◌}
-pub use Rattle.std.proofs.lemmas.Bool.{and_from, and_parts, cases_Bool, cases_eq, cases_lt, eq-eqb, eqb-true, lt-ltb, ltb-true, ne_eqb}
-pub use Rattle.std.proofs.lemmas.List.{append-nil, drop_all, get_or-set_other, get_or-set_same, get_or_append_left, length-set, length_push, reverse-reverse, take_all}
+pub use Rattle.std.proofs.Common.{All, Bool, List, None, Option, Some, ap, ap₂, arith, drop, eqb, false, get_or, inl, inr, length, length-append, not, pos, refl, reverse, set, subst, suc, sym, take, true, zero, ℕ, ℤ, [], ◌++◌, ◌+ℤ◌, ◌+◌, ◌-ℤ◌, ◌-◌, ◌<◌, ◌∙◌, ◌∷◌, ◌≡◌, ◌≢◌, ◌≤◌, ◌⊎◌}
+pub use Rattle.std.proofs.lemmas.Bool.{and_from, cases_eq, cases_lt, eq-eqb, eqb-true, ltb-true, ne_eqb}
+pub use Rattle.std.proofs.lemmas.Grind.{common_steps}
+pub use Rattle.std.proofs.lemmas.List.{append-nil, drop_all, get_or-set_other, get_or-set_same, get_or_append_left, length-set, length_push, reverse-reverse}
 pub use Rattle.std.proofs.lemmas.List.Edits.{get_or-remove_above, get_or-remove_below, length-remove}
 pub use Rattle.std.proofs.lemmas.Option.{cond_some, option_and_then_some}
 pub use Rattle.std.specs.List.{remove}

@@ -1,13 +1,10 @@
 -- Steps put behind steps.
-use Rattle.spoke_paths.proofs.Common.{spur_goes, from_spoke, after_path_step, after_path_steps, PathLeads, PathStep, ◌≡◌, ℕ, ◌<◌, arith, refl, ◌∙◌, ap, zero, suc, Bool, not, List, [], ◌∷◌, ◌++◌, length, get_or, take, drop, Some, eq-eqb, append-nil, take_all, drop_all, option_and_then_some, remove, option_map, option_and_then}
+use Rattle.spoke_paths.proofs.Common.{spur_goes, from_spoke, after_path_step, after_path_steps, PathLeads, PathStep, ◌≡◌, ℕ, ◌<◌, arith, refl, ◌∙◌, ap, zero, suc, Bool, not, List, [], ◌∷◌, ◌++◌, length, get_or, take, drop, Some, eq-eqb, common_steps, option_and_then_some, remove, option_map, option_and_then}
 
 pub leads-more : (places : List ℕ) (steps : List PathStep) (step : PathStep) (begin path next : List ℕ)
     → PathLeads places begin steps path →
     after_path_step places step path ≡ Some next → PathLeads places begin (steps ++ step ∷ []) next
-leads-more places [] step begin path next e f =
-    let same : begin ≡ path = cc in
-    ap (λ p. option_and_then (after_path_steps places []) (after_path_step places step p)) same
-    ∙ ap (option_and_then (after_path_steps places [])) f
+leads-more places [] step begin path next e f = grind arith
 leads-more places (first ∷ steps) step begin path next e f =
     option_and_then_some (after_path_steps places steps) (after_path_step places first begin) path e (λ middle is rest.
     ap (option_and_then (after_path_steps places (steps ++ step ∷ []))) is ∙ leads-more places steps step middle path next rest f)
@@ -22,5 +19,4 @@ spur-at (suc n) b (x ∷ path) rest h e = ap (option_map (λ changed. x ∷ chan
 
 -- what was written through a slice of a whole list
 pub written : (n : ℕ) (new old : List ℕ) → length new ≡ n → length old ≡ n → take n (new ++ drop (length new) old) ≡ new
-written n new old e f =
-    ap (λ z. take n (new ++ z)) (drop_all (length new) old (omega arith)) ∙ ap (take n) (append-nil new) ∙ take_all n new (omega arith)
+written n new old e f = grind (arith, common_steps)

@@ -1,5 +1,5 @@
 -- Steps to a reduced path leave nothing of a path that has no word.
-use Rattle.spoke_paths.proofs.Common.{flat_next, size_of, IsFlatWheel, IsEven as IsEvenPoint, origin, PathLeads, IsReduced, PathStep, ◌≡◌, ℕ, ◌<◌, ◌∙◌, ap, List, [], All, length, led, empty_state, hyper_next, IsHyperWheel, BelongsTo, turn_word_of}
+use Rattle.spoke_paths.proofs.Common.{flat_next, size_of, IsFlatWheel, IsEven as IsEvenPoint, origin, PathLeads, IsReduced, PathStep, arith, ◌≡◌, ℕ, ◌<◌, ◌∙◌, List, [], All, length, led, empty_state, hyper_next, IsHyperWheel, BelongsTo, turn_word_of}
 use Rattle.flat_forms.specs.Lemmas.FlatLaws.{flat_starts, flat_stays, flat_there_and_back, flat_across}
 use Rattle.turn_words.specs.HyperStates.{IsEven}
 use Rattle.turn_words.specs.Lemmas.HyperLaws.{hyper_starts, hyper_stays, hyper_there_and_back, hyper_across}
@@ -13,8 +13,7 @@ pub turns-leave : (places path end : List ℕ) (steps : List PathStep) → IsHyp
 turns-leave places path end steps own below leads reduced e =
     let same = state-stays BelongsTo IsEven (λ s. length s.word) hyper_next hyper_stays hyper_there_and_back hyper_across places
     IsHyperWheel empty_state hyper_starts path end steps own
-    below leads in
-    hyper-empty places end own (spokes-stay-below places path end steps below leads) reduced (ap (λ s. s.word) same ∙ e)
+    below leads in grind (arith, hyper-empty, spokes-stay-below)
 
 pub flat-leave : (places path end : List ℕ) (steps : List PathStep) → IsFlatWheel places → All (λ spoke. spoke < length places) path
     → PathLeads places path steps end

@@ -27,15 +27,7 @@ record PlacedFrom (rule : Bool → List ℕ → Option (List ℕ)) (at : ℕ) (b
 
 placed-from : (rule : Bool → List ℕ → Option (List ℕ)) (at : ℕ) (b : Bool) (path next : List ℕ) → from_spoke at b rule path ≡ Some next
     → PlacedFrom rule at b path next
-placed-from rule zero b path next e = record {
-  before = [];
-  part = path;
-  instead = next;
-  long = refl;
-  path_is = refl;
-  next_is = refl;
-  does = e;
-}
+placed-from rule zero b path next e = grind arith
 placed-from rule (suc at) b [] next e = absurd cc
 placed-from rule (suc at) b (x ∷ path) next e =
     let inner = mapped-is (from_spoke at (not b) rule path) x next e in
@@ -95,14 +87,11 @@ turn-written places a c up at v u path next e new =
     let old = old-two up (length places) (from_vertex at) a c in
     let x : ℕ = old.0 in
     let y : ℕ = old.1 in
-    let from : path ≡ r.before ++ x ∷ y ∷ t.after =
-    r.path_is ∙ ap (λ (l : List ℕ). r.before ++ l) (t.from ∙ ap (λ (l : List ℕ). l ++ t.after) old.2) in
-    let to : next ≡ r.before ++ v ∷ u ∷ t.after =
-    r.next_is ∙ ap (λ (l : List ℕ). r.before ++ l) (t.to ∙ ap (λ (l : List ℕ). l ++ t.after) new) in (
+    let from : path ≡ r.before ++ x ∷ y ∷ t.after = grind arith in
+    let to : next ≡ r.before ++ v ∷ u ∷ t.after = grind arith in (
       record {
         within = omega (arith, ap (λ (l : List ℕ). length l) from, length-append r.before (x ∷ y ∷ t.after), r.long);
-        is = to ∙ sym (set-two r.before t.after x y v u) ∙ ap (λ n. set (set (r.before ++ x ∷ y ∷ t.after) n v) (n + 1) u) r.long
-            ∙ ap (λ (l : List ℕ). set (set l at v) (at + 1) u) (sym from);
+        is = grind (arith, set-two);
       },
       t.quad,
     )
@@ -125,8 +114,7 @@ spur-taken at path next e =
     let from : path ≡ r.before ++ x ∷ x ∷ r.instead = r.path_is ∙ ap (λ (l : List ℕ). r.before ++ l) goes.is in
     record {
       within = omega (arith, ap (λ (l : List ℕ). length l) from, length-append r.before (x ∷ x ∷ r.instead), r.long);
-      is = r.next_is ∙ sym (remove-two r.before r.instead x x) ∙ ap (λ n. remove (remove (r.before ++ x ∷ x ∷ r.instead) (n + 1)) n) r.long
-          ∙ ap (λ (l : List ℕ). remove (remove l (at + 1)) at) (sym from);
+      is = grind (arith, remove-two);
     }
 
 pub some-turn : (places : List ℕ) (a c : ℕ) (up : Bool) (at : ℕ) (path next : List ℕ)

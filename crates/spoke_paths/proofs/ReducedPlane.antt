@@ -1,6 +1,6 @@
 -- A reduced path over the degree 4 goes on: along one of the four diagonals each of its steps leads one further.
-use Rattle.spoke_paths.proofs.Common.{parity, IsFlatWheel, flat_next, Vector, origin, plus, less, unit_step, closes, HasNoBracket, IsReduced, ◌≡◌, ◌≢◌, ℕ, ◌<◌, ◌⊎◌, arith, inl, inr, refl, sym, ◌∙◌, ap, subst, suc, eqb, Bool, true, false, not, List, [], ◌∷◌, All, length, get_or, ℤ, pos, ◌+ℤ◌, ◌-ℤ◌, cases_eq, eq-eqb, ne_eqb, if◌then◌else◌, led, in-range-from, InRange, add-cases, minus-cases, add-lt, minus-lt, add, minus, place_round, turns_after, turn_word_of}
-use Rattle.flat_forms.specs.Lemmas.StepsInThePlane.{is-unit, parity-plus, parity-less, next-even, next-odd}
+use Rattle.spoke_paths.proofs.Common.{parity, IsFlatWheel, flat_next, Vector, origin, plus, less, unit_step, closes, HasNoBracket, IsReduced, ◌≡◌, ◌≢◌, ℕ, ◌<◌, ◌⊎◌, arith, inl, inr, refl, sym, ◌∙◌, ap, subst, suc, eqb, Bool, true, false, not, List, [], ◌∷◌, All, length, get_or, ℤ, pos, ◌+ℤ◌, ◌-ℤ◌, eq-eqb, ne_eqb, common_steps, if◌then◌else◌, led, in-range-from, InRange, add-cases, minus-cases, add-lt, minus-lt, add, minus, place_round, turns_after, turn_word_of}
+use Rattle.flat_forms.specs.Lemmas.StepsInThePlane.{is-unit, next-even, next-odd}
 use Rattle.std.proofs.lemmas.Int.{ints}
 
 -- how far a point lies along the diagonal between a direction and the next one
@@ -23,16 +23,7 @@ Stands true s = parity s ≡ 0
 Stands false s = parity s ≡ 1
 
 below-four : (P : ℕ → Type 0) → P 0 → P 1 → P 2 → P 3 → (n : ℕ) → n < 4 → P n
-below-four P zero_is one_is two_is three_is n h = elim (cases_eq n 0) [
-  | inl e ↦ rw e zero_is
-  | inr not_zero ↦ elim (cases_eq n 1) [
-    | inl e ↦ rw e one_is
-    | inr not_one ↦ elim (cases_eq n 2) [
-      | inl e ↦ rw e two_is
-      | inr not_two ↦ let e : n ≡ 3 = omega arith in rw e three_is
-    ]
-  ]
-]
+below-four P zero_is one_is two_is three_is n h = grind arith
 
 module _ (s : Vector) where
   abbrev Gains : Vector → ℕ → Type 0
@@ -59,10 +50,8 @@ module _ (s : Vector) where
       (omega (arith, ints))
 
 stands-next : (places : List ℕ) (b : Bool) (s : Vector) (i : ℕ) → Stands b s → Stands (not b) (flat_next places s i)
-stands-next places true s i h =
-    let turned = parity-plus s (unit_step i) (is-unit i) in rw (next-even places s i h) (omega arith)
-stands-next places false s i h =
-    let turned = parity-less s (unit_step i) (is-unit i) in rw (next-odd places s i (λ e. absurd (omega arith))) (omega arith)
+stands-next places true s i h = grind (arith, common_steps, is-unit, next-even)
+stands-next places false s i h = grind (arith, common_steps, is-unit, next-odd)
 
 -- a step gains along each diagonal beside its direction
 gains : (places : List ℕ) (b : Bool) (s : Vector) (i quarter : ℕ) → Stands b s → i < 4 → quarter < 4 → Goes quarter (direction (not b) i) →
@@ -83,19 +72,7 @@ rises places w =
     let zero_in : get_or places 0 0 < 4 = rw (w.four) at (w.wheel.inside 0 (rw (w.four) (omega arith))) in
     let one : get_or places 1 0 ≡ add 4 (get_or places 0 0) 1 = w.rises 0 (omega arith) in
     let two : get_or places 2 0 ≡ add 4 (get_or places 1 0) 1 = w.rises 1 (omega arith) in
-    let three : get_or places 3 0 ≡ add 4 (get_or places 2 0) 1 = w.rises 2 (omega arith) in
-    below-four (λ i. get_or places i 0 ≡ add 4 (get_or places 0 0) i)
-    (omega (arith, add-cases 4 (get_or places 0 0) 0))
-    one
-    (omega (arith, add-cases 4 (get_or places 0 0) 1, add-cases 4 (get_or places 1 0) 1, add-cases 4 (get_or places 0 0) 2))
-    (omega (
-      arith,
-      add-cases 4 (get_or places 0 0) 1,
-      add-cases 4 (get_or places 1 0) 1,
-      add-cases 4 (get_or places 2 0) 1,
-      add-cases 4
-          (get_or places 0 0) 3,
-    ))
+    let three : get_or places 3 0 ≡ add 4 (get_or places 2 0) 1 = w.rises 2 (omega arith) in grind (arith, below-four, add-cases)
 
 -- how a turn leads on: straight on, or to one of the two sides. The ways are the directions before and after
 data Kind (d way next t : ℕ) : Type 0 where
@@ -104,18 +81,7 @@ data Kind (d way next t : ℕ) : Type 0 where
   left : t ≡ minus d 1 → next ≡ add 4 way 1 → Kind d way next t
 
 kind-is : (d way next t : ℕ) → d ≡ 4 → way < 4 → t < 4 → t ≢ 0 → next ≡ add 4 (add 4 way t) 2 → Kind d way next t
-kind-is d way next t four way_in t_in not_zero e =
-    let one_in : 1 < d = omega arith in
-    let two_in : 2 < d = omega arith in
-    elim (cases_eq t 1) [
-      | inl one ↦ right one (omega (arith, add-cases 4 way t, add-cases 4 (add 4 way t) 2, add-cases 4 next 1))
-      | inr not_one ↦ elim (cases_eq t 2) [
-        | inl two ↦ straight two (omega (arith, minus-cases d 2 two_in)) (omega (arith, add-cases 4 way t, add-cases 4 (add 4 way t) 2))
-        | inr not_two ↦
-            let three : t ≡ 3 = omega arith in
-            left (omega (arith, minus-cases d 1 one_in)) (omega (arith, add-cases 4 way t, add-cases 4 (add 4 way t) 2, add-cases 4 way 1))
-      ]
-    ]
+kind-is d way next t four way_in t_in not_zero e = grind (arith, add-cases, minus-cases)
 
 direction-in : (b : Bool) (q : ℕ) → q < 4 → direction b q < 4
 direction-in true q h = add-lt 4 q 2 h (omega arith)
@@ -147,14 +113,7 @@ turn-way places w true q i q_in i_in =
         add-cases 4 (add 4 (add 4 q 2) t) 2,
       ),
     )
-turn-way places w false q i q_in i_in =
-    let four = w.four in
-    let t : ℕ = add 4 i (minus 4 q) in
-    let is : turn_to places false q i ≡ t = rw four refl in
-    rw is (
-      add-lt 4 i (minus 4 q) i_in (minus-lt 4 q q_in),
-      omega (arith, minus-cases 4 q q_in, add-cases 4 i (minus 4 q), add-cases 4 q t, add-cases 4 (add 4 q t) 2, add-cases 4 i 2),
-    )
+turn-way places w false q i q_in i_in = grind (arith, add-lt, minus-lt, minus-cases, add-cases)
 
 -- after a turn to one side the next turn to a side goes back
 data Pending (d quarter way : ℕ) (ts : List ℕ) : Type 0 where
@@ -177,19 +136,13 @@ go-on one two t ts apart e shut = sym (ap (λ z. closes one two (z ∷ ts)) e �
 pending-next : (d quarter way next t : ℕ) (ts : List ℕ) → d ≡ 4 → quarter < 4 → next < 4 → Pending d quarter way (t ∷ ts)
     → Kind d way next t → HasNoBracket d (t ∷ ts) →
     Pending d quarter next ts
-pending-next d quarter way next t ts four q_in n_in (turned_right e shut) (straight two minus_two same) h =
-    turned_right (same ∙ e) (go-on 1 2 t ts (λ z. absurd cc) two shut)
+pending-next d quarter way next t ts four q_in n_in (turned_right e shut) (straight two minus_two same) h = grind (arith, go-on)
 pending-next d quarter way next t ts four q_in n_in (turned_right e shut) (right one turned) h = absurd (no-close 1 2 t ts shut one)
-pending-next d quarter way next t ts four q_in n_in (turned_right e shut) (left minus_one turned) h =
-    turned_left (turned ∙ ap (λ z. add 4 z 1) e) (h.2 minus_one)
+pending-next d quarter way next t ts four q_in n_in (turned_right e shut) (left minus_one turned) h = grind arith
 pending-next d quarter way next t ts four q_in n_in (turned_left e shut) (straight two minus_two same) h =
-    let one_in : 1 < d = omega arith in
-    let apart : minus d 2 ≢ minus d 1 = λ z. absurd (omega (arith, minus-cases d 1 one_in)) in
-    turned_left (same ∙ e) (go-on (minus d 1) (minus d 2) t ts apart minus_two shut)
-pending-next d quarter way next t ts four q_in n_in (turned_left e shut) (right one turned) h =
-    turned_right (omega (arith, add-cases 4 next 1, add-cases 4 quarter 1)) (h.1 one)
-pending-next d quarter way next t ts four q_in n_in (turned_left e shut) (left minus_one turned) h =
-    absurd (no-close (minus d 1) (minus d 2) t ts shut minus_one)
+    grind (arith, minus-cases, go-on)
+pending-next d quarter way next t ts four q_in n_in (turned_left e shut) (right one turned) h = grind (arith, add-cases)
+pending-next d quarter way next t ts four q_in n_in (turned_left e shut) (left minus_one turned) h = grind (arith, no-close)
 
 pending-goes : (d quarter way : ℕ) (ts : List ℕ) → Pending d quarter way ts → Goes quarter way
 pending-goes d quarter way ts (turned_right e shut) = inl e
@@ -201,10 +154,7 @@ add-one a b c n e f = omega (arith, ints)
 module _ (places : List ℕ) (w : IsFlatWheel places) where
   kind : (b : Bool) (q i : ℕ) → q < 4 → i < 4 → turn_to places b q i ≢ 0
       → Kind (length places) (direction b q) (direction (not b) i) (turn_to places b q i)
-  kind b q i q_in i_in not_zero =
-      let way = turn-way places w b q i q_in i_in in
-      kind-is (length places) (direction b q) (direction (not b) i) (turn_to places b q i) w.four (direction-in b q q_in) way.0 not_zero
-      way.1
+  kind b q i q_in i_in not_zero = grind (arith, turn-way, kind-is, direction, direction-in)
 
   -- from a turn to one side on, each step leads one further along one diagonal
   goes-on : (b : Bool) (s : Vector) (q quarter : ℕ) (path : List ℕ) → Stands b s → q < 4 → quarter < 4 → InRange 4 path →
@@ -269,5 +219,4 @@ plane-empty places (i ∷ path) w below reduced e =
     let range : InRange 4 (i ∷ path) = subst (λ d. InRange d (i ∷ path)) w.four (in-range-from (length places) (i ∷ path) below) in
     let s = flat_next places origin i in
     let f = further places w false s i path (stands-next places true origin i refl) range.0 range.1 reduced in
-    let gained = gains places true origin i f.quarter refl range.0 f.quarter_in f.goes in
-    absurd (no-way-back _ _ _ (length path) f.is gained (ap (along f.quarter) e))
+    let gained = gains places true origin i f.quarter refl range.0 f.quarter_in f.goes in grind (arith, no-way-back, along)

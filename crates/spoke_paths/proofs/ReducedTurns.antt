@@ -1,5 +1,5 @@
 -- A reduced word whose entries are put one after another leaves a word with an entry.
-use Rattle.spoke_paths.proofs.Common.{closes, HasNoBracket, IsReduced, ◌≡◌, ◌≢◌, ℕ, ◌+◌, ◌<◌, ◌≤◌, inl, inr, arith, refl, sym, ◌∙◌, ap, true, false, List, [], ◌∷◌, All, length, reverse, cases_eq, cases_Bool, eq-eqb, ne_eqb, reverse-reverse, read, state, turns, canonical, led, empty_state, hyper_next, IsHyperWheel, in-range-from, InRange, add-cases, minus-one, minus-two, add-zero, add, minus, turn_word_of}
+use Rattle.spoke_paths.proofs.Common.{closes, HasNoBracket, IsReduced, ◌≡◌, ◌≢◌, ℕ, ◌<◌, ◌≤◌, inl, inr, arith, refl, sym, ◌∙◌, ap, true, false, List, [], ◌∷◌, All, length, reverse, cases_eq, eq-eqb, ne_eqb, common_steps, reverse-reverse, read, state, turns, canonical, led, empty_state, hyper_next, IsHyperWheel, in-range-from, InRange, add-cases, minus-one, minus-two, add-zero, add, minus, turn_word_of}
 use Rattle.turn_words.proofs.Unique.{left, canonical-is-left}
 use Rattle.turn_words.specs.Lemmas.WordEnds.{IsCons, Follows, open-cases, put-flip, put-else}
 use Rattle.turn_words.specs.PutTurns.{Put, is_open, flipped, put}
@@ -12,10 +12,7 @@ data Keeps (d : ℕ) (u : List ℕ) (n : ℕ) (turns : List ℕ) : Type 0 where
 flipped-cons : (d : ℕ) (u : List ℕ) → IsCons u → IsCons (flipped d u)
 flipped-cons d [] c = absurd c
 flipped-cons d (x ∷ []) c = tt
-flipped-cons d (x ∷ y ∷ r) c = elim (cases_eq x (minus d 2)) [
-  | inl e ↦ rw (eq-eqb x (minus d 2) e) tt
-  | inr e ↦ rw (ne_eqb x (minus d 2) e) tt
-]
+flipped-cons d (x ∷ y ∷ r) c = grind arith
 
 closes-one : (one two : ℕ) (ts : List ℕ) → closes one two (one ∷ ts) ≡ true
 closes-one one two ts = rw (eq-eqb one one refl) refl
@@ -30,8 +27,7 @@ module _ (d : ℕ) (five : 5 ≤ d) where
   -- the turn -1, and the turn -2 after a flip
   flips : (u : List ℕ) (t : ℕ) (ts : List ℕ) → IsCons u → t ≡ minus d 1 → closes (minus d 1) (minus d 2) ts ≡ false → Stays (put d u t) ts
   flips u t ts c e shut =
-      let is : put d u t ≡ state (flipped d u) 1 = ap (put d u) e ∙ put-flip d five u c in
-      rw is (flipped-cons d u c, raised refl shut)
+      let is : put d u t ≡ state (flipped d u) 1 = ap (put d u) e ∙ put-flip d five u c in grind (arith, flipped-cons)
 
   -- every other turn that does not close
   others : (u : List ℕ) (t : ℕ) (ts : List ℕ) → IsCons u → Follows d u t → (is_open (t ∷ u) ≡ true → closes 1 2 ts ≡ false)
@@ -49,10 +45,7 @@ module _ (d : ℕ) (five : 5 ≤ d) where
         (record {
           no_spur = h.0;
           no_flip = not_minus;
-          no_close = λ one. elim (cases_Bool (is_open u)) [
-            | inl opened ↦ let none = shut opened in let closing = ap (λ z. closes 1 2 (z ∷ ts)) one ∙ closes-one 1 2 ts in absurd cc
-            | inr not_open ↦ not_open
-          ];
+          no_close = λ one. grind (arith, closes, closes-one);
         })
         (λ opened. elim ((open-cases y u opened).1) [
           | inl one ↦ h.1 one
@@ -64,31 +57,7 @@ module _ (d : ℕ) (five : 5 ≤ d) where
       → HasNoBracket d (y ∷ ts) →
       Stays (put d u (add d y 1)) ts
   after-raised u y ts c below shut h =
-      let off = minus-one d five in
-      let off_two = minus-two d five in
-      let sums = add-cases d y 1 in
-      let no_minus : y ≢ minus d 1 = λ e. (
-      let closing = ap (λ z. closes (minus d 1) (minus d 2) (z ∷ ts)) e ∙ closes-one (minus d 1) (minus d 2) ts in absurd cc
-      ) in
-      let not_zero : y ≢ 0 = h.0 in
-      elim (cases_eq y (minus d 2)) [
-        | inl e ↦
-            let apart : minus d 2 ≢ minus d 1 = λ same. absurd (omega arith) in
-            flips u (add d y 1) ts c (omega arith)
-            (sym (ap (λ z. closes (minus d 1) (minus d 2) (z ∷ ts)) e ∙ closes-two (minus d 1) (minus d 2) ts apart) ∙ shut)
-        | inr not_two ↦
-            let up : add d y 1 ≡ y + 1 = omega arith in
-            others u (add d y 1) ts c
-            (record {
-              no_spur = λ e. absurd (omega arith);
-              no_flip = λ e. absurd (omega arith);
-              no_close = λ e. absurd (omega arith);
-            })
-            (λ opened. elim ((open-cases (add d y 1) u opened).1) [
-              | inl one ↦ absurd (omega arith)
-              | inr two ↦ let two_is = two.0 in h.1 (omega arith)
-            ])
-      ]
+      grind (arith, common_steps, minus-one, minus-two, add-cases, closes, closes-one, closes-two, open-cases)
 
   next-stays : (u : List ℕ) (n y : ℕ) (ts : List ℕ) → IsCons u → y < d → Keeps d u n (y ∷ ts) → HasNoBracket d (y ∷ ts)
       → Stays (put d u (add d y n)) ts

@@ -1,5 +1,5 @@
 -- What no spur and no bracket ends in, after a bracket was closed, and as a turn word.
-use Rattle.spoke_paths.proofs.Common.{from_vertex, turn_of, Opens, EndsNothing, IsShort, IsBracketClosed, closes, HasNoBracket, IsReduced, ◌≡◌, ◌≢◌, ℕ, ◌+◌, ◌-◌, ◌<◌, ◌≤◌, arith, inl, inr, refl, sym, ◌∙◌, ap, ap₂, subst, suc, Bool, true, false, not, List, [], ◌∷◌, ◌++◌, All, length, get_or, drop, cases_eq, cases_lt, eq-eqb, ne_eqb, length_push, get_or_append_left, drop_all, append-nil, get_or-remove_below, length-remove, remove, if◌then◌else◌, add-cases, minus-cases, add-lt, minus-lt, add, minus, place_round, turns_after, turn_word_of, IsWheel}
+use Rattle.spoke_paths.proofs.Common.{from_vertex, turn_of, Opens, EndsNothing, IsShort, IsBracketClosed, closes, HasNoBracket, IsReduced, ◌≡◌, ◌≢◌, ℕ, ◌+◌, ◌-◌, ◌<◌, ◌≤◌, arith, inl, inr, refl, sym, ◌∙◌, ap, suc, Bool, true, false, not, List, [], ◌∷◌, ◌++◌, All, length, get_or, drop, cases_eq, cases_lt, eq-eqb, ne_eqb, length_push, get_or_append_left, drop_all, append-nil, get_or-remove_below, length-remove, remove, if◌then◌else◌, add-cases, minus-cases, add-lt, minus-lt, add, minus, place_round, turns_after, turn_word_of, IsWheel}
 use Rattle.spoke_paths.proofs.Turning.{from-next}
 use Rattle.spoke_paths.proofs.Closing.{Signs, signs-of}
 
@@ -8,19 +8,10 @@ abbrev Agree : List ℕ → List ℕ → ℕ → Type 0
 Agree p q n = (k : ℕ) → k < n → get_or p k 0 ≡ get_or q k 0
 
 turn-agrees : (places p q : List ℕ) (n k : ℕ) → Agree p q n → k < n → turn_of places p k ≡ turn_of places q k
-turn-agrees places p q n k a h =
-    ap₂ (λ x y. add (length places) (place_round places (from_vertex k) x) (minus (length places) (place_round places (from_vertex k) y)))
-    (a k h) (a (k - 1) (omega arith))
+turn-agrees places p q n k a h = grind arith
 
 opens-agrees : (places p q : List ℕ) (n one two s at : ℕ) → Agree p q n → at ≤ n → Opens places p one two s at → Opens places q one two s at
-opens-agrees places p q n one two s at a h o =
-    let earlier = o.earlier in
-    record {
-      turn = o.turn;
-      earlier = o.earlier;
-      opening = sym (turn-agrees places p q n s a (omega arith)) ∙ o.opening;
-      run = λ k from to. sym (turn-agrees places p q n k a (omega arith)) ∙ o.run k from to;
-    }
+opens-agrees places p q n one two s at a h o = grind (arith, turn-agrees)
 
 pub ends-agrees : (places p q : List ℕ) (n at : ℕ) → ((k : ℕ) → k < n → get_or p k 0 ≡ get_or q k 0) → at < n
     → EndsNothing places p at → EndsNothing places q at
@@ -55,12 +46,7 @@ turn-before places old new start one two back run at signs at_is positive more x
     let o = signs.one_in in
     let b = signs.back_in in
     let two_is = signs.two_is in
-    let not_one : x ≢ one = λ e. none at (record {
-      turn = positive;
-      earlier = omega arith;
-      opening = e;
-      run = λ k from to. absurd (omega arith);
-    }) in
+    let not_one : x ≢ one = λ e. grind arith in
     record {
       no_spur = λ e. not_one (omega (arith, add-cases d x back));
       no_one = λ e s opened. (
@@ -97,21 +83,8 @@ none-opens places path false at e f s o = e.no_rise f s o
 -- a turn 2 or -2 ends nothing
 run-ends : (places path : List ℕ) (up : Bool) (at : ℕ) → 4 ≤ length places
     → turn_of places path at ≡ (if up then 2 else minus (length places) 2) → EndsNothing places path at
-run-ends places path true at four e =
-    let one_in : 1 < length places = omega arith in
-    record {
-      no_spur = λ f. absurd (omega arith);
-      no_rise = λ f s o. absurd (omega arith);
-      no_fall = λ f s o. absurd (omega (arith, minus-cases (length places) 1 one_in));
-    }
-run-ends places path false at four e =
-    let one_in : 1 < length places = omega arith in
-    let two_in : 2 < length places = omega arith in
-    record {
-      no_spur = λ f. absurd (omega (arith, minus-cases (length places) 2 two_in));
-      no_rise = λ f s o. absurd (omega (arith, minus-cases (length places) 2 two_in));
-      no_fall = λ f s o. absurd (omega (arith, minus-cases (length places) 2 two_in, minus-cases (length places) 1 one_in));
-    }
+run-ends places path true at four e = grind (arith, minus-cases)
+run-ends places path false at four e = grind (arith, minus-cases)
 
 -- a path is short once its last bracket is closed
 pub short-closed : (places old new : List ℕ) (up : Bool) (start : ℕ) → 4 ≤ length places →
@@ -142,10 +115,7 @@ short-closed places old new up start four turns short opens c at positive at_in 
 pub short-more : (places path : List ℕ) (last : ℕ) → last + 1 ≡ length path
     → ((at : ℕ) → 1 ≤ at → at + 1 < length path → EndsNothing places path at) →
     EndsNothing places path last → IsShort places path
-short-more places path last is short e at positive at_in = elim (cases_eq at last) [
-  | inl same ↦ subst (EndsNothing places path) (sym same) e
-  | inr other ↦ short at positive (omega arith)
-]
+short-more places path last is short e at positive at_in = grind arith
 
 -- a rest of a path, from a place on
 record Rest (path : List ℕ) (n q : ℕ) (rest : List ℕ) : Type 0 where
@@ -167,10 +137,7 @@ head-turn : (places path : List ℕ) (n q i : ℕ) (rest : List ℕ) → Rest pa
     ≡ turn_of places path (suc n)
 head-turn places path n q i rest r =
     let next = rest-next path n q i rest r in
-    let one_less : suc n - 1 ≡ n = omega arith in
-    ap₂ (λ x y. add (length places) (place_round places (from_vertex (suc n)) x)
-    (minus (length places) (place_round places (from_vertex (suc n)) y)))
-    (sym next.spoke) (sym (ap (λ k. get_or path k 0) one_less ∙ r.spoke))
+    let one_less : suc n - 1 ≡ n = omega arith in grind arith
 
 module _ (places path : List ℕ) where
   -- a bracket that is open does not close
@@ -184,9 +151,7 @@ module _ (places path : List ℕ) where
       let long = r.long in
       let next = rest-next path n q i rest r in
       let turn = head-turn places path n q i rest r in
-      let not_one : turn_of places path (suc n) ≢ one = λ e. (
-      none (suc n) start (omega arith) (omega arith) e (record { turn = positive; earlier = omega arith; opening = opening; run = run })
-      ) in
+      let not_one : turn_of places path (suc n) ≢ one = λ e. grind arith in
       let side : not (from_vertex (suc n)) ≡ from_vertex (suc (suc n)) = sym (from-next (suc n)) in
       elim (cases_eq (turn_of places path (suc n)) two) [
         | inl e ↦
@@ -203,7 +168,6 @@ module _ (places path : List ℕ) where
       → HasNoBracket (length places) (turns_after places (from_vertex (suc n)) q rest)
   no-bracket n q [] short r = tt
   no-bracket n q (i ∷ rest) short r =
-      let long = r.long in
       let next = rest-next path n q i rest r in
       let turn = head-turn places path n q i rest r in
       let side : not (from_vertex (suc n)) ≡ from_vertex (suc (suc n)) = sym (from-next (suc n)) in
@@ -229,13 +193,7 @@ reduced-from places (q ∷ rest) short =
 
 pub turns-below : (places path : List ℕ) → IsWheel places → All (λ spoke. spoke < length places) path → (at : ℕ) → 1 ≤ at → at < length path
     → turn_of places path at < length places
-turns-below places path wheel below at positive at_in =
-    add-lt (length places) _ _ (round-in (from_vertex at) (get_or path at 0) (below at 0 at_in))
-    (minus-lt (length places) _ (round-in (from_vertex at) (get_or path (at - 1) 0) (below (at - 1) 0 (omega arith))))
-  where
-    round-in : (b : Bool) (x : ℕ) → x < length places → place_round places b x < length places
-    round-in true x h = wheel.inside x h
-    round-in false x h = h
+turns-below places path wheel below at positive at_in = grind (arith, add-lt, minus-lt)
 
 no-turn : (d p q : ℕ) → p < d → q < d → add d p (minus d q) ≡ 0 → p ≡ q
 no-turn d p q hp hq e = omega (arith, minus-cases d q hq, add-cases d p (minus d q))
@@ -244,13 +202,7 @@ no-turn d p q hp hq e = omega (arith, minus-cases d q hq, add-cases d p (minus d
 pub equal-by-turn : (places path : List ℕ) → IsWheel places → All (λ spoke. spoke < length places) path → (at : ℕ)
     → 1 ≤ at → at < length path → turn_of places path at ≡ 0 →
     get_or path (at - 1) 0 ≡ get_or path at 0
-equal-by-turn places path wheel below at positive at_in e =
-    go (from_vertex at) (get_or path (at - 1) 0) (get_or path at 0) (below (at - 1) 0 (omega arith)) (below at 0 at_in) e
-  where
-    go : (b : Bool) (x y : ℕ) → x < length places → y < length places
-        → add (length places) (place_round places b y) (minus (length places) (place_round places b x)) ≡ 0 → x ≡ y
-    go true x y hx hy e = wheel.once x y hx hy (sym (no-turn (length places) _ _ (wheel.inside y hy) (wheel.inside x hx) e))
-    go false x y hx hy e = sym (no-turn (length places) y x hy hx e)
+equal-by-turn places path wheel below at positive at_in e = grind (arith, no-turn)
 
 pub spur-short : (places old : List ℕ) (last : ℕ) → last + 1 ≡ length old → 1 ≤ last
     → ((at : ℕ) → 1 ≤ at → at + 1 < length old → EndsNothing places old at) →

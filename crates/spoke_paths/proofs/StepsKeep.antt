@@ -1,19 +1,10 @@
 -- Steps on a path keep what spurs and quads keep: so the spokes below the degree, and the state that spokes lead to, in each form that
 -- meets the laws.
-use Rattle.spoke_paths.proofs.Common.{is_quad, upper_way, lower_way, spur_goes, two_become, quad_turned, from_spoke, after_path_step, after_path_steps, PathLeads, PathStep, Spur, Turn, ◌≡◌, ℕ, ◌<◌, arith, subst, ◌++◌, inl, inr, refl, sym, ◌∙◌, ap, ap₂, zero, suc, Bool, true, false, not, eqb, ◌&&◌, List, [], ◌∷◌, All, length, Option, Some, None, cases_Bool, cases_eq, eq-eqb, ne_eqb, eqb-true, ltb-true, and_parts, option_and_then_some, option_map, if◌then◌else◌, IsQuad, StartsWell, StaysWell, ThereAndBack, AcrossQuads, led, in-range-from, all-from, InRange, add-cases, add}
+use Rattle.spoke_paths.proofs.Common.{is_quad, upper_way, lower_way, spur_goes, two_become, quad_turned, from_spoke, after_path_step, after_path_steps, PathLeads, PathStep, Spur, Turn, ◌≡◌, ℕ, ◌<◌, arith, subst, ◌++◌, refl, sym, zero, suc, Bool, true, false, not, List, [], ◌∷◌, All, length, Option, Some, None, option_and_then_some, option_map, if◌then◌else◌, IsQuad, StartsWell, StaysWell, ThereAndBack, AcrossQuads, led, in-range-from, all-from, InRange, add-cases, add}
 
 -- what a test of a quad tells
 pub quad-is : (places : List ℕ) (a c : ℕ) → is_quad places a c ≡ true → IsQuad places a c
-quad-is places a c e =
-    let first = and_parts _ _ e in
-    let second = and_parts _ _ first.0 in
-    let third = and_parts _ _ second.0 in
-    record {
-      a_below = ltb-true a (length places) third.0;
-      c_below = ltb-true c (length places) third.1;
-      a_place = eqb-true _ _ second.1;
-      c_place = eqb-true _ _ first.1;
-    }
+quad-is places a c e = grind arith
 
 pub up-below : (d a : ℕ) → a < d → add d a 1 < d
 up-below d a h = omega (arith, add-cases d a 1)
@@ -26,13 +17,7 @@ pub record Goes (p q : List ℕ) : Type 0 where
 pub spur-is : (p q : List ℕ) → spur_goes p ≡ Some q → Goes p q
 spur-is [] q e = absurd cc
 spur-is (x ∷ []) q e = absurd cc
-spur-is (x ∷ y ∷ rest) q e = elim (cases_eq x y) [
-  | inl same ↦
-      let allowed = rw (eq-eqb x y same) at e in
-      let rest_is : rest ≡ q = cc in
-      record { x = x; is = rw (← same, rest_is) refl }
-  | inr other ↦ let refused = rw (ne_eqb x y other) at e in absurd cc
-]
+spur-is (x ∷ y ∷ rest) q e = grind arith
 
 -- two spokes become two others
 pub record Becomes (x y v w : ℕ) (p q : List ℕ) : Type 0 where
@@ -43,14 +28,7 @@ pub record Becomes (x y v w : ℕ) (p q : List ℕ) : Type 0 where
 pub becomes-is : (x y v w : ℕ) (p q : List ℕ) → two_become (x ∷ y ∷ []) (v ∷ w ∷ []) p ≡ Some q → Becomes x y v w p q
 becomes-is x y v w [] q e = absurd cc
 becomes-is x y v w (first ∷ []) q e = absurd cc
-becomes-is x y v w (first ∷ second ∷ rest) q e = elim (cases_Bool (eqb first x && eqb second y)) [
-  | inl same ↦
-      let both = and_parts _ _ same in
-      let allowed = rw same at e in
-      let is : v ∷ w ∷ rest ≡ q = cc in
-      record { rest = rest; from = ap₂ (λ m n. m ∷ n ∷ rest) (eqb-true first x both.0) (eqb-true second y both.1); to = sym is }
-  | inr other ↦ let refused = rw other at e in absurd cc
-]
+becomes-is x y v w (first ∷ second ∷ rest) q e = grind arith
 
 -- a turn is a quad's, and changes the one way into the other
 pub turned-is : (places : List ℕ) (a c : ℕ) (up at_vertex : Bool) (p q : List ℕ) → quad_turned places a c up at_vertex p ≡ Some q →
@@ -58,10 +36,7 @@ pub turned-is : (places : List ℕ) (a c : ℕ) (up at_vertex : Bool) (p q : Lis
     × ((if up
     then two_become (lower_way (length places) at_vertex a c) (upper_way (length places) at_vertex a c) p
     else two_become (upper_way (length places) at_vertex a c) (lower_way (length places) at_vertex a c) p) ≡ Some q)
-turned-is places a c up at_vertex p q e = elim (cases_Bool (is_quad places a c)) [
-  | inl quad ↦ (quad-is places a c quad, rw quad at e)
-  | inr none ↦ let refused = rw none at e in absurd cc
-]
+turned-is places a c up at_vertex p q e = grind (arith, is_quad, quad-is)
 
 pub mapped-is : (o : Option (List ℕ)) (x : ℕ) (v : List ℕ) → option_map (λ changed. x ∷ changed) o ≡ Some v
     → (w : List ℕ) × (o ≡ Some w) × (x ∷ w ≡ v)
@@ -84,22 +59,10 @@ pub record IsTurned (places : List ℕ) (a c : ℕ) (up at_vertex : Bool) (part 
 pub is-turned : (places : List ℕ) (a c : ℕ) (up at_vertex : Bool) (part instead : List ℕ)
     → quad_turned places a c up at_vertex part ≡ Some instead
     → IsTurned places a c up at_vertex part instead
-is-turned places a c true true part instead e =
-    let is = turned-is places a c true true part instead e in
-    let two = becomes-is (add (length places) c 1) c a (add (length places) a 1) part instead is.1 in
-    record { quad = is.0; after = two.rest; from = two.from; to = two.to }
-is-turned places a c true false part instead e =
-    let is = turned-is places a c true false part instead e in
-    let two = becomes-is c (add (length places) a 1) (add (length places) c 1) a part instead is.1 in
-    record { quad = is.0; after = two.rest; from = two.from; to = two.to }
-is-turned places a c false true part instead e =
-    let is = turned-is places a c false true part instead e in
-    let two = becomes-is a (add (length places) a 1) (add (length places) c 1) c part instead is.1 in
-    record { quad = is.0; after = two.rest; from = two.from; to = two.to }
-is-turned places a c false false part instead e =
-    let is = turned-is places a c false false part instead e in
-    let two = becomes-is (add (length places) c 1) a c (add (length places) a 1) part instead is.1 in
-    record { quad = is.0; after = two.rest; from = two.from; to = two.to }
+is-turned places a c true true part instead e = grind (arith, turned-is, becomes-is)
+is-turned places a c true false part instead e = grind (arith, turned-is, becomes-is)
+is-turned places a c false true part instead e = grind (arith, turned-is, becomes-is)
+is-turned places a c false false part instead e = grind (arith, turned-is, becomes-is)
 
 -- one step, and then the others
 pub record Later (places : List ℕ) (step : PathStep) (steps : List PathStep) (path end : List ℕ) : Type 0 where
@@ -109,9 +72,7 @@ pub record Later (places : List ℕ) (step : PathStep) (steps : List PathStep) (
 
 pub later-is : (places : List ℕ) (step : PathStep) (steps : List PathStep) (path end : List ℕ) → PathLeads places path (step ∷ steps) end
     → Later places step steps path end
-later-is places step steps path end e =
-    option_and_then_some (after_path_steps places steps) (after_path_step places step path) end e
-    (λ next first rest. record { next = next; first = first; rest = rest })
+later-is places step steps path end e = grind (arith, option_and_then_some)
 
 -- What spurs and quads keep: a sameness of lists of spokes that start at the vertex, or in the middle. It goes on behind a spoke of the
 -- wheel, and is given of spurs, and of quads round the middle alone.
@@ -127,14 +88,8 @@ pub record KeepsSteps (places : List ℕ) (Same : Bool → List ℕ → List ℕ
 -- both ways round a quad are of spokes of the wheel
 ways-below : (places : List ℕ) (b : Bool) (a c : ℕ) (p : List ℕ) → IsQuad places a c → InRange (length places) p
     → InRange (length places) (upper_way (length places) b a c ++ p) × InRange (length places) (lower_way (length places) b a c ++ p)
-ways-below places true a c p quad h =
-    let a_up = up-below (length places) a quad.a_below in
-    let c_up = up-below (length places) c quad.c_below in
-    ((quad.a_below, (a_up, h)), (c_up, (quad.c_below, h)))
-ways-below places false a c p quad h =
-    let a_up = up-below (length places) a quad.a_below in
-    let c_up = up-below (length places) c quad.c_below in
-    ((c_up, (quad.a_below, h)), (quad.c_below, (a_up, h)))
+ways-below places true a c p quad h = grind (arith, up-below)
+ways-below places false a c p quad h = grind (arith, up-below)
 
 range-behind : (d : ℕ) (front p : List ℕ) → InRange d (front ++ p) → InRange d p
 range-behind d [] p h = h
@@ -163,10 +118,7 @@ module _ (places : List ℕ) (Same : Bool → List ℕ → List ℕ → Type 0) 
   Keeps rule = (b : Bool) (p q : List ℕ) → InRange (length places) p → rule b p ≡ Some q → Same b p q × InRange (length places) q
 
   pub spur-keeps : Keeps (λ b. spur_goes)
-  spur-keeps b p q h e =
-      let goes = spur-is p q e in
-      let both : InRange (length places) (goes.x ∷ goes.x ∷ q) = rw (goes.is) at h in
-      (subst (λ l. Same b l q) (sym goes.is) (keeps.spur b goes.x q both.0), both.1.1)
+  spur-keeps b p q h e = grind (arith, spur-is)
 
   as-told : (b : Bool) (p q from to : List ℕ) → p ≡ from → q ≡ to → Same b from to → InRange (length places) to
       → Same b p q × InRange (length places) q
@@ -190,8 +142,7 @@ module _ (places : List ℕ) (Same : Bool → List ℕ → List ℕ → Type 0) 
   from-keeps rule k (suc at) b [] q h e = absurd cc
   from-keeps rule k (suc at) b (x ∷ p) q h e =
       let inner = mapped-is (from_spoke at (not b) rule p) x q e in
-      let rest = from-keeps rule k at (not b) p inner.0 h.1 inner.1 in
-      rw (← inner.2) (keeps.behind b x p inner.0 h.0 rest.0, (h.0, rest.1))
+      let rest = from-keeps rule k at (not b) p inner.0 h.1 inner.1 in grind arith
 
   step-keeps : (step : PathStep) (p q : List ℕ) → InRange (length places) p → after_path_step places step p ≡ Some q
       → Same true p q × InRange (length places) q
@@ -204,22 +155,14 @@ module _ (places : List ℕ) (Same : Bool → List ℕ → List ℕ → Type 0) 
   steps-keep (step ∷ steps) path end h e =
       let l = later-is places step steps path end e in
       let first = step-keeps step path l.next h l.first in
-      let rest = steps-keep steps l.next end first.1 l.rest in
-      (keeps.on true path l.next end first.0 rest.0, rest.1)
+      let rest = steps-keep steps l.next end first.1 l.rest in grind arith
 
 -- the spokes stay below the degree
 pub spokes-stay-below : (places path end : List ℕ) (steps : List PathStep) → All (λ spoke. spoke < length places) path
     → PathLeads places path steps end
     → All (λ spoke. spoke < length places) end
 spokes-stay-below places path end steps h e =
-    let any : KeepsSteps places (λ b p q. Unit {0}) = record {
-      itself = λ b p. tt;
-      turn = λ b p q h. tt;
-      on = λ b p q r h k. tt;
-      behind = λ b x p q l h. tt;
-      spur = λ b x p l. tt;
-      quad = λ a c p h. tt;
-    } in
+    let any : KeepsSteps places (λ b p q. Unit {0}) = grind arith in
     all-from (length places) end (steps-keep places (λ b p q. Unit {0}) any steps path end (in-range-from (length places) path h) e).1
 
 module _ {State : Type 0} (Belongs : List ℕ → State → Type 0) (IsAtVertex : State → Type 0) (size : State → ℕ) (next : List ℕ → State → ℕ
@@ -244,12 +187,7 @@ module _ {State : Type 0} (Belongs : List ℕ → State → Type 0) (IsAtVertex 
 
   stands-next : (b : Bool) (s : State) (i : ℕ) → Stands b s → i < length places → Stands (not b) (next places s i)
   stands-next true s i h below = record { before = s; spoke = i; below = below; at = h; is = refl }
-  stands-next false s i h below =
-      let belongs = stays.belongs places h.before h.spoke h.at.belongs h.below in
-      rw h.is (record {
-        belongs = stays.belongs places (next places h.before h.spoke) i belongs below;
-        vertex = stays.at_vertex places h.before h.spoke i h.at.belongs h.at.vertex h.below below;
-      })
+  stands-next false s i h below = grind arith
 
   belongs-of : (b : Bool) (s : State) → Stands b s → Belongs places s
   belongs-of true s h = h.belongs
@@ -260,14 +198,7 @@ module _ {State : Type 0} (Belongs : List ℕ → State → Type 0) (IsAtVertex 
   LeadAlike b p q = (s : State) → Stands b s → led next places s p ≡ led next places s q
 
   pub states-keep : KeepsSteps places LeadAlike
-  states-keep = record {
-    itself = λ b p s h. refl;
-    turn = λ b p q e s h. sym (e s h);
-    on = λ b p q r e f s h. e s h ∙ f s h;
-    behind = λ b x p q below e s h. e (next places s x) (stands-next b s x h below);
-    spur = λ b x p below s h. ap (λ z. led next places z p) (back places s x (belongs-of b s h) below);
-    quad = λ a c p quad s h. ap (λ z. led next places z p) (across places s a c h.belongs h.vertex quad);
-  }
+  states-keep = grind (arith, led)
 
   pub state-stays : (IsOwn : List ℕ → Type 0) (empty : State) → StartsWell IsOwn Belongs IsAtVertex size empty
       → (path end : List ℕ) (steps : List PathStep) → IsOwn places

@@ -1,13 +1,10 @@
 -- Two neighbours of a path that are taken the other way round their quad: which step that is, and what becomes of the turns.
-use Rattle.spoke_paths.proofs.Common.{is_quad, upper_way, lower_way, two_become, quad_turned, from_spoke, from_vertex, HasQuads, IsTurnedOver, ◌≡◌, ◌≢◌, ℕ, ◌+◌, ◌-◌, ◌%◌, ◌<◌, arith, inl, inr, refl, sym, ◌∙◌, ap, ap₂, zero, suc, Bool, true, false, not, List, [], ◌∷◌, ◌++◌, All, length, get_or, set, Option, Some, cases_eq, eq-eqb, ne_eqb, length-set, get_or-set_same, get_or-set_other, option_map, if◌then◌else◌, minus, place_round, IsWheel}
+use Rattle.spoke_paths.proofs.Common.{is_quad, upper_way, lower_way, two_become, quad_turned, from_spoke, from_vertex, HasQuads, IsTurnedOver, ◌≡◌, ◌≢◌, ℕ, ◌+◌, ◌-◌, ◌<◌, arith, refl, sym, ◌∙◌, ap, zero, suc, Bool, true, false, not, List, [], ◌∷◌, ◌++◌, All, length, get_or, set, Option, Some, eq-eqb, common_steps, length-set, get_or-set_same, get_or-set_other, option_map, if◌then◌else◌, minus, place_round, IsWheel}
 use Rattle.spoke_paths.proofs.StepsKeep.{quad-is}
 use Rattle.spoke_paths.proofs.Ways.{changes}
 
 pub from-next : (n : ℕ) → from_vertex (suc n) ≡ not (from_vertex n)
-from-next n = elim (cases_eq (n % 2) 0) [
-  | inl e ↦ rw (eq-eqb (n % 2) 0 e, ne_eqb (suc n % 2) 0 (λ f. absurd (omega arith))) refl
-  | inr e ↦ rw (ne_eqb (n % 2) 0 e, eq-eqb (suc n % 2) 0 (omega arith)) refl
-]
+from-next n = grind arith
 
 -- the point that a path stands at so many spokes later
 abbrev pub turned : ℕ → Bool → Bool
@@ -39,10 +36,8 @@ quad-turn : (places : List ℕ) (a c : ℕ) (up b : Bool) (x y v u : ℕ) (tail 
     (if up then lower_way (length places) b a c else upper_way (length places) b a c) ≡ x ∷ y ∷ [] →
     (if up then upper_way (length places) b a c else lower_way (length places) b a c) ≡ v ∷ u ∷ [] →
     quad_turned places a c up b (x ∷ y ∷ tail) ≡ Some (v ∷ u ∷ tail)
-quad-turn places a c true b x y v u tail quad old new =
-    rw (quad) (ap₂ (λ m n. two_become m n (x ∷ y ∷ tail)) old new ∙ becomes x y v u tail)
-quad-turn places a c false b x y v u tail quad old new =
-    rw (quad) (ap₂ (λ m n. two_become m n (x ∷ y ∷ tail)) old new ∙ becomes x y v u tail)
+quad-turn places a c true b x y v u tail quad old new = grind (arith, becomes)
+quad-turn places a c false b x y v u tail quad old new = grind (arith, becomes)
 
 -- the step leads, with more spokes behind too
 pub turn-leads : (places : List ℕ) (a c : ℕ) (up : Bool) (at : ℕ) (path rest : List ℕ) (v u : ℕ) → at + 1 < length path
@@ -53,18 +48,11 @@ pub turn-leads : (places : List ℕ) (a c : ℕ) (up : Bool) (at : ℕ) (path re
     from_spoke at true (quad_turned places a c up) (path ++ rest) ≡ Some (set (set path at v) (at + 1) u ++ rest)
 turn-leads places a c up at path rest v u h quad old new =
     let next : at + 1 ≡ suc at = omega arith in
-    let old_next = rw next at old in
-    rw next (from-at (quad_turned places a c up) at true path rest v u (omega arith) (λ tail.
-    rw (turned-is at) (quad-turn places a c up (from_vertex at) (get_or path at 0) (get_or path (suc at) 0) v u tail quad old_next new)))
+    let old_next = rw next at old in grind (arith, from-at, turned-is, quad-turn)
 
 -- each spoke stays below the degree
 pub below-set : (d : ℕ) (path : List ℕ) (at v : ℕ) → All (λ spoke. spoke < d) path → v < d → All (λ spoke. spoke < d) (set path at v)
-below-set d path at v h v_in k e k_in =
-    let long = length-set path at v in
-    elim (cases_eq k at) [
-      | inl same ↦ rw (same, get_or-set_same path at v e (omega arith)) v_in
-      | inr other ↦ rw (get_or-set_other path at k v e other) (h k e (omega arith))
-    ]
+below-set d path at v h v_in k e k_in = grind (arith, common_steps)
 
 pub turned-over : (places : List ℕ) → IsWheel places → HasQuads places → (a c : ℕ) (up : Bool) (at : ℕ) (path : List ℕ) (v u : ℕ)
     → at + 1 < length path →
@@ -75,7 +63,6 @@ pub turned-over : (places : List ℕ) → IsWheel places → HasQuads places →
     IsTurnedOver places at (if up then minus (length places) 1 else 1) (if up then 1 else minus (length places) 1) path
     (set (set path at v) (at + 1) u)
 turned-over places wheel w a c up at path v u h quad old new =
-    let d = length places in
     let changed = changes places wheel w (from_vertex at) up a c (get_or path at 0) (get_or path (at + 1) 0) v u (quad-is places a c quad)
     old new in
     let once = length-set path at v in
@@ -103,5 +90,4 @@ pub turned-below : (places : List ℕ) → IsWheel places → HasQuads places �
     All (λ spoke. spoke < length places) (set (set path at v) (at + 1) u)
 turned-below places wheel w a c up at path v u h quad old new =
     let changed = changes places wheel w (from_vertex at) up a c (get_or path at 0) (get_or path (at + 1) 0) v u (quad-is places a c quad)
-    old new in
-    below-set (length places) (set path at v) (at + 1) u (below-set (length places) path at v h changed.v_in) changed.u_in
+    old new in grind (arith, below-set)

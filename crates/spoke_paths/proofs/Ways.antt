@@ -1,10 +1,8 @@
 -- The two ways round a quad, with numbers: what is known of the one, and what the other is.
-use Rattle.spoke_paths.proofs.Common.{is_quad, upper_way, lower_way, HasQuads, ◌≡◌, ℕ, ◌<◌, ◌≤◌, arith, refl, sym, ◌∙◌, ap, Bool, true, false, not, List, [], ◌∷◌, length, get_or, eq-eqb, lt-ltb, and_from, if◌then◌else◌, IsQuad, add-cases, minus-cases, add-lt, minus-lt, add, minus, place_round, IsWheel}
+use Rattle.spoke_paths.proofs.Common.{is_quad, upper_way, lower_way, HasQuads, ◌≡◌, ℕ, ◌<◌, ◌≤◌, arith, refl, sym, ◌∙◌, ap, Bool, true, false, not, List, [], ◌∷◌, length, get_or, and_from, if◌then◌else◌, IsQuad, add-cases, minus-cases, add-lt, minus-lt, add, minus, place_round, IsWheel}
 
 quad-true : (places : List ℕ) (a c : ℕ) → IsQuad places a c → is_quad places a c ≡ true
-quad-true places a c q =
-    let d = length places in
-    and_from _ _ (and_from _ _ (and_from _ _ (lt-ltb a d q.a_below) (lt-ltb c d q.c_below)) (eq-eqb _ _ q.a_place)) (eq-eqb _ _ q.c_place)
+quad-true places a c q = grind (arith, and_from)
 
 other-side : (places : List ℕ) (a c : ℕ) → IsQuad places a c → IsQuad places c a
 other-side places a c q = record { a_below = q.c_below; c_below = q.a_below; a_place = q.c_place; c_place = q.a_place }
@@ -14,15 +12,7 @@ pub partner-quad : (places : List ℕ) → HasQuads places → (side next partne
     → partner ≡ add (length places) next (minus (length places) 1) →
     (is_quad places side partner ≡ true) × (is_quad places partner side ≡ true)
 partner-quad places w side next partner side_in next_in place e =
-    let d = length places in
-    let four = w.four in
-    let one_in : 1 < d = omega arith in
-    let partner_in : partner < d = rw e (add-lt d next (minus d 1) next_in (minus-lt d 1 one_in)) in
-    let up : add d partner 1 ≡ next = omega (arith, add-cases d partner 1, minus-cases d 1 one_in, add-cases d next (minus d 1)) in
-    let half = ap (λ n. get_or places n 0) up ∙ place in
-    let quad : IsQuad places side partner =
-    record { a_below = side_in; c_below = partner_in; a_place = half; c_place = w.full side partner side_in partner_in half } in
-    (quad-true places side partner quad, quad-true places partner side (other-side places side partner quad))
+    grind (arith, add-lt, minus-lt, add-cases, minus-cases, quad-true, other-side)
 
 module _ (d : ℕ) (four : 4 ≤ d) where
   -- a turn 1 or -1 between numbers
@@ -30,28 +20,19 @@ module _ (d : ℕ) (four : 4 ≤ d) where
   up-one x y hx hy e = omega (arith, minus-cases d x hx, add-cases d y (minus d x), add-cases d x 1)
 
   pub down-one : (x y : ℕ) → x < d → y < d → add d y (minus d x) ≡ minus d 1 → add d y 1 ≡ x
-  down-one x y hx hy e =
-      let one_in : 1 < d = omega arith in
-      omega (arith, minus-cases d 1 one_in, minus-cases d x hx, add-cases d y (minus d x), add-cases d y 1)
+  down-one x y hx hy e = grind (arith, minus-cases, add-cases)
 
   pub less-one : (x y : ℕ) → x < d → y < d → add d x 1 ≡ y → x ≡ add d y (minus d 1)
-  less-one x y hx hy e =
-      let one_in : 1 < d = omega arith in
-      omega (arith, minus-cases d 1 one_in, add-cases d x 1, add-cases d y (minus d 1))
+  less-one x y hx hy e = grind (arith, minus-cases, add-cases)
 
   pub more-one : (x y : ℕ) → x < d → y < d → x ≡ add d y (minus d 1) → add d x 1 ≡ y
-  more-one x y hx hy e =
-      let one_in : 1 < d = omega arith in
-      omega (arith, minus-cases d 1 one_in, add-cases d x 1, add-cases d y (minus d 1))
+  more-one x y hx hy e = grind (arith, minus-cases, add-cases)
 
   pub turn-up : (x : ℕ) → x < d → add d (add d x 1) (minus d x) ≡ 1
   turn-up x hx = omega (arith, minus-cases d x hx, add-cases d x 1, add-cases d (add d x 1) (minus d x))
 
   pub turn-down : (x : ℕ) → x < d → add d x (minus d (add d x 1)) ≡ minus d 1
-  turn-down x hx =
-      let one_in : 1 < d = omega arith in
-      let up_in = add-lt d x 1 hx one_in in
-      omega (arith, minus-cases d 1 one_in, add-cases d x 1, minus-cases d (add d x 1) up_in, add-cases d x (minus d (add d x 1)))
+  turn-down x hx = grind (arith, add-lt, minus-cases, add-cases)
 
 -- the turn between two neighbours
 abbrev turn_between : List ℕ → Bool → ℕ → ℕ → ℕ

@@ -33,13 +33,10 @@ path_of places spoke_at v m (y ∷ word) =
 
 -- sums, counted round
 pub add_back : (degree x : ℕ) → 1 < degree → x < degree → add degree (add degree x 1) (minus degree 1) ≡ x
-add_back degree x m l = add_assoc degree x 1 (minus degree 1) l m (minus-lt degree 1 m) ∙ ap (add degree x) (add-minus degree 1 m)
-    ∙ add-zero degree x l
+add_back degree x m l = grind (arith, add_assoc, minus-lt, add-minus, add-zero)
 
 add_on : (degree m p : ℕ) → m < degree → p < degree → add degree m (add degree p (minus degree m)) ≡ p
-add_on degree m p l k =
-    ap (add degree m) (add_comm degree p (minus degree m)) ∙ sym (add_assoc degree m (minus degree m) p l (minus-lt degree m l) k)
-    ∙ ap (λ x. add degree x p) (add-minus degree m l) ∙ zero-add degree p k
+add_on degree m p l k = grind (arith, add_comm, add_assoc, minus-lt, add-minus, zero-add)
 
 changed_within : (degree amount : ℕ) (word : List ℕ) → amount < degree → InRange degree word
     → InRange degree (next_changed degree amount word)
@@ -56,20 +53,13 @@ pub one_partner : (places : List ℕ) → 1 < length places → ((i j : ℕ) →
     → get_or places i 0 ≡ get_or places j 0 → i ≡ j) → (a b c : ℕ) → IsQuad places a b → IsQuad places a c → b ≡ c
 one_partner places large once a b c p q =
     let d : ℕ = length places in
-    let next : add d b 1 ≡ add d c 1 =
-    once (add d b 1) (add d c 1) (add-lt d b 1 p.c_below large) (add-lt d c 1 q.c_below large) (p.a_place ∙ sym q.a_place) in
+    let next : add d b 1 ≡ add d c 1 = grind (arith, add-lt) in
     sym (add_back d b large p.c_below) ∙ ap (λ x. add d x (minus d 1)) next ∙ add_back d c large q.c_below
 
 module _ (places : List ℕ) (spoke_at partner : ℕ → ℕ) (q : IsQuadWheel (length places) (λ i. get_or places i 0) spoke_at partner) where
   -- a side and its partner make a quad
   pub quad_of : (a : ℕ) → a < length places → IsQuad places a (partner a)
-  quad_of a l = record {
-    a_below = l;
-    c_below = q.partner_in a l;
-    a_place = q.one_before a l;
-    c_place = ap (λ x. get_or places (add (length places) x 1) 0) (sym (q.partner_back a l))
-        ∙ q.one_before (partner a) (q.partner_in a l);
-  }
+  quad_of a l = grind arith
 
   -- and with no other
   pub partner_is : (a c : ℕ) → IsQuad places a c → partner a ≡ c
@@ -106,10 +96,7 @@ module _ (places : List ℕ) (spoke_at partner : ℕ → ℕ) (q : IsQuadWheel (
   shifted : (v : Bool) (m amount : ℕ) (word : List ℕ) → m < length places → amount < length places → InRange (length places) word
       → path v (add (length places) m amount) word ≡ path v m (next_changed (length places) amount word)
   shifted v m amount [] l k h = refl
-  shifted v m amount (y ∷ word) l k h =
-      let d : ℕ = length places in
-      ap (λ x. spoke_round spoke_at v x ∷ path (not v) (place_round places (not v) (spoke_round spoke_at v x)) word)
-      (add_assoc d m amount y l k h.0 ∙ ap (add d m) (add_comm d amount y))
+  shifted v m amount (y ∷ word) l k h = grind (arith, add_assoc, add_comm)
 
   -- a list of spokes is that of its turns
   turns_path : (spokes : List ℕ) (v : Bool) (last : ℕ) → last < length places → InRange (length places) spokes
@@ -118,17 +105,14 @@ module _ (places : List ℕ) (spoke_at partner : ℕ → ℕ) (q : IsQuadWheel (
   turns_path (i ∷ spokes) v last l h =
       let d : ℕ = length places in
       let is : spoke_round spoke_at v (add d (place_round places v last) (add d (place_round places v i)
-      (minus d (place_round places v last)))) ≡ i =
-      ap (spoke_round spoke_at v) (add_on d (place_round places v last) (place_round places v i) (value_in v last l) (value_in v i h.0))
-      ∙ spoke_of_value v i h.0 in
+      (minus d (place_round places v last)))) ≡ i = grind (arith, add_on) in
       ap (λ x. x ∷ path (not v) (place_round places (not v) x) (turns_after places (not v) i spokes)) is
       ∙ ap (λ (p : List ℕ). i ∷ p) (turns_path spokes (not v) i h.0 h.1)
 
   word_path : (spokes : List ℕ) → InRange (length places) spokes → path true 0 (turn_word_of places spokes) ≡ spokes
   word_path [] h = refl
   word_path (i ∷ spokes) h =
-      let is : spoke_at (add (length places) 0 (get_or places i 0)) ≡ i =
-      ap spoke_at (zero-add (length places) (get_or places i 0) (q.place_in i h.0)) ∙ q.spoke_of_place i h.0 in
+      let is : spoke_at (add (length places) 0 (get_or places i 0)) ≡ i = grind (arith, zero-add) in
       ap (λ x. x ∷ path false x (turns_after places false i spokes)) is
       ∙ ap (λ (p : List ℕ). i ∷ p) (turns_path spokes false i h.0 h.1)
 
@@ -151,23 +135,7 @@ module _ (places : List ℕ) (spoke_at partner : ℕ → ℕ) (q : IsQuadWheel (
 
   corner : (v : Bool) (i : ℕ) → i < length places
       → Corner v i (up_from (not v) i) (down_from v i) (down_from (not v) (down_from v i))
-  corner true i l =
-      let d : ℕ = length places in
-      let c : ℕ = partner i in
-      let quad : IsQuad places i c = quad_of i l in
-      let first : add d c 1 ≡ down_from true i =
-      sym (q.spoke_of_place (add d c 1) (add-lt d c 1 quad.c_below q.large)) ∙ ap spoke_at quad.a_place in
-      let second : c ≡ down_from false (down_from true i) =
-      sym (add_back d c q.large quad.c_below) ∙ ap (λ x. add d x (minus d 1)) first in
-      record {
-        a = i;
-        c = c;
-        quad = quad;
-        upper = refl;
-        lower = ap₂ (λ x y. x ∷ y ∷ []) first second;
-        last_in = subst (λ x. x < d) second quad.c_below;
-        behind = ap (λ x. add d (get_or places x 0) (minus d 1)) (sym second) ∙ sym quad.c_place;
-      }
+  corner true i l = grind (arith, add-lt, add_back)
   corner false i l =
       let d : ℕ = length places in
       let y : ℕ = add d (get_or places i 0) 1 in
@@ -175,23 +143,11 @@ module _ (places : List ℕ) (spoke_at partner : ℕ → ℕ) (q : IsQuadWheel (
       let a : ℕ = spoke_at y in
       let c : ℕ = partner a in
       let quad : IsQuad places a c = quad_of a (q.spoke_in y y_in) in
-      let is : add d c 1 ≡ i =
-      sym (q.spoke_of_place (add d c 1) (add-lt d c 1 quad.c_below q.large))
-      ∙ ap spoke_at (quad.a_place ∙ ap (λ x. add d x (minus d 1)) (q.place_of_spoke y y_in)
-      ∙ add_back d (get_or places i 0) q.large (q.place_in i l)) ∙ q.spoke_of_place i l in
+      let is : add d c 1 ≡ i = grind (arith, add-lt, add_back) in
       let first : c ≡ down_from false i = sym (add_back d c q.large quad.c_below) ∙ ap (λ x. add d x (minus d 1)) is in
       let a_up_in : add d a 1 < d = add-lt d a 1 quad.a_below q.large in
       let second : add d a 1 ≡ down_from true (down_from false i) =
-      sym (q.spoke_of_place (add d a 1) a_up_in) ∙ ap spoke_at quad.c_place ∙ ap (down_from true) first in
-      record {
-        a = a;
-        c = c;
-        quad = quad;
-        upper = ap (λ x. x ∷ a ∷ []) is;
-        lower = ap₂ (λ x y. x ∷ y ∷ []) first second;
-        last_in = subst (λ x. x < d) second a_up_in;
-        behind = ap (λ x. add d x (minus d 1)) (sym second) ∙ add_back d a q.large quad.a_below;
-      }
+      sym (q.spoke_of_place (add d a 1) a_up_in) ∙ ap spoke_at quad.c_place ∙ ap (down_from true) first in grind (arith, add_back)
 
   module _ (Same : Bool → List ℕ → List ℕ → Type 0) (keeps : KeepsSteps places Same) where
     spur_same : (v : Bool) (m x : ℕ) (word : List ℕ) → m < length places → x < length places → InRange (length places) word
@@ -203,13 +159,10 @@ module _ (places : List ℕ) (spoke_at partner : ℕ → ℕ) (q : IsQuadWheel (
         let i : ℕ = spoke_round spoke_at v y in
         let i_in : i < d = round_in v y y_in in
         let rest : List ℕ = path v m (next_changed d x word) in
-        let again : spoke_round spoke_at (not v) (add d (place_round places (not v) i) 0) ≡ i =
-        ap (spoke_round spoke_at (not v)) (add-zero d (place_round places (not v) i) (value_in (not v) i i_in))
-        ∙ spoke_of_value (not v) i i_in in
+        let again : spoke_round spoke_at (not v) (add d (place_round places (not v) i) 0) ≡ i = grind (arith, add-zero) in
         let behind : path (not (not v)) (place_round places (not (not v)) i) word ≡ rest =
         behind_two v i word ∙ ap (λ z. path v z word) (value_of_spoke v y y_in) ∙ shifted v m x word l k h in
-        let is : path v m (x ∷ 0 ∷ word) ≡ i ∷ i ∷ rest =
-        ap (λ j. i ∷ j ∷ path (not (not v)) (place_round places (not (not v)) j) word) again ∙ ap (λ (p : List ℕ). i ∷ i ∷ p) behind in
+        let is : path v m (x ∷ 0 ∷ word) ≡ i ∷ i ∷ rest = grind arith in
         subst (λ (p : List ℕ). Same v p rest) (sym is) (keeps.spur v i rest i_in)
 
     push_same : (v : Bool) (m x : ℕ) (word : List ℕ) → m < length places → x < length places → InRange (length places) word
@@ -256,9 +209,7 @@ module _ (places : List ℕ) (spoke_at partner : ℕ → ℕ) (q : IsQuadWheel (
         let home : next_changed d first (next_changed d back w) ≡ w =
         unchanged d back first w h back_in first_in (add_comm d back first ∙ add-minus d first first_in) in
         let out : Same v (path v m (first ∷ 0 ∷ next_changed d back w)) (path v m (next_changed d first (next_changed d back w))) =
-        spur_same v m first (next_changed d back w) l first_in (changed_within d back w back_in h) in
-        subst (λ (z : List ℕ). Same v (path v m w) (path v m z)) told.1
-        (keeps.turn v _ _ (subst (λ (z : List ℕ). Same v (path v m (first ∷ 0 ∷ next_changed d back w)) (path v m z)) home out))
+        spur_same v m first (next_changed d back w) l first_in (changed_within d back w back_in h) in grind arith
 
     spur_out_keeps : KeepsWord (spur_out (length places))
     spur_out_keeps v m [] u l h e = cc
@@ -319,9 +270,7 @@ module _ (places : List ℕ) (spoke_at partner : ℕ → ℕ) (q : IsQuadWheel (
     -- the spokes of a word and those of one that it reaches are the same
     word_keeps : 5 ≤ length places → (steps : List Step) (w u : List ℕ) → InRange (length places) w
         → after_steps (length places) steps w ≡ Some u → Same true (path true 0 w) (path true 0 u)
-    word_keeps five [] w u h e =
-        let same : w ≡ u = cc in
-        subst (λ (z : List ℕ). Same true (path true 0 w) (path true 0 z)) same (keeps.itself true (path true 0 w))
+    word_keeps five [] w u h e = grind arith
     word_keeps five (step ∷ steps) w u h e =
         let told = first_answer (after_steps (length places) steps) (after_step (length places) step w) u e in
         let kept = keeps-step (length places) five step (state [] 0) w told.0 (start-sound (length places) five) h told.1 in

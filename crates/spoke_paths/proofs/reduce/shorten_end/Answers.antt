@@ -26,9 +26,7 @@ returns-then-turn-eq0-clause-short c =
     let old = c.args.front.now.items in
     let last = length old - 1 in
     let two : 2 ≤ length old = long at in
-    let items : c.remove-then-turn-eq0.new.self.items ≡ remove (remove old last) (last - 1) =
-    c.remove-then-turn-eq0.ensures.items ∙ ap₂ remove (c.remove.ensures.items ∙ ap (λ n. remove old (n - 1)) (len_is at))
-    (ap (λ n. n - 1 - 1) (len_is at)) in
+    let items : c.remove-then-turn-eq0.new.self.items ≡ remove (remove old last) (last - 1) = grind (arith, len_is) in
     rw items (spur-short c.args.wheel.now old last (omega arith) (omega arith) c.requires.before)
 
 pub returns-then-turn-eq0-clause-leads : goal.returns-then-turn-eq0-clause-leads
@@ -37,13 +35,9 @@ returns-then-turn-eq0-clause-leads c begin rest led =
     let places = c.args.wheel.now in
     let old = c.args.front.now.items in
     let last = length old - 1 in
-    let two : 2 ≤ length old = long at in
     let n = last - 1 in
     let n_is : suc n ≡ last = omega arith in
-    let items : c.remove-then-turn-eq0.new.self.items ≡ remove (remove old (suc n)) n =
-    c.remove-then-turn-eq0.ensures.items ∙ ap₂ remove (c.remove.ensures.items ∙ ap (λ m. remove old (m - 1)) (len_is at))
-    (ap (λ m. m - 1 - 1) (len_is at))
-    ∙ ap (λ k. remove (remove old k) n) (sym n_is) in
+    let items : c.remove-then-turn-eq0.new.self.items ≡ remove (remove old (suc n)) n = grind (arith, len_is) in
     let equal = equal-by-turn places old c.degree-degree.ensures.wheel c.requires.below last (omega arith) (omega arith)
     (sym (turn at) ∙ c.if-turn-eq0.true) in
     let goes = spur-at n true old rest (omega arith) (equal ∙ ap (λ k. get_or old k 0) (sym n_is)) in
@@ -55,24 +49,13 @@ returns-then-turn-eq0-clause-leads c begin rest led =
 opens : (c : In-Some-opening)
     → Opens c.args.wheel.now c.args.front.now.items (minus (length c.args.wheel.now) 1) (minus (length c.args.wheel.now) 2)
     c.in-Some-opening.start (length c.args.front.now.items - 1)
-opens c =
-    let places = c.args.wheel.now in
-    let d = c.degree-degree.result in
-    let start = c.in-Some-opening.start in
-    rw (
-      ← below_degree places d 1 c.requires.quads.four c.degree-degree.ensures.degree (omega arith) (omega arith),
-      ← below_degree places d 2 c.requires.quads.four c.degree-degree.ensures.degree (omega arith) (omega arith),
-    )
-    (subst (λ z. Opens places z (d - 1) (d - 2) start (length z - 1)) c.deref-then-turn-degree.ensures.value c.in-Some-opening.ensures)
+opens c = grind (arith, below_degree)
 
 pub close-requires-in-Some-opening-clause-opens : goal.close-requires-in-Some-opening-clause-opens
 close-requires-in-Some-opening-clause-opens c = opens (goal.at.close-requires-in-Some-opening-clause-opens c).In-Some-opening
 
 pub close-requires-in-Some-opening-clause-closes : goal.close-requires-in-Some-opening-clause-closes
-close-requires-in-Some-opening-clause-closes c =
-    sym (turn (goal.at.close-requires-in-Some-opening-clause-closes c).After-turn_at-turn) ∙ c.if-turn-degree.true
-    ∙ below_degree c.args.wheel.now c.degree-degree.result 1 c.requires.quads.four c.degree-degree.ensures.degree (omega arith)
-    (omega arith)
+close-requires-in-Some-opening-clause-closes c = grind (arith, turn, below_degree)
 
 pub returns-in_ok-close-clause-short : goal.returns-in_ok-close-clause-short
 returns-in_ok-close-clause-short c =
@@ -113,7 +96,6 @@ returns-in_default-opening-clause-short c =
     let places = c.args.wheel.now in
     let d = c.degree-degree.result in
     let old = c.args.front.now.items in
-    let two : 2 ≤ length old = long at in
     let below = λ (n : ℕ). below_degree places d n c.requires.quads.four c.degree-degree.ensures.degree in
     short-more places old (length old - 1) (omega arith) c.requires.before (record {
       no_spur = λ e. c.if-turn-eq0.false (turn at ∙ e);
@@ -128,7 +110,6 @@ returns-else-turn-degree-clause-short c =
     let at = (goal.at.returns-else-turn-degree-clause-short c).After-turn_at-turn in
     let places = c.args.wheel.now in
     let old = c.args.front.now.items in
-    let two : 2 ≤ length old = long at in
     let one_is = below_degree places c.degree-degree.result 1 c.requires.quads.four c.degree-degree.ensures.degree (omega arith)
     (omega arith) in
     short-more places old (length old - 1) (omega arith) c.requires.before (record {
