@@ -1,5 +1,5 @@
 -- The rings of a set of edges: the dart after a dart is a permutation, and one edge more or less exchanges two of its values.
-use Rattle.tree_cotree.proofs.Common.{IsPermutationBelow, steps_within, after_steps, IsReached, Rotations, IsRotationSystem, ◌≡◌, ◌≢◌, inl, inr, ℕ, zero, suc, ◌<◌, Bool, true, false, not, cond, refl, ap, sym, ◌∙◌, subst, cases_Bool, cases_eq, both_ways, cond-true, cond-false, exchanged, after_dart}
+use Rattle.tree_cotree.proofs.Common.{IsPermutationBelow, steps_within, after_steps, IsReached, Rotations, IsRotationSystem, arith, ◌≡◌, ◌≢◌, inl, inr, ℕ, zero, suc, ◌<◌, Bool, true, false, not, cond, refl, ap, sym, ◌∙◌, subst, cases_eq, cond-true, cond-false, exchanged, after_dart}
 use Rattle.tree_cotree.proofs.ExchangeLemmas.{at_first, at_second, elsewhere}
 
 pub go_on : (maps : Rotations) (inside : ℕ → Bool) (d : ℕ) → inside (maps.edge d) ≡ true → after_dart maps inside d ≡ maps.next d
@@ -18,34 +18,11 @@ twins_apart {maps} r x y l k e = sym (r.twin_back x l) ∙ ap maps.twin e ∙ r.
 -- a dart that stays and one that turns do not meet
 never_meet : {maps : Rotations} → IsRotationSystem maps → (inside : ℕ → Bool) (x y : ℕ) → x < maps.darts → y < maps.darts
     → inside (maps.edge x) ≡ true → inside (maps.edge y) ≡ false → x ≡ maps.twin y → ⊥
-never_meet {maps} r inside x y l k stays turns e =
-    let same : maps.edge x ≡ maps.edge y = ap maps.edge e ∙ sym (twin_edge maps r y k) in
-    both_ways (inside (maps.edge y)) turns (subst (λ (z : ℕ). inside z ≡ true) same stays)
+never_meet {maps} r inside x y l k stays turns e = grind (arith, twin_edge)
 
 pub after_permutes : (maps : Rotations) → IsRotationSystem maps → (inside : ℕ → Bool)
     → IsPermutationBelow maps.darts (after_dart maps inside)
-after_permutes maps r inside = record {
-  within = λ x l. elim (cases_Bool (inside (maps.edge x))) [
-    | inl stays ↦ subst (λ (z : ℕ). z < maps.darts) (sym (go_on maps inside x stays)) (r.next_within x l)
-    | inr turns ↦ subst (λ (z : ℕ). z < maps.darts) (sym (turn maps inside x turns)) (r.next_within (maps.twin x) (r.twin_within x l))
-  ];
-  injective = λ x y l k e. elim (cases_Bool (inside (maps.edge x))) [
-    | inl stays ↦ elim (cases_Bool (inside (maps.edge y))) [
-      | inl stays_too ↦ r.next_injective x y l k (sym (go_on maps inside x stays) ∙ e ∙ go_on maps inside y stays_too)
-      | inr turns ↦
-          absurd (never_meet r inside x y l k stays turns
-          (r.next_injective x (maps.twin y) l (r.twin_within y k) (sym (go_on maps inside x stays) ∙ e ∙ turn maps inside y turns)))
-    ]
-    | inr turns ↦ elim (cases_Bool (inside (maps.edge y))) [
-      | inl stays ↦
-          absurd (never_meet r inside y x k l stays turns
-          (r.next_injective y (maps.twin x) k (r.twin_within x l) (sym (go_on maps inside y stays) ∙ sym e ∙ turn maps inside x turns)))
-      | inr turns_too ↦
-          twins_apart r x y l k (r.next_injective (maps.twin x) (maps.twin y) (r.twin_within x l) (r.twin_within y k)
-          (sym (turn maps inside x turns) ∙ e ∙ turn maps inside y turns_too))
-    ]
-  ];
-}
+after_permutes maps r inside = grind (arith, go_on, turn, never_meet, twins_apart)
 
 pub after_agrees : (maps : Rotations) (inside others : ℕ → Bool) (d : ℕ) → inside (maps.edge d) ≡ others (maps.edge d)
     → after_dart maps inside d ≡ after_dart maps others d
@@ -63,10 +40,8 @@ pub after_exchanges : {maps : Rotations} → IsRotationSystem maps → {inside o
 after_exchanges {maps} r {inside} {others} d l differ h k = elim (cases_eq h d) [
   | inl at_dart ↦ subst (λ (z : ℕ). exchanged f d twin z ≡ g z) (sym at_dart) (at_first f d twin ∙ dart_side (inside (maps.edge d)) refl)
   | inr not_dart ↦ elim (cases_eq h twin) [
-    | inl at_twin ↦ subst (λ (z : ℕ). exchanged f d twin z ≡ g z) (sym at_twin)
-        (at_second f d twin apart ∙ twin_side (inside (maps.edge d)) refl)
-    | inr not_twin ↦ elsewhere f d twin h not_dart not_twin
-        ∙ sym (after_agrees maps others inside h (differ.elsewhere (maps.edge h) (other not_dart not_twin)))
+    | inl at_twin ↦ grind (arith, at_second)
+    | inr not_twin ↦ grind (arith, elsewhere, after_agrees)
   ]
 ]
   where

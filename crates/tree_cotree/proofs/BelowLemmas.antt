@@ -1,25 +1,16 @@
 -- The face below each edge, by the darts that are kept for the faces.
-use Rattle.tree_cotree.proofs.Common.{Rotations, ◌≡◌, ◌≢◌, inl, inr, ℕ, zero, suc, ◌+◌, ◌<◌, false, List, length, refl, ap, sym, ◌∙◌, subst, arith, set, cases_eq, cases_lt, length-replicate, get_or-replicate, get_or_past, length-set, get_or-set_same, get_or-set_other, Option, Some, None, is_some, replicate, AreBelowEdges, AreApart, kept_at}
+use Rattle.tree_cotree.proofs.Common.{Rotations, ◌≡◌, ◌≢◌, inl, inr, ℕ, zero, suc, ◌+◌, ◌<◌, List, length, refl, ap, sym, ◌∙◌, subst, arith, set, cases_eq, common_steps, length-replicate, length-set, get_or-set_same, get_or-set_other, Option, Some, None, is_some, replicate, AreBelowEdges, AreApart, kept_at}
 use Rattle.tree_cotree.proofs.SetLemmas.{with_one, with_itself, with_other}
 use Rattle.tree_cotree.proofs.SearchLemmas.{not_both}
 use Rattle.tree_cotree.proofs.TreeLemmas.{marked_none, marked_skip, marked_more}
 
 below_none : (maps : Rotations) (from : List (Option ℕ)) (edges : ℕ) → AreBelowEdges maps from edges (λ e. None) 0
-below_none maps from edges =
-    record { sets = marked_none maps from edges (λ e. false); faces = λ e f k. cc; keeps = λ f x l e. absurd (omega arith) }
+below_none maps from edges = grind (arith, marked_none)
 
 below_skip : {maps : Rotations} {from : List (Option ℕ)} {edges n : ℕ} {below : ℕ → Option ℕ}
     → AreBelowEdges maps from edges below n → kept_at from n ≡ None
     → AreBelowEdges maps from edges below (n + 1)
-below_skip {from} {n} h none =
-    record {
-      sets = marked_skip h.sets none;
-      faces = λ e f k. let there = h.faces e f k in (there.0, omega (arith, there.1), there.2, there.3);
-      keeps = λ f x l e. elim (cases_lt f n) [
-        | inl less ↦ h.keeps f x less e
-        | inr more ↦ (let same : f ≡ n = omega arith in absurd (not_both (kept_at from n) x (ap (kept_at from) (sym same) ∙ e) none))
-      ];
-    }
+below_skip {from} {n} h none = grind (arith, marked_skip, not_both)
 
 below_more : {maps : Rotations} {from : List (Option ℕ)} {edges n : ℕ} (x : ℕ) {below : ℕ → Option ℕ} (more : ℕ → Option ℕ)
     → AreApart maps from → AreBelowEdges maps from edges below n
@@ -34,36 +25,14 @@ below_more {maps} {from} {n} x {below} more apart h some l here other =
                 ∙ sym (ap (with_one (λ k. is_some (below k)) i) same ∙ with_itself (λ k. is_some (below k)) i)
             | inr ne ↦ ap is_some (other e ne) ∙ sym (with_other (λ k. is_some (below k)) i e ne)
           ]);
-      faces = λ e f k. elim (cases_eq e i) [
-        | inl same ↦
-            (let is : Some f ≡ Some n = sym k ∙ ap more same ∙ here in
-            let f_is : f ≡ n = cc in
-            (x, omega (arith, f_is), ap (kept_at from) f_is ∙ some, sym same))
-        | inr ne ↦ (let there = h.faces e f (sym (other e ne) ∙ k) in (there.0, omega (arith, there.1), there.2, there.3))
-      ];
-      keeps = λ f y b e. elim (cases_lt f n) [
-        | inl less ↦ other (maps.edge y) (apart.apart f n y x e some (λ same. omega (arith, less, same))) ∙ h.keeps f y less e
-        | inr last ↦
-            (let same : f ≡ n = omega (arith, b, last) in
-            let is : Some y ≡ Some x = sym e ∙ ap (kept_at from) same ∙ some in
-            let y_is : y ≡ x = cc in
-            ap (λ k. more (maps.edge k)) y_is ∙ here ∙ ap Some (sym same))
-      ];
+      faces = λ e f k. grind arith;
+      keeps = λ f y b e. grind arith;
     }
 
 -- kept in a list: none at first, then face by face
 pub faces_none : (maps : Rotations) (from : List (Option ℕ)) (edges : ℕ)
     → AreBelowEdges maps from edges (kept_at (replicate edges None)) 0
-faces_none maps from edges =
-    subst (λ (below : ℕ → Option ℕ). AreBelowEdges maps from edges below 0) (λ i e. sym (none_at e) i) (below_none maps from edges)
-  where
-    none_at : (e : ℕ) → kept_at (replicate edges None) e ≡ None
-    none_at e = elim (cases_lt e edges) [
-      | inl l ↦ get_or-replicate edges e None None l
-      | inr past ↦
-          (let no_face : Option ℕ = None in
-          get_or_past (replicate edges no_face) e None (omega (arith, past, length-replicate edges no_face)))
-    ]
+faces_none maps from edges = grind (arith, common_steps, below_none)
 
 pub faces_skip : {maps : Rotations} {from : List (Option ℕ)} {edges n : ℕ} (faces : List (Option ℕ))
     → AreBelowEdges maps from edges (kept_at faces) n → kept_at from n ≡ None

@@ -18,10 +18,7 @@ passes_below p (suc n) i l h = elim (cases_lt i n) [
 ]
 
 none_below : (p : ℕ → Bool) (n : ℕ) → ((i : ℕ) → i < n → p i ≡ true → ⊥) → any_below p n ≡ false
-none_below p n h = elim (cases_Bool (any_below p n)) [
-  | inl some ↦ (let found = found_below p n some in absurd (h found.0 found.1 found.2))
-  | inr none ↦ none
-]
+none_below p n h = grind (arith, found_below)
 
 pub count_none : (n : ℕ) → count_below (λ _. false) n ≡ 0
 count_none zero = refl
@@ -31,19 +28,13 @@ count_none (suc n) = rw (count_none n) refl
 pub count_same : (p q : ℕ → Bool) (n : ℕ) → ((x : ℕ) → x < n → p x ≡ q x) → count_below p n ≡ count_below q n
 count_same p q zero h = refl
 count_same p q (suc n) h =
-    let here : p n ≡ q n = h n (omega arith) in
-    let before : count_below p n ≡ count_below q n = count_same p q n (λ x l. h x (omega arith)) in
-    rw (before, here) refl
+    let before : count_below p n ≡ count_below q n = count_same p q n (λ x l. h x (omega arith)) in grind arith
 
 pub count_less : (p q : ℕ → Bool) (n l : ℕ) → l < n → p l ≡ true → q l ≡ false → ((x : ℕ) → x < n → x ≢ l → p x ≡ q x)
     → count_below p n ≡ suc (count_below q n)
 count_less p q zero l b h k same = absurd (omega arith)
 count_less p q (suc n) l b h k same = elim (cases_eq n l) [
-  | inl top ↦
-      let here : p n ≡ true = subst (λ (k : ℕ). p k ≡ true) (sym top) h in
-      let gone : q n ≡ false = subst (λ (k : ℕ). q k ≡ false) (sym top) k in
-      let before : count_below p n ≡ count_below q n = count_same p q n (λ x less. same x (omega arith) (λ e. absurd (omega arith))) in
-      rw (before, here, gone) (omega arith)
+  | inl top ↦ grind (arith, count_same)
   | inr below ↦
       let less : l < n = omega arith in
       let here : p n ≡ q n = same n (omega arith) below in
@@ -140,10 +131,7 @@ one_less_ordered {n} {e} {merged} {a} {b} la lb h m a_in b_in la_in lb_in to_a t
     ]
 
 turned : {n : ℕ} {e merged : ℕ → ℕ → Bool} {a b : ℕ} → MergesClasses n e merged a b → MergesClasses n e merged b a
-turned m = record {
-  only = λ x y l k is. elim (m.only x y l k is) [ inl p ↦ inl p | inr p ↦ inr (elim p [ inl q ↦ inr q | inr q ↦ inl q ]) ];
-  all = λ x y l k is. m.all x y l k (elim is [ inl p ↦ inl p | inr p ↦ inr (elim p [ inl q ↦ inr q | inr q ↦ inl q ]) ]);
-}
+turned m = grind arith
 
 -- two classes made one are one class less
 pub one_class_less : {n : ℕ} {e merged : ℕ → ℕ → Bool} {a b : ℕ} → IsEquivalenceBelow n e → MergesClasses n e merged a b → a < n → b < n
@@ -156,12 +144,5 @@ one_class_less {n} {e} {a} {b} h m a_in b_in apart =
     let lb_in : two.least < n = omega (arith, two.within) in
     elim (cases_lt one.least two.least) [
       | inl less ↦ one_less_ordered one.least two.least h m a_in b_in la_in lb_in one.related two.related one.first two.first less
-      | inr more ↦ elim (cases_eq one.least two.least) [
-        | inl same ↦
-            absurd (both_ways (e a b) apart (h.on a one.least b a_in la_in b_in (h.back one.least a la_in a_in one.related)
-            (subst (λ (x : ℕ). e x b ≡ true) (sym same) two.related)))
-        | inr other ↦
-            one_less_ordered two.least one.least h (turned m) b_in a_in lb_in la_in two.related
-            one.related two.first one.first (omega arith)
-      ]
+      | inr more ↦ grind (arith, one_less_ordered, turned)
     ]

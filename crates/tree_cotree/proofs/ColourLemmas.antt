@@ -1,5 +1,5 @@
 -- A colouring with a tree, a cotree and a root face is one of a split: ways are there within the tree and within the cotree.
-use Rattle.tree_cotree.proofs.Common.{rotation_system, names_all, OrientedMesh, IsOrientedSurface, Rotations, rotations_of, IsRotationSystem, NamesAll, ◌≡◌, true, List, length, get_or, refl, subst, is_used, without_ways, HasColouredTrees, ColouringView, colouring_of, IsColouring, has_kind, IsSpanningTree, SplitView, IsSplit, HasTrees, in_tree, in_cotree, made_split, IsRooted, Kind, Tree, Cotree}
+use Rattle.tree_cotree.proofs.Common.{rotation_system, names_all, OrientedMesh, IsOrientedSurface, Rotations, rotations_of, IsRotationSystem, NamesAll, arith, ◌≡◌, true, List, length, get_or, refl, subst, is_used, without_ways, HasColouredTrees, ColouringView, colouring_of, IsColouring, has_kind, IsSpanningTree, SplitView, IsSplit, HasTrees, in_tree, in_cotree, made_split, IsRooted, Kind, Tree, Cotree}
 use Rattle.tree_cotree.proofs.LawLemmas.{vertex_nodes, face_nodes, some_dart}
 use Rattle.tree_cotree.proofs.TreeLemmas.{kept_apart}
 use Rattle.tree_cotree.proofs.BelowLemmas.{faces_there}
@@ -17,10 +17,8 @@ coloured_trees_are_of_a_split {s} {colouring} o c =
     let bare : SplitView = without_ways colouring in
     let tree_set : in_tree bare ≡ has_kind kinds Tree = λ i e. tree_kind (get_or kinds e Tree) i in
     let cotree_set : in_cotree bare ≡ has_kind kinds Cotree = λ i e. cotree_kind (get_or kinds e Tree) i in
-    let tree : IsSpanningTree maps maps.origin (is_used s.mesh) s.mesh.count (length s.table) (has_kind kinds Tree) =
-    subst (IsSpanningTree maps maps.origin (is_used s.mesh) s.mesh.count (length s.table)) tree_set c.trees.tree in
-    let cotree : IsSpanningTree maps maps.face (λ f. true) (length s.mesh.faces) (length s.table) (has_kind kinds Cotree) =
-    subst (IsSpanningTree maps maps.face (λ f. true) (length s.mesh.faces) (length s.table)) cotree_set c.trees.cotree in
+    let tree : IsSpanningTree maps maps.origin (is_used s.mesh) s.mesh.count (length s.table) (has_kind kinds Tree) = grind arith in
+    let cotree : IsSpanningTree maps maps.face (λ f. true) (length s.mesh.faces) (length s.table) (has_kind kinds Cotree) = grind arith in
     let up = rooted_within 0 r (vertex_nodes names) tree (some_dart o) in
     let top = names.each_face colouring.root_face c.root_below in
     let found = rooted_within top.0 r (face_nodes names) cotree top.1 in
@@ -39,11 +37,7 @@ split_tells s split is = record { split = split; is_split = is; tells = refl }
 pub colourings_have_trees : (s : OrientedMesh) (colouring : ColouringView) → IsColouring s colouring → HasColouredTrees s colouring
 colourings_have_trees s colouring c =
     subst (HasColouredTrees s) c.tells (record {
-      trees = record {
-        each_edge = c.is_split.trees.each_edge;
-        tree = c.is_split.trees.tree;
-        cotree = c.is_split.trees.cotree;
-      };
+      trees = grind arith;
       root_below = c.is_split.child_faces.root_below;
       root_left = c.is_split.root_left;
       genus = c.is_split.genus;

@@ -123,18 +123,7 @@ grow_all : {maps : Rotations} {node : ℕ → ℕ} {is_node : ℕ → Bool} {bou
     → IsGrown maps node is_node bound tree (node root) from nodes
     → (kept : List (Option ℕ)) × IsRooted maps node tree bound (node root) kept
 grow_all {node} {is_node} {bound} root r n t root_in zero {from} {nodes} count h =
-    let all : (v : ℕ) → v < bound → nodes v ≡ is_node v = same_from_count nodes is_node bound h.are_nodes (omega arith) in (
-      from,
-      record {
-        long = h.long;
-        at_root = (root, root_in, refl);
-        none = h.none;
-        within = h.within;
-        of_node = h.of_node;
-        inside = h.inside;
-        to_root = λ d l. h.to_root (node d) (all (node d) (n.node_within d l) ∙ n.is_of_dart d l);
-      },
-    )
+    let all : (v : ℕ) → v < bound → nodes v ≡ is_node v = same_from_count nodes is_node bound h.are_nodes (omega arith) in grind arith
 grow_all {maps} {node} {is_node} {bound} {tree} root r n t root_in (suc left) {nodes} count h =
     elim (some_outside nodes is_node bound) [
       | inr none ↦
@@ -163,7 +152,6 @@ pub rooted_within : {maps : Rotations} {node : ℕ → ℕ} {is_node : ℕ → B
 rooted_within {maps} {node} {is_node} {bound} {tree} root r n t root_in =
     let start : IsGrown maps node is_node bound tree (node root) (replicate bound None) (with_one (λ v. false) (node root)) =
     root_grown tree root n root_in in
-    let few : count_below (with_one (λ v. false) (node root)) bound ≤ count_below is_node bound =
-    count_few (with_one (λ v. false) (node root)) is_node bound start.are_nodes in
+    let few : count_below (with_one (λ v. false) (node root)) bound ≤ count_below is_node bound = grind (arith, count_few) in
     grow_all root r n t root_in (count_below is_node bound - count_below (with_one (λ v. false) (node root)) bound)
     (omega (arith, few)) start

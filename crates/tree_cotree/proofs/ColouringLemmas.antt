@@ -1,6 +1,6 @@
 -- Kinds of edges that are made by joining classes, edge by edge: what they are when the edges below n have been tried, and the trees that
 -- they make in the end.
-use Rattle.tree_cotree.proofs.Common.{joined_at_same, joined_at_ends, joined_refl, joined_step, joined_trans, joined_at, rotation_system, names_all, OrientedMesh, IsOrientedSurface, Rotations, rotations_of, IsRotationSystem, IsDartStep, IsDartFrom, ◌≡◌, ◌≢◌, inl, inr, ℕ, ◌+◌, ◌/◌, ◌<◌, ◌≤◌, Bool, true, false, List, [], ◌∷◌, length, get_or, refl, ap, sym, ◌∙◌, subst, arith, set, cases_Bool, cases_eq, cases_lt, both_ways, length-replicate, get_or-set_same, get_or-set_other, length-set, get_or_past, range_with_len, replicate, is_used, count_below, IsPath, AreJoined, HasColouredTrees, without_ways, ColouringView, bound_of, is_node_of, kind_over, AreEnds, HangTogether, AreSpanned, IsTried, node_of, same_kind, has_kind, StepsIn, IsSpanningTree, HasOneRing, SplitView, HasTrees, in_tree, in_cotree, is_left, Nodes, Vertices, Faces, Kind, Tree, Cotree, Left}
+use Rattle.tree_cotree.proofs.Common.{joined_at_same, joined_at_ends, joined_refl, joined_step, joined_trans, joined_at, rotation_system, names_all, OrientedMesh, IsOrientedSurface, Rotations, rotations_of, IsRotationSystem, IsDartStep, IsDartFrom, ◌≡◌, ◌≢◌, inl, inr, ℕ, ◌+◌, ◌/◌, ◌<◌, ◌≤◌, Bool, true, false, List, [], ◌∷◌, length, get_or, refl, ap, sym, ◌∙◌, subst, arith, set, cases_Bool, cases_eq, both_ways, common_steps, length-replicate, get_or-set_same, get_or-set_other, length-set, range_with_len, replicate, count_below, IsPath, AreJoined, HasColouredTrees, without_ways, ColouringView, bound_of, is_node_of, kind_over, AreEnds, HangTogether, AreSpanned, IsTried, node_of, same_kind, has_kind, StepsIn, HasOneRing, SplitView, HasTrees, in_tree, in_cotree, is_left, Nodes, Vertices, Faces, Kind, Tree, Cotree, Left}
 use Rattle.tree_cotree.proofs.SetLemmas.{with_one, with_itself, with_other}
 use Rattle.tree_cotree.proofs.GrowthLemmas.{HasNodes}
 use Rattle.tree_cotree.proofs.SplitLemmas.{tree_ring, closed_holds_all}
@@ -107,8 +107,7 @@ spanning_early {s} {nodes} {kind} {old} {n} {m} {least} {more} {kinds} {new} o l
   where
     both : (classes : List ℕ) (ks : List Kind) → more ≡ classes → new ≡ ks → IsSpanning s nodes kind old n classes ks
         → IsSpanning s nodes kind old n more new
-    both classes ks is sets h =
-        subst (λ r. IsSpanning s nodes kind old n r new) (sym is) (subst (IsSpanning s nodes kind old n classes) (sym sets) h)
+    both classes ks is sets h = grind arith
 
 -- the turn of an edge passes: its nodes are in one class, or it is in the set, or it was not left
 spanning_joined : {s : OrientedMesh} {nodes : Nodes} {kind : Kind} {old : List Kind} {n : ℕ} {least : List ℕ} {kinds : List Kind} {x y : ℕ}
@@ -123,16 +122,7 @@ spanning_joined {s} o a same h = record {
 spanning_passed : {s : OrientedMesh} {nodes : Nodes} {kind : Kind} {old : List Kind} {n : ℕ} {least : List ℕ} {kinds : List Kind}
     → n < length s.table → has_kind kinds Left n ≡ false → IsSpanning s nodes kind old n least kinds
     → IsSpanning s nodes kind old (n + 1) least kinds
-spanning_passed {kind} {n} {kinds} l out h = record {
-  long = h.long;
-  others = h.others;
-  joining = elim (cases_Bool (has_kind kinds kind n)) [
-    | inl kept ↦
-        joining_set l kept h.joining
-    | inr free ↦
-        joining_skip (ap (λ k. same_kind k Left) (sym (h.others n free)) ∙ out) h.joining
-  ];
-}
+spanning_passed {kind} {n} {kinds} l out h = grind (arith, joining_set, joining_skip)
 
 -- an edge is tried in its turn
 pub spanning_next : {s : OrientedMesh} {nodes : Nodes} {kind : Kind} {old : List Kind} {n : ℕ} {least more : List ℕ}
@@ -142,14 +132,11 @@ pub spanning_next : {s : OrientedMesh} {nodes : Nodes} {kind : Kind} {old : List
     → IsSpanning s nodes kind old (n + 1) more new
 spanning_next {s} {nodes} {kind} {old} {n} {least} {more} {kinds} {new} o l b other tried h =
     elim (cases_Bool (has_kind kinds Left n)) [
-      | inr out ↦
-          spanning_passed l (ap (λ (ks : List Kind). has_kind ks Left n) (tried.other out).1 ∙ out) after
+      | inr out ↦ grind (arith, spanning_passed)
       | inl left ↦
           (let t = tried.left left in
           let at = ends_within (rotation_system s o) (has_nodes o nodes) t.ends in
-          let one : get_or more t.x 0 ≡ get_or more t.y 0 = ap (λ (r : List ℕ). get_or r t.x 0) t.joined
-          ∙ joined_at_ends least t.x t.y (omega (arith, at.0.0, h.joining.long)) (omega (arith, at.1.0, h.joining.long))
-          ∙ sym (ap (λ (r : List ℕ). get_or r t.y 0) t.joined) in
+          let one : get_or more t.x 0 ≡ get_or more t.y 0 = grind (arith, joined_at_ends) in
           spanning_joined o t.ends one after)
     ]
   where
@@ -233,38 +220,21 @@ none_before s k0 kind first other e l = ap (λ k. same_kind k kind) (all_left s 
 
 pub none_between : {s : OrientedMesh} {k0 k1 : List Kind} → k0 ≡ replicate (length s.table) Left → AreSpanned s Vertices Tree k0 k1
     → (e : ℕ) → e < length s.table → has_kind k1 Cotree e ≡ false
-none_between {k1} first t e l = elim (cases_Bool (has_kind k1 Tree e)) [
-  | inl is ↦ other_kind k1 Tree Cotree e refl is
-  | inr out ↦ other_kind k1 Left Cotree e refl (left_outside e first t l out)
-]
+none_between {k1} first t e l = grind (arith, other_kind, left_outside)
 
 -- the cotree leaves the tree as it is
 pub tree_stays : {s : OrientedMesh} {k1 k2 : List Kind} → length k1 ≡ length s.table → AreSpanned s Faces Cotree k1 k2 → (e : ℕ)
     → has_kind k2 Tree e ≡ has_kind k1 Tree e
-tree_stays {s} {k1} {k2} long c e = elim (cases_Bool (has_kind k2 Cotree e)) [
-  | inr out ↦ ap (λ k. same_kind k Tree) (c.others e out)
-  | inl is ↦ elim (cases_lt e (length s.table)) [
-    | inl l ↦ other_kind k2 Cotree Tree e refl is ∙ sym (other_kind k1 Left Tree e refl (c.were_left e l is))
-    | inr past ↦
-        ap (λ k. same_kind k Tree)
-        (get_or_past k2 e Tree (omega (arith, past, long, c.long)) ∙ sym (get_or_past k1 e Tree (omega (arith, past, long))))
-  ]
-]
+tree_stays {s} {k1} {k2} long c e = grind (arith, common_steps, other_kind)
 
 coloured_trees : {s : OrientedMesh} {k0 k1 k2 : List Kind} (root genus : ℕ) → k0 ≡ replicate (length s.table) Left
     → AreSpanned s Vertices Tree k0 k1 → AreSpanned s Faces Cotree k1 k2
     → HasTrees s (without_ways (record { kinds = k2; root_face = root; genus = genus }))
 coloured_trees {s} {k1} {k2} root genus first t c =
-    let maps : Rotations = rotations_of s in
     let colours : ColouringView = record { kinds = k2; root_face = root; genus = genus } in
     let long : length k1 ≡ length s.table = t.long ∙ ap (λ (ks : List Kind). length ks) first ∙ length-replicate (length s.table) Left in
     let tree_set : in_tree (without_ways colours) ≡ has_kind k1 Tree = λ i e. (tree_kind (get_or k2 e Tree) ∙ tree_stays long c e) i in
-    let cotree_set : in_cotree (without_ways colours) ≡ has_kind k2 Cotree = λ i e. cotree_kind (get_or k2 e Tree) i in
-    record {
-      each_edge = c.long ∙ long;
-      tree = subst (IsSpanningTree maps maps.origin (is_used s.mesh) s.mesh.count (length s.table)) (sym tree_set) t.spans;
-      cotree = subst (IsSpanningTree maps maps.face (λ f. true) (length s.mesh.faces) (length s.table)) (sym cotree_set) c.spans;
-    }
+    let cotree_set : in_cotree (without_ways colours) ≡ has_kind k2 Cotree = λ i e. cotree_kind (get_or k2 e Tree) i in grind arith
 
 -- what joining vertices and then faces makes
 pub coloured : {s : OrientedMesh} → IsOrientedSurface s → {k0 k1 k2 : List Kind} (start root genus : ℕ)
@@ -275,7 +245,6 @@ pub coloured : {s : OrientedMesh} → IsOrientedSurface s → {k0 k1 k2 : List K
     → root ≡ (rotations_of s).face start → genus ≡ count_below (has_kind k2 Left) (length s.table) / 2
     → HasColouredTrees s (record { kinds = k2; root_face = root; genus = genus })
 coloured {s} o {k2} start root genus first t c start_in start_left is_root half =
-    let maps : Rotations = rotations_of s in
     let colours : ColouringView = record { kinds = k2; root_face = root; genus = genus } in
     let split : SplitView = without_ways colours in
     let trees : HasTrees s split = coloured_trees root genus first t c in
@@ -286,11 +255,6 @@ coloured {s} o {k2} start root genus first t c start_in start_left is_root half 
     record {
       trees = trees;
       root_below = subst (λ f. f < length s.mesh.faces) (sym is_root) ((names_all s o).face_below start start_in);
-      root_left = λ d l is. (
-        start,
-        start_in,
-        left_kind (get_or k2 (maps.edge start) Tree) ∙ start_left d l (sym (left_kind (get_or k2 (maps.edge d) Tree)) ∙ is),
-        sym is_root,
-      );
+      root_left = λ d l is. grind (arith, left_kind);
       genus = omega (arith, pairs.1, count, half);
     }

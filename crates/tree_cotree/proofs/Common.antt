@@ -12,7 +12,8 @@ pub use Rattle.halfedge_map.specs.RotationSystems.{IsDartFrom, IsDartStep, IsRot
 pub use Rattle.std.proofs.Common.{Bool, List, ap, arith, cond, eqb, false, get_or, inl, inr, length, ltb, not, refl, rules, slice_index, subst, suc, sym, true, zero, ℕ, [], ◌&&◌, ◌*◌, ◌++◌, ◌+◌, ◌-◌, ◌/◌, ◌<◌, ◌||◌, ◌∙◌, ◌∷◌, ◌≡◌, ◌≢◌, ◌≤◌, ◌⊎◌}
 pub use Rattle.std.proofs.Math.ListN.{set}
 pub use Rattle.std.proofs.lemmas.Bool.{and_from, and_parts, and_right, both_ways, cases_Bool, cases_eq, cases_lt, cond-false, cond-true, eq-eqb, eqb-true, lt-ltb, ltb-true, not_from_false, not_from_true, or_cases, or_left, or_right}
-pub use Rattle.std.proofs.lemmas.List.{append-nil, append_assoc, get_or-append_right, get_or-map, get_or-replicate, get_or-set_other, get_or-set_same, get_or_append_left, get_or_default, get_or_past, get_or_push, get_or_read, length-append, length-map, length-replicate, length-set, length_push, map-append, with_items_is}
+pub use Rattle.std.proofs.lemmas.Grind.{common_steps}
+pub use Rattle.std.proofs.lemmas.List.{append-nil, append_assoc, get_or-append_right, get_or-map, get_or-replicate, get_or-set_other, get_or-set_same, get_or_append_left, get_or_push, get_or_read, length-append, length-map, length-replicate, length-set, length_push, map-append, with_items_is}
 pub use Rattle.std.specs.Cmp.Derive.{one_truth}
 pub use Rattle.std.specs.List.{range_with_len}
 pub use Rattle.std.specs.Option.{option_map, option_to_list}
@@ -30,12 +31,12 @@ pub use Rattle.tree_cotree.specs.Joinings.{AreEnds, AreSpanned, HangTogether, Is
 pub use Rattle.tree_cotree.specs.Markings.{AreApart, AreMarked, IsMarked}
 pub use Rattle.tree_cotree.specs.RingCounts.{any_below, class_count, exchanged, is_least, meets, ring_count}
 pub use Rattle.tree_cotree.specs.RingViews.{AreRingsOf, ChangesByOne, RingView, dart_numbers, is_inside, rings_of}
-pub use Rattle.tree_cotree.specs.Searches.{AreAdded, AreBelow, IsCrossed, IsFound, IsNamed, IsOrder, IsSearched, LeadsBack, has_kind, kept_at, node_of, same_kind, turn_of}
+pub use Rattle.tree_cotree.specs.Searches.{AreAdded, IsCrossed, IsFound, IsNamed, IsOrder, IsSearched, LeadsBack, has_kind, kept_at, node_of, same_kind, turn_of}
 pub use Rattle.tree_cotree.specs.SpanningTrees.{HasOneRing, IsSpanningTree, IsStepIn, StepsIn, after_dart}
-pub use Rattle.tree_cotree.specs.Splits.{HasChildFaces, HasParents, HasTrees, IsSplit, SplitView, StepsToParent, StepsUp, below_edge, in_cotree, in_tree, is_cotree_kind, is_left, is_left_kind, is_tree_kind, kind_of, parent_dart}
+pub use Rattle.tree_cotree.specs.Splits.{HasChildFaces, HasParents, HasTrees, IsSplit, SplitView, StepsToParent, StepsUp, below_edge, in_cotree, in_tree, is_cotree_kind, is_left, is_left_kind, is_tree_kind, kind_of}
 pub use Rattle.tree_cotree.specs.StoredSplits.{made_split}
 pub use Rattle.tree_cotree.specs.Waiting.{IsTaken, waiting_darts}
-pub use Rattle.tree_cotree.specs.Ways.{HasRoot, IsRooted, IsWay, LeadsUp}
+pub use Rattle.tree_cotree.specs.Ways.{IsRooted, IsWay, LeadsUp}
 pub use Rattle.tree_cotree.specs.declared.search.Nodes.{Nodes}
 pub use Rattle.tree_cotree.specs.declared.search.Nodes.TheVariants.{Faces, Vertices}
 pub use Rattle.tree_cotree.specs.declared.split.Kind.{Kind}

@@ -13,13 +13,7 @@ vertices_at {s} o k low high l is_low is_high =
     let there = (names_all s o).each_edge k l in
     let d : ℕ = there.0 in
     elim (between_is s o low high k d l (inl (sym is_low, sym is_high)) there.1 there.2) [
-      | inl on ↦ record {
-        dart = d;
-        within = there.1;
-        on_edge = there.2;
-        starts = on.0;
-        ends = origin-twin s o d there.1 ∙ on.1;
-      }
+      | inl on ↦ grind (arith, origin-twin)
       | inr back ↦ record {
         dart = twin_of s d;
         within = twin_within s o d there.1;

@@ -11,12 +11,9 @@ reached_soon n f p x l (suc fuel) k y few e = elim (cases_lt k n) [
   | inr more ↦
       let round : Returns n f x = returns_to n f p x l in
       let period : ℕ = round.less + 1 in
-      let back : after_steps f period x ≡ x =
-      ap (λ (m : ℕ). after_steps f m x) (let s : period ≡ suc round.less = omega arith in s) ∙ sym (step_first f round.less x)
-      ∙ round.back in
+      let back : after_steps f period x ≡ x = grind (arith, step_first) in
       let sum : k - period + period ≡ k = omega (arith, round.few, more) in
-      let shorter : after_steps f (k - period) x ≡ y =
-      ap (after_steps f (k - period)) (sym back) ∙ sym (steps_add f (k - period) period x) ∙ ap (λ (m : ℕ). after_steps f m x) sum ∙ e in
+      let shorter : after_steps f (k - period) x ≡ y = grind (arith, steps_add) in
       reached_soon n f p x l fuel (k - period) y (omega (arith, round.few)) shorter
 ]
 
@@ -26,9 +23,7 @@ meets_from {n} {f} p {x} {y} l r =
     passes_below (λ k. eqb (after_steps f k x) y) n soon.0 soon.1 (eq-eqb (after_steps f soon.0 x) y soon.2)
 
 pub reached_from : (n : ℕ) (f : ℕ → ℕ) (x y : ℕ) → meets f n x y ≡ true → IsReached f x y
-reached_from n f x y h =
-    let found = found_below (λ k. eqb (after_steps f k x) y) n h in
-    record { steps = found.0; leads = eqb-true (after_steps f found.0 x) y found.2 }
+reached_from n f x y h = grind (arith, found_below)
 
 pub rings_are_classes : {n : ℕ} {f : ℕ → ℕ} → IsPermutationBelow n f → IsEquivalenceBelow n (meets f n)
 rings_are_classes {n} {f} p = record {
@@ -42,41 +37,20 @@ pub at_first : (f : ℕ → ℕ) (a b : ℕ) → exchanged f a b a ≡ f b
 at_first f a b = rw (eq-eqb a a refl) refl
 
 pub at_second : (f : ℕ → ℕ) (a b : ℕ) → a ≢ b → exchanged f a b b ≡ f a
-at_second f a b ne = elim (cases_Bool (eqb b a)) [
-  | inl same ↦ absurd (ne (sym (eqb-true b a same)))
-  | inr other ↦ rw (other, eq-eqb b b refl) refl
-]
+at_second f a b ne = grind arith
 
 pub elsewhere : (f : ℕ → ℕ) (a b x : ℕ) → x ≢ a → x ≢ b → exchanged f a b x ≡ f x
-elsewhere f a b x na nb = elim (cases_Bool (eqb x a)) [
-  | inl same ↦ absurd (na (eqb-true x a same))
-  | inr other ↦ elim (cases_Bool (eqb x b)) [
-    | inl same ↦ absurd (nb (eqb-true x b same))
-    | inr others ↦ rw (other, others) refl
-  ]
-]
+elsewhere f a b x na nb = grind arith
 
 -- where a number goes: to the value of one of the two, or its own
 record Exchange (f : ℕ → ℕ) (a b x : ℕ) : Type 0 where
   is : ((x ≡ a) × (exchanged f a b x ≡ f b)) ⊎ (((x ≡ b) × (exchanged f a b x ≡ f a)) ⊎ ((x ≢ a) × (x ≢ b) × (exchanged f a b x ≡ f x)))
 
 exchange_of : (f : ℕ → ℕ) (a b x : ℕ) → a ≢ b → Exchange f a b x
-exchange_of f a b x ne = elim (cases_eq x a) [
-  | inl first ↦ record { is = inl (first, ap (exchanged f a b) first ∙ at_first f a b) }
-  | inr other ↦ elim (cases_eq x b) [
-    | inl second ↦ record { is = inr (inl (second, ap (exchanged f a b) second ∙ at_second f a b ne)) }
-    | inr others ↦ record { is = inr (inr (other, others, elsewhere f a b x other others)) }
-  ]
-]
+exchange_of f a b x ne = grind (arith, at_first, at_second, elsewhere)
 
 exchanged_within : {n : ℕ} {f : ℕ → ℕ} (a b : ℕ) → IsPermutationBelow n f → a < n → b < n → a ≢ b → (x : ℕ) → x < n → exchanged f a b x < n
-exchanged_within {n} {f} a b p a_in b_in ne x l = elim (exchange_of f a b x ne).is [
-  | inl first ↦ subst (λ (y : ℕ). y < n) (sym first.1) (p.within b b_in)
-  | inr more ↦ elim more [
-    | inl second ↦ subst (λ (y : ℕ). y < n) (sym second.1) (p.within a a_in)
-    | inr other ↦ subst (λ (y : ℕ). y < n) (sym other.2) (p.within x l)
-  ]
-]
+exchanged_within {n} {f} a b p a_in b_in ne x l = grind (arith, exchange_of)
 
 -- where the value of the exchanged map comes from under the map itself
 partner : ℕ → ℕ → ℕ → ℕ
@@ -84,44 +58,11 @@ partner a b x = cond (eqb x a) b (cond (eqb x b) a x)
 
 -- the map exchanged twice is the map
 pub exchanged_twice : (f : ℕ → ℕ) (a b : ℕ) → a ≢ b → (x : ℕ) → exchanged (exchanged f a b) a b x ≡ f x
-exchanged_twice f a b ne x = elim (exchange_of (exchanged f a b) a b x ne).is [
-  | inl first ↦ first.1 ∙ at_second f a b ne ∙ ap f (sym first.0)
-  | inr more ↦ elim more [
-    | inl second ↦ second.1 ∙ at_first f a b ∙ ap f (sym second.0)
-    | inr other ↦ other.2 ∙ elsewhere f a b x other.0 other.1
-  ]
-]
+exchanged_twice f a b ne x = grind (arith, exchange_of, at_second, at_first, elsewhere)
 
 pub exchanged_permutes : {n : ℕ} {f : ℕ → ℕ} (a b : ℕ) → IsPermutationBelow n f → a < n → b < n → a ≢ b
     → IsPermutationBelow n (exchanged f a b)
-exchanged_permutes {f} a b p a_in b_in ne = record {
-  within = exchanged_within a b p a_in b_in ne;
-  injective = λ x y l k e. elim (exchange_of f a b x ne).is [
-    | inl one ↦ elim (exchange_of f a b y ne).is [
-      | inl two ↦ one.0 ∙ sym two.0
-      | inr more ↦ elim more [
-        | inl two ↦ absurd (ne (sym (p.injective b a b_in a_in (sym one.1 ∙ e ∙ two.1))))
-        | inr two ↦ absurd (two.1 (sym (p.injective b y b_in k (sym one.1 ∙ e ∙ two.2))))
-      ]
-    ]
-    | inr rest ↦ elim rest [
-      | inl one ↦ elim (exchange_of f a b y ne).is [
-        | inl two ↦ absurd (ne (p.injective a b a_in b_in (sym one.1 ∙ e ∙ two.1)))
-        | inr more ↦ elim more [
-          | inl two ↦ one.0 ∙ sym two.0
-          | inr two ↦ absurd (two.0 (sym (p.injective a y a_in k (sym one.1 ∙ e ∙ two.2))))
-        ]
-      ]
-      | inr one ↦ elim (exchange_of f a b y ne).is [
-        | inl two ↦ absurd (one.1 (p.injective x b l b_in (sym one.2 ∙ e ∙ two.1)))
-        | inr more ↦ elim more [
-          | inl two ↦ absurd (one.0 (p.injective x a l a_in (sym one.2 ∙ e ∙ two.1)))
-          | inr two ↦ p.injective x y l k (sym one.2 ∙ e ∙ two.2)
-        ]
-      ]
-    ]
-  ];
-}
+exchanged_permutes {f} a b p a_in b_in ne = grind (arith, exchanged_within, exchange_of)
 
 -- Joining: the two stand on two rings of f.
 
@@ -187,15 +128,7 @@ stays_merged : {n : ℕ} {f : ℕ → ℕ} (a b : ℕ) → IsPermutationBelow n 
 stays_merged {n} {f} a b p a_in b_in ne x y l k h =
     let before : (z : ℕ) → z < n → IsReached f (f z) z = λ z z_in. reached_back n f p z (f z) z_in (reached_step f z) in
     elim (exchange_of f a b y ne).is [
-      | inl first ↦
-          let at_a : IsOnMerged f a b x a → IsOnMerged f a b x (f b) = λ m. elim m [
-            | inl to_a ↦ inr (inl (to_a, before b b_in))
-            | inr crossed ↦ elim crossed [
-              | inl c ↦ inr (inl (c.0, before b b_in))
-              | inr c ↦ inl (further c.0)
-            ]
-          ] in
-          subst (IsOnMerged f a b x) (sym first.1) (at_a (subst (IsOnMerged f a b x) first.0 h))
+      | inl first ↦ grind (arith, further)
       | inr more ↦ elim more [
         | inl second ↦
             let at_b : IsOnMerged f a b x b → IsOnMerged f a b x (f a) = λ m. elim m [
@@ -272,10 +205,7 @@ least_place p n h = go n (omega arith) h
       | inr found ↦ inr (found.0, omega (arith, found.1), found.2, found.3)
       | inl none ↦ elim (cases_Bool (p k)) [
         | inl hit ↦ inr (k, omega arith, hit, none)
-        | inr miss ↦ inl (λ i l. elim (cases_lt i k) [
-          | inl less ↦ none i less
-          | inr more ↦ (let same : i ≡ k = omega arith in subst (λ (j : ℕ). p j ≡ false) (sym same) miss)
-        ])
+        | inr miss ↦ grind arith
       ]
     ]
 
@@ -360,10 +290,7 @@ classes_merge : {n : ℕ} {f : ℕ → ℕ} (a b : ℕ) → IsPermutationBelow n
 classes_merge {n} {f} a b p a_in b_in ne apart = record {
   only = λ x y l k is. elim ((joins_rings a b p a_in b_in ne apart x y l k).0 (reached_from n (exchanged f a b) x y is)) [
     | inl r ↦ inl (meets_from p l r)
-    | inr crossed ↦ inr (elim crossed [
-      | inl c ↦ inl (meets_from p l c.0, meets_from p k c.1)
-      | inr c ↦ inr (meets_from p l c.0, meets_from p k c.1)
-    ])
+    | inr crossed ↦ grind (arith, meets_from)
   ];
   all = λ x y l k m. meets_from (exchanged_permutes a b p a_in b_in ne) l ((joins_rings a b p a_in b_in ne apart x y l k).1 (elim m [
     | inl r ↦ inl (reached_from n f x y r)
@@ -392,5 +319,4 @@ pub one_ring_more : {n : ℕ} {f : ℕ → ℕ} {a b : ℕ} → IsPermutationBel
 one_ring_more {n} {f} {a} {b} p a_in b_in ne joined =
     let less : ring_count (exchanged f a b) n ≡ suc (ring_count (exchanged (exchanged f a b) a b) n) =
     one_ring_less a b (exchanged_permutes a b p a_in b_in ne) a_in b_in ne (splits_ring p a_in b_in ne joined) in
-    let same : exchanged (exchanged f a b) a b ≡ f = λ i x. exchanged_twice f a b ne x i in
-    less ∙ ap (λ (g : ℕ → ℕ). suc (ring_count g n)) same
+    let same : exchanged (exchanged f a b) a b ≡ f = λ i x. exchanged_twice f a b ne x i in grind arith

@@ -101,8 +101,7 @@ record LeftoverStart (s : OrientedMesh) (kinds : List Kind) : Type 0 where
 
 some_start : {s : OrientedMesh} (kinds : List Kind) → IsOrientedSurface s → LeftoverStart s kinds
 some_start {s} kinds o = elim (cases_Bool (any_below is_left_dart (rotations_of s).darts)) [
-  | inl some ↦ (let found = found_below is_left_dart (rotations_of s).darts some in
-      record { dart = found.0; within = found.1; left = λ d l is. found.2 })
+  | inl some ↦ grind (arith, found_below)
   | inr none ↦ record {
     dart = 0;
     within = some_dart o;

@@ -42,27 +42,13 @@ grow : {maps : Rotations} {node : ℕ → ℕ} {is_node : ℕ → Bool} {bound e
     → Grown maps node is_node bound edges shape tree (with_one set (maps.edge d)) (with_one nodes (node d))
 grow {maps} {node} {is_node} {bound} {edges} {shape} {tree} {set} {nodes} r h turned g d l chosen out inner =
     record {
-      within_tree = λ e e_in is. elim (with_cases set edge e is) [
-        | inl same ↦ subst (λ (x : ℕ). tree x ≡ true) (sym same) chosen
-        | inr old ↦ g.within_tree e e_in old
-      ];
-      ends = λ x x_in is. elim (with_cases set edge (maps.edge x) is) [
-        | inl same ↦ elim ((r.edges d x l x_in).0 (sym same)) [
-          | inl at_dart ↦ subst (λ (z : ℕ). with_one nodes (node d) (node z) ≡ true) (sym at_dart) (with_itself nodes (node d))
-          | inr at_twin ↦ with_keeps nodes (node d) (node x) (subst (λ (z : ℕ). nodes (node z) ≡ true) (sym at_twin) inner)
-        ]
-        | inr old ↦ with_keeps nodes (node d) (node x) (g.ends x x_in old)
-      ];
+      within_tree = λ e e_in is. grind (arith, with_cases);
+      ends = λ x x_in is. grind (arith, with_cases, with_itself, with_keeps);
       are_nodes = λ v v_in is. elim (with_cases nodes (node d) v is) [
         | inl same ↦ subst (λ (x : ℕ). is_node x ≡ true) (sym same) (h.is_of_dart d l)
         | inr old ↦ g.are_nodes v v_in old
       ];
-      count =
-          let one : count_below (with_one set edge) edges ≡ suc (count_below set edges) =
-          count_with set edges edge (h.edge_within d l) fresh in
-          let two : count_below (with_one nodes (node d)) bound ≡ suc (count_below nodes bound) =
-          count_with nodes bound (node d) (h.node_within d l) out in
-          omega (arith, g.count, one, two);
+      count = grind (arith, count_with);
       to_node = λ x y x_in y_in reached. sort x y x_in y_in ((joins_rings d twin p l twin_in apart off x y x_in y_in).0
           (reached_same old_exchanged new_p (λ z z_in. sym (moved z z_in)) x_in reached));
       from_node = λ x y x_in y_in is. reached_same new exchanged_p moved x_in
@@ -192,9 +178,7 @@ grown_up {maps} {node} {is_node} {bound} {edges} {shape} {tree} r h turned t roo
     (g.from_node x y x_in y_in (inr (met x x_in, met y y_in)))
 grown_up {maps} {node} {is_node} {bound} {tree} r h turned t root root_in (suc left) {nodes} rooted count g x y x_in y_in =
     elim (some_outside nodes is_node bound) [
-      | inr none ↦
-          let few : count_below is_node bound ≤ count_below nodes bound = count_few is_node nodes bound none in
-          absurd (omega arith)
+      | inr none ↦ grind (arith, count_few)
       | inl out ↦
           let there = h.has_dart out.0 out.1 out.2 in
           let path = t.joins root there.0 root_in there.1 in
@@ -226,10 +210,7 @@ seed {node} {is_node} {bound} {edges} shape tree h base root root_in = record {
   within_tree = λ e l is. absurd (both_ways false refl is);
   ends = λ d l is. absurd (both_ways false refl is);
   are_nodes = λ v l is. subst (λ (x : ℕ). is_node x ≡ true) (sym (only v is)) (h.is_of_dart root root_in);
-  count =
-      let one : count_below (with_one (λ _. false) (node root)) bound ≡ suc (count_below (λ _. false) bound) =
-      count_with (λ _. false) bound (node root) (h.node_within root root_in) refl in
-      omega (arith, one, count_none edges, count_none bound);
+  count = grind (arith, count_with, count_none);
   to_node = λ x y l k reached. inl ((base x y l k).0 reached);
   from_node = λ x y l k is. (base x y l k).1 (elim is [ inl same ↦ same | inr both ↦ only (node x) both.0 ∙ sym (only (node y) both.1) ]);
 }
@@ -247,7 +228,6 @@ pub one_ring : {maps : Rotations} {node : ℕ → ℕ} {is_node : ℕ → Bool} 
 one_ring {maps} {node} {is_node} {bound} {edges} shape {tree} r h turned t base x y x_in y_in =
     let start : Grown maps node is_node bound edges shape tree (λ _. false) (with_one (λ _. false) (node x)) =
     seed shape tree h base x x_in in
-    let few : count_below (with_one (λ _. false) (node x)) bound ≤ count_below is_node bound =
-    count_few (with_one (λ _. false) (node x)) is_node bound start.are_nodes in
+    let few : count_below (with_one (λ _. false) (node x)) bound ≤ count_below is_node bound = grind (arith, count_few) in
     grown_up r h turned t x x_in (count_below is_node bound - count_below (with_one (λ _. false) (node x)) bound)
     (with_itself (λ _. false) (node x)) (omega (arith, few)) start x y x_in y_in

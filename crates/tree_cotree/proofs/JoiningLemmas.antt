@@ -1,6 +1,6 @@
 -- Edges are tried in turn: one whose two nodes lie in two classes is put into a set, and the classes become one. Once all are tried, the
 -- set is a spanning tree.
-use Rattle.tree_cotree.proofs.Common.{joined_keep, joins_only-alone, joins_only-joined_at, length-joined_at, joined_at_ends, joined_at_keeps, high_at, low_at, joined_at_high, joined_at_other, either_way, entries_own, least_range, least_joined_at, high_gone, others_own, joined_at, AreLeastMembers, Rotations, IsRotationSystem, ◌≡◌, ◌≢◌, ◌⊎◌, inl, inr, ℕ, suc, ◌+◌, ◌<◌, ◌≤◌, Bool, true, false, ◌&&◌, eqb, List, [], ◌∷◌, length, get_or, refl, ap, sym, ◌∙◌, subst, arith, cases_Bool, cases_eq, both_ways, and_parts, and_from, eqb-true, eq-eqb, and_right, one_truth, range_with_len, count_below, IsPath, AreJoined, AreEnds, HangTogether, IsStepIn, StepsIn, IsSpanningTree}
+use Rattle.tree_cotree.proofs.Common.{joined_keep, joins_only-alone, joins_only-joined_at, length-joined_at, joined_at_ends, joined_at_keeps, high_at, low_at, joined_at_high, joined_at_other, either_way, entries_own, least_range, least_joined_at, high_gone, others_own, joined_at, AreLeastMembers, Rotations, IsRotationSystem, ◌≡◌, ◌≢◌, ◌⊎◌, inl, inr, ℕ, suc, ◌+◌, ◌<◌, ◌≤◌, Bool, true, false, ◌&&◌, eqb, List, [], ◌∷◌, length, get_or, refl, ap, sym, ◌∙◌, arith, cases_Bool, both_ways, and_parts, and_from, eqb-true, eq-eqb, and_right, one_truth, range_with_len, count_below, IsPath, AreJoined, AreEnds, HangTogether, IsStepIn, StepsIn, IsSpanningTree}
 use Rattle.connectivity.specs.Partitions.{JoinsOnlyBySteps}
 use Rattle.std.proofs.lemmas.List.FromFn.{length-range_with_len, get_or-range_with_len}
 use Rattle.tree_cotree.proofs.AfterLemmas.{twin_edge}
@@ -74,38 +74,17 @@ pub joining_skip : {maps : Rotations} {node : ℕ → ℕ} {is_node : ℕ → Bo
     {set : ℕ → Bool}
     → allowed n ≡ false → IsJoining maps node is_node bound edges allowed n least set
     → IsJoining maps node is_node bound edges allowed (n + 1) least set
-joining_skip {maps} {allowed} {n} out h = record {
-  long = h.long;
-  members = h.members;
-  nodes = h.nodes;
-  sound = h.sound;
-  within = h.within;
-  joined = h.joined;
-  ends = λ d l k is. elim (cases_eq (maps.edge d) n) [
-    | inl here ↦ absurd (both_ways (allowed n) out (ap allowed (sym here) ∙ is))
-    | inr ne ↦ h.ends d l (omega (arith, k, ne)) is
-  ];
-  count = h.count;
-}
+joining_skip {maps} {allowed} {n} out h = grind arith
 
 -- the nodes of the darts of an edge
 ends_of : {maps : Rotations} {node : ℕ → ℕ} {n x y : ℕ} → IsRotationSystem maps → AreEnds maps node n x y → (d : ℕ) → d < maps.darts
     → maps.edge d ≡ n → ((node d ≡ x) × (node (maps.twin d) ≡ y)) ⊎ ((node d ≡ y) × (node (maps.twin d) ≡ x))
-ends_of {maps} {node} r a d l on = elim ((r.edges a.dart d a.within l).0 (a.on_edge ∙ sym on)) [
-  | inl is ↦ inl (ap node is ∙ a.starts, ap (λ e. node (maps.twin e)) is ∙ a.ends)
-  | inr is ↦ inr (
-    ap node is ∙ a.ends,
-    ap (λ e. node (maps.twin e)) is ∙ ap node (r.twin_back a.dart a.within) ∙ a.starts,
-  )
-]
+ends_of {maps} {node} r a d l on = grind arith
 
 same_ends : {maps : Rotations} {node : ℕ → ℕ} {n x y : ℕ} (least : List ℕ) → IsRotationSystem maps → AreEnds maps node n x y
     → get_or least x 0 ≡ get_or least y 0 → (d : ℕ) → d < maps.darts → maps.edge d ≡ n
     → get_or least (node d) 0 ≡ get_or least (node (maps.twin d)) 0
-same_ends least r a same d l on = elim (ends_of r a d l on) [
-  | inl p ↦ ap (λ v. get_or least v 0) p.0 ∙ same ∙ sym (ap (λ v. get_or least v 0) p.1)
-  | inr p ↦ ap (λ v. get_or least v 0) p.0 ∙ sym same ∙ sym (ap (λ v. get_or least v 0) p.1)
-]
+same_ends least r a same d l on = grind (arith, ends_of)
 
 -- one whose nodes are joined already is left out
 pub joining_same : {maps : Rotations} {node : ℕ → ℕ} {is_node : ℕ → Bool} {bound edges : ℕ} {allowed : ℕ → Bool} {n : ℕ} {least : List ℕ}
@@ -113,53 +92,19 @@ pub joining_same : {maps : Rotations} {node : ℕ → ℕ} {is_node : ℕ → Bo
     → IsRotationSystem maps → AreEnds maps node n x y → get_or least x 0 ≡ get_or least y 0
     → IsJoining maps node is_node bound edges allowed n least set
     → IsJoining maps node is_node bound edges allowed (n + 1) least set
-joining_same {maps} {n} {least} r a same h = record {
-  long = h.long;
-  members = h.members;
-  nodes = h.nodes;
-  sound = h.sound;
-  within = h.within;
-  joined = h.joined;
-  ends = λ d l k is. elim (cases_eq (maps.edge d) n) [
-    | inl here ↦ same_ends least r a same d l here
-    | inr ne ↦ h.ends d l (omega (arith, k, ne)) is
-  ];
-  count = h.count;
-}
+joining_same {maps} {n} {least} r a same h = grind (arith, same_ends)
 
 -- one that is in the set already is passed
 pub joining_set : {maps : Rotations} {node : ℕ → ℕ} {is_node : ℕ → Bool} {bound edges : ℕ} {allowed : ℕ → Bool} {n : ℕ} {least : List ℕ}
     {set : ℕ → Bool}
     → n < edges → set n ≡ true → IsJoining maps node is_node bound edges allowed n least set
     → IsJoining maps node is_node bound edges allowed (n + 1) least set
-joining_set {maps} {n} {set} n_in kept h = record {
-  long = h.long;
-  members = h.members;
-  nodes = h.nodes;
-  sound = h.sound;
-  within = h.within;
-  joined = h.joined;
-  ends = λ d l k is. elim (cases_eq (maps.edge d) n) [
-    | inl here ↦ h.joined d l (omega (arith, here, n_in)) (ap set here ∙ kept)
-    | inr ne ↦ h.ends d l (omega (arith, k, ne)) is
-  ];
-  count = h.count;
-}
+joining_set {maps} {n} {set} n_in kept h = grind arith
 
 pub ends_within : {maps : Rotations} {node : ℕ → ℕ} {is_node : ℕ → Bool} {bound edges n x y : ℕ} → IsRotationSystem maps
     → HasNodes maps node is_node bound edges → AreEnds maps node n x y
     → ((x < bound) × (is_node x ≡ true)) × ((y < bound) × (is_node y ≡ true))
-ends_within {maps} {is_node} {bound} r h a =
-    let turned : maps.twin a.dart < maps.darts = r.twin_within a.dart a.within in (
-      (
-        subst (λ v. v < bound) a.starts (h.node_within a.dart a.within),
-        subst (λ v. is_node v ≡ true) a.starts (h.is_of_dart a.dart a.within),
-      ),
-      (
-        subst (λ v. v < bound) a.ends (h.node_within (maps.twin a.dart) turned),
-        subst (λ v. is_node v ≡ true) a.ends (h.is_of_dart (maps.twin a.dart) turned),
-      ),
-    )
+ends_within {maps} {is_node} {bound} r h a = grind arith
 
 -- one whose nodes are apart joins them, whether its turn has come or not
 pub joining_apart : {maps : Rotations} {node : ℕ → ℕ} {is_node : ℕ → Bool} {bound edges : ℕ} {allowed : ℕ → Bool} {n m : ℕ}
@@ -171,19 +116,12 @@ pub joining_apart : {maps : Rotations} {node : ℕ → ℕ} {is_node : ℕ → B
 joining_apart {maps} {node} {is_node} {bound} {edges} {allowed} {m} {least} {set} {x} {y} r hn m_in passes fresh a apart h = record {
   long = length-joined_at least x y ∙ h.long;
   members = least_joined_at least x y h.members x_in y_in;
-  nodes = λ v l is. elim (cases_eq (get_or least v 0) high) [
-    | inl e ↦ ap is_node (joined_at_high least x y v (omega (arith, l, h.long)) e) ∙ both_nodes.1
-    | inr ne ↦ ap is_node (joined_at_other least x y v (omega (arith, l, h.long)) ne) ∙ h.nodes v l is
-  ];
+  nodes = λ v l is. grind (arith, joined_at_high, joined_at_other);
   sound = joins_only-joined_at (λ v. v < bound) (λ v. v) (StepsIn maps node (with_one set m)) least x y
       (λ u v l k same. widen maps node set (with_one set m) (λ e is. with_keeps set m e is) u v (h.sound u v l k same))
       (λ v l. omega (arith, l, h.long)) at.0.0 at.1.0 step back;
   within = λ e l is. elim (with_cases set m e is) [ inl same ↦ ap allowed same ∙ passes | inr old ↦ h.within e l old ];
-  joined = λ d l k is. elim (with_cases set m (maps.edge d) is) [
-    | inl here ↦ same_ends (joined_at least x y) r a (joined_at_ends least x y x_in y_in) d l here
-    | inr old ↦ joined_at_keeps least x y (node d) (node (maps.twin d)) (in_list d l) (in_list (maps.twin d) (r.twin_within d l))
-        (h.joined d l k old)
-  ];
+  joined = λ d l k is. grind (arith, with_cases, same_ends, joined_at_ends, joined_at_keeps);
   ends = λ d l k is. joined_at_keeps least x y (node d) (node (maps.twin d)) (in_list d l) (in_list (maps.twin d) (r.twin_within d l))
       (h.ends d l k is);
   count =

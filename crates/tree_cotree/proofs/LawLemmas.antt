@@ -1,26 +1,16 @@
 -- The laws of splits, from those of rotation systems.
-use Rattle.tree_cotree.proofs.Common.{rotation_system, names_all, used_vertices, OrientedMesh, IsOrientedSurface, rotations_of, NamesAll, ◌≡◌, ℕ, zero, suc, ◌+◌, ◌*◌, ◌<◌, true, not, length, refl, arith, is_used, count_below, HasOneRing, SplitView, HasTrees, kind_of, is_tree_kind, is_cotree_kind, is_left_kind, in_tree, in_cotree, is_left, Kind, Tree, Cotree, Left}
+use Rattle.tree_cotree.proofs.Common.{rotation_system, names_all, used_vertices, OrientedMesh, IsOrientedSurface, rotations_of, NamesAll, ◌≡◌, ℕ, zero, suc, ◌+◌, ◌*◌, ◌<◌, true, not, length, refl, arith, common_steps, is_used, count_below, HasOneRing, SplitView, HasTrees, kind_of, is_tree_kind, is_cotree_kind, is_left_kind, in_tree, in_cotree, is_left, Kind, Tree, Cotree, Left}
 use Rattle.tree_cotree.proofs.GrowthLemmas.{HasNodes}
 use Rattle.tree_cotree.proofs.SplitLemmas.{OneOfThree, tree_one, cotree_one, left_one, tree_ring, cotree_ring, count_three}
 use Rattle.tree_cotree.proofs.LeftoverLemmas.{even_left}
 
 pub vertex_nodes : {s : OrientedMesh} → NamesAll s
     → HasNodes (rotations_of s) (rotations_of s).origin (is_used s.mesh) s.mesh.count (length s.table)
-vertex_nodes h = record {
-  edge_within = h.edge_below;
-  node_within = h.vertex_below;
-  is_of_dart = h.vertex_used;
-  has_dart = λ v _ is. h.each_vertex v is;
-}
+vertex_nodes h = grind arith
 
 pub face_nodes : {s : OrientedMesh} → NamesAll s
     → HasNodes (rotations_of s) (rotations_of s).face (λ f. true) (length s.mesh.faces) (length s.table)
-face_nodes h = record {
-  edge_within = h.edge_below;
-  node_within = h.face_below;
-  is_of_dart = λ d l. refl;
-  has_dart = λ f l _. h.each_face f l;
-}
+face_nodes h = grind arith
 
 pub one_of_three : (split : SplitView) (e : ℕ) → OneOfThree (in_tree split e) (in_cotree split e) (is_left split e)
 one_of_three split e = go (kind_of split e)
@@ -42,9 +32,7 @@ rest_has_ring s split o t =
 
 -- a closed surface has a dart
 pub some_dart : {s : OrientedMesh} → IsOrientedSurface s → 0 < (rotations_of s).darts
-some_dart {s} o =
-    let dart = (names_all s o).each_face 0 o.closed.some_face in
-    omega (arith, dart.1)
+some_dart {s} o = grind (arith, common_steps, names_all)
 
 pub even : (s : OrientedMesh) (split : SplitView) → IsOrientedSurface s → HasTrees s split
     → (g : ℕ) × (count_below (is_left split) (length s.table) ≡ 2 * g)
@@ -59,8 +47,4 @@ count_all (suc n) = rw (count_all n) (omega arith)
 pub exact : (s : OrientedMesh) (split : SplitView) → HasTrees s split → (g : ℕ) → count_below (is_left split) (length s.table) ≡ 2 * g
     → used_vertices s + length s.mesh.faces + 2 * g ≡ length s.table + 2
 unfolding used_vertices
-exact s split t g e =
-    let all : count_below (in_tree split) (length s.table) + count_below (in_cotree split) (length s.table) + count_below
-    (is_left split) (length s.table) ≡ length s.table =
-    count_three (in_tree split) (in_cotree split) (is_left split) (length s.table) (λ k l. one_of_three split k) in
-    omega (arith, all, t.tree.count, t.cotree.count, count_all (length s.mesh.faces), e)
+exact s split t g e = grind (arith, count_three, one_of_three, count_all)

@@ -1,6 +1,6 @@
 -- The number of leftover edges is even: put in one by one, each makes one ring more or one less, and there is one ring before
 -- and one after.
-use Rattle.tree_cotree.proofs.Common.{IsPermutationBelow, Rotations, IsRotationSystem, ◌≡◌, ◌≢◌, inl, inr, ℕ, zero, suc, ◌+◌, ◌*◌, ◌<◌, ◌≤◌, Bool, true, false, not, ◌&&◌, ◌||◌, ltb, refl, ap, sym, ◌∙◌, subst, arith, cases_Bool, cases_eq, cases_lt, both_ways, ltb-true, lt-ltb, count_below, meets, ring_count, exchanged, after_dart, HasOneRing}
+use Rattle.tree_cotree.proofs.Common.{IsPermutationBelow, Rotations, IsRotationSystem, ◌≡◌, ◌≢◌, inl, inr, ℕ, zero, suc, ◌+◌, ◌*◌, ◌<◌, ◌≤◌, Bool, true, false, not, ◌&&◌, ◌||◌, ltb, refl, ap, sym, ◌∙◌, subst, arith, cases_Bool, cases_eq, both_ways, ltb-true, lt-ltb, count_below, meets, ring_count, exchanged, after_dart, HasOneRing}
 use Rattle.tree_cotree.proofs.ExchangeLemmas.{one_ring_less, one_ring_more, reached_from, meets_from, exchanged_permutes}
 use Rattle.tree_cotree.proofs.AfterLemmas.{after_permutes, after_agrees, after_exchanges, DifferAt}
 use Rattle.tree_cotree.proofs.SplitLemmas.{OneOfThree, tree_one, cotree_one, left_one, rings_same, one_ring_counted}
@@ -69,19 +69,7 @@ unopened tree left e = go (tree e) (left e) (ltb e 0) none
 -- a number below suc k is below k or k itself
 step_other : (tree left : ℕ → Bool) (k e : ℕ) → e ≢ k → with_left tree left (suc k) e ≡ with_left tree left k e
 unfolding with_left
-step_other tree left k e ne = ap (λ (b : Bool). tree e || (left e && b)) same
-  where
-    same : ltb e (suc k) ≡ ltb e k
-    same = elim (cases_lt e k) [
-      | inl less ↦ lt-ltb e (suc k) (omega arith) ∙ sym (lt-ltb e k less)
-      | inr more ↦ elim (cases_Bool (ltb e (suc k))) [
-        | inl here ↦ absurd (let lower : e < suc k = ltb-true e (suc k) here in omega arith)
-        | inr far ↦ elim (cases_Bool (ltb e k)) [
-          | inl near ↦ absurd (let lower : e < k = ltb-true e k near in omega arith)
-          | inr none ↦ far ∙ sym none
-        ]
-      ]
-    ]
+step_other tree left k e ne = grind arith
 
 step_skipped : (tree left : ℕ → Bool) (k : ℕ) → left k ≡ false → with_left tree left (suc k) k ≡ with_left tree left k k
 unfolding with_left
@@ -89,11 +77,7 @@ step_skipped tree left k h = rw h refl
 
 step_taken : (tree left : ℕ → Bool) (k : ℕ) → left k ≡ true → tree k ≡ false → with_left tree left (suc k) k ≡ not (with_left tree left k k)
 unfolding with_left
-step_taken tree left k h t =
-    let now : ltb k (suc k) ≡ true = lt-ltb k (suc k) (omega arith) in
-    let before : ltb k k ≡ false = elim (cases_Bool (ltb k k))
-    [ inl less ↦ absurd (let lower : k < k = ltb-true k k less in omega arith) | inr other ↦ other ] in
-    rw (h, t, now, before) refl
+step_taken tree left k h t = grind arith
 
 -- rings and leftover edges together stay odd
 odd_so_far : {maps : Rotations} (tree left : ℕ → Bool) (edges : ℕ) → IsRotationSystem maps

@@ -18,19 +18,11 @@ borne_by : (name : ℕ → ℕ) (m x v : ℕ) → x < m → name x ≡ v → is_
 borne_by name m x v l e = passes_below (λ y. eqb (name y) v) m x l (eq-eqb (name x) v e)
 
 bearer : (name : ℕ → ℕ) (m v : ℕ) → is_borne name m v ≡ true → (x : ℕ) × (x < m) × (name x ≡ v)
-bearer name m v h =
-    let found = found_below (λ y. eqb (name y) v) m h in
-    (found.0, found.1, eqb-true (name found.0) v found.2)
+bearer name m v h = grind (arith, found_below)
 
 -- one number more bears no new name, or just its own
 other_name : (name : ℕ → ℕ) (m v : ℕ) → v ≢ name m → is_borne name (suc m) v ≡ is_borne name m v
-other_name name m v ne =
-    one_truth (is_borne name (suc m) v) (is_borne name m v)
-    (λ h. elim (or_cases (is_borne name m v) (eqb (name m) v) h) [
-      | inl before ↦ before
-      | inr here ↦ absurd (ne (sym (eqb-true (name m) v here)))
-    ])
-    (λ h. or_left (is_borne name m v) (eqb (name m) v) h)
+other_name name m v ne = grind (arith, or_left)
 
 none_borne : (name : ℕ → ℕ) (bound : ℕ) → count_below (is_borne name 0) bound ≡ 0
 none_borne name zero = refl

@@ -1,5 +1,5 @@
 -- The rings of a set of edges, kept as a list.
-use Rattle.tree_cotree.proofs.Common.{IsPermutationBelow, rotation_system, darts_of, next_of, twin_of, edge_of, OrientedMesh, IsOrientedSurface, Rotations, rotations_of, IsRotationSystem, ◌≡◌, ◌≢◌, inl, inr, ℕ, suc, ◌+◌, ◌<◌, Bool, false, not, List, [], ◌∷◌, ◌++◌, length, get_or, refl, ap, sym, ◌∙◌, subst, arith, set, cases_eq, cases_lt, get_or-map, length-map, get_or-set_same, get_or-set_other, length-set, length_push, get_or_push, get_or_append_left, get_or_past, get_or-replicate, length-replicate, swap, replicate, DartName, ring_count, exchanged, RingView, AreRingsOf, ChangesByOne, dart_numbers, is_inside, rings_of, after_dart}
+use Rattle.tree_cotree.proofs.Common.{IsPermutationBelow, rotation_system, darts_of, next_of, twin_of, edge_of, OrientedMesh, IsOrientedSurface, Rotations, rotations_of, IsRotationSystem, ◌≡◌, ◌≢◌, inl, inr, ℕ, suc, ◌+◌, ◌<◌, Bool, false, not, List, [], ◌∷◌, ◌++◌, length, get_or, refl, ap, sym, ◌∙◌, arith, set, cases_eq, common_steps, get_or-map, length-map, get_or-set_same, get_or-set_other, length-set, swap, replicate, DartName, ring_count, exchanged, RingView, AreRingsOf, ChangesByOne, dart_numbers, is_inside, rings_of, after_dart}
 use Rattle.std.proofs.lemmas.List.Edits.{swap_is}
 use Rattle.std.specs.Prelude.{slice_index}
 use Rattle.tree_cotree.proofs.ExchangeLemmas.{at_first, at_second, elsewhere, exchanged_permutes, one_ring_more, one_ring_less}
@@ -45,24 +45,12 @@ swap_exchanges xs ys a b is l k ne x m =
 
 -- either of two numbers may be named first
 exchanged_either : (f : ℕ → ℕ) (a b x : ℕ) → a ≢ b → exchanged f a b x ≡ exchanged f b a x
-exchanged_either f a b x ne =
-    elim (cases_eq x a) [
-      | inl at_a ↦ ap (exchanged f a b) at_a ∙ at_first f a b ∙ sym (ap (exchanged f b a) at_a ∙ at_second f b a (λ e. ne (sym e)))
-      | inr not_a ↦ elim (cases_eq x b) [
-        | inl at_b ↦ ap (exchanged f a b) at_b ∙ at_second f a b ne ∙ sym (ap (exchanged f b a) at_b ∙ at_first f b a)
-        | inr not_b ↦ elsewhere f a b x not_a not_b ∙ sym (elsewhere f b a x not_b not_a)
-      ]
-    ]
+exchanged_either f a b x ne = grind (arith, at_first, at_second, elsewhere)
 
 -- the set with one edge put in or taken out
 pub differ_at : (set_of others : List Bool) (e : ℕ) → e < length set_of → others ≡ set set_of e (not (is_inside set_of e))
     → DifferAt (is_inside set_of) (is_inside others) e
-differ_at set_of others e l is =
-    record {
-      there = ap (λ (xs : List Bool). get_or xs e false) is ∙ get_or-set_same set_of e (not (get_or set_of e false)) false l;
-      elsewhere = λ x ne. ap (λ (xs : List Bool). get_or xs x false) is
-          ∙ get_or-set_other set_of e x (not (get_or set_of e false)) false ne;
-    }
+differ_at set_of others e l is = grind (arith, common_steps, elsewhere)
 
 -- what a swap leaves
 pub record IsSwapped (surface : OrientedMesh) (edge dart : ℕ) (old new : RingView) : Type 0 where
@@ -76,11 +64,7 @@ follow_rule : {s : OrientedMesh} → IsOrientedSurface s → {rings : RingView} 
     → IsPermutationBelow (darts_of s) (slice_index rings.after)
 follow_rule {s} h {rings} are =
     let p : IsPermutationBelow (darts_of s) (after_dart (rotations_of s) (is_inside rings.inside)) =
-    after_permutes (rotations_of s) (rotation_system s h) (is_inside rings.inside) in
-    record {
-      within = λ x l. subst (λ y. y < darts_of s) (sym (are.rule x l)) (p.within x l);
-      injective = λ x y l k e. p.injective x y l k (sym (are.rule x l) ∙ e ∙ are.rule y k);
-    }
+    after_permutes (rotations_of s) (rotation_system s h) (is_inside rings.inside) in grind arith
 
 pub swapped_rings : {s : OrientedMesh} → IsOrientedSurface s → {edge dart : ℕ} {old new : RingView} → edge < length s.table
     → AreRingsOf s old
@@ -89,8 +73,7 @@ swapped_rings {s} h {edge} {dart} {old} {new} l are swapped =
     let maps : Rotations = rotations_of s in
     let differ : DifferAt (is_inside old.inside) (is_inside new.inside) edge =
     differ_at old.inside new.inside edge (omega (arith, l, are.each_edge)) swapped.inside in
-    let here : DifferAt (is_inside old.inside) (is_inside new.inside) (edge_of s dart) =
-    subst (DifferAt (is_inside old.inside) (is_inside new.inside)) (sym swapped.dart_on) differ in
+    let here : DifferAt (is_inside old.inside) (is_inside new.inside) (edge_of s dart) = grind arith in
     let b : ℕ = twin_of s dart in
     let system : IsRotationSystem maps = rotation_system s h in
     record {
@@ -165,34 +148,9 @@ stored_swap {s} h edge a b set_of others xs ys are l on twin swapped changed =
 pub turns_more : (s : OrientedMesh) (n : ℕ) (xs : List DartName) (x : DartName) → length xs ≡ n
     → ((d : ℕ) → d < n → get_or (dart_numbers xs) d 0 ≡ next_of s (twin_of s d)) → x.0 ≡ next_of s (twin_of s n)
     → (d : ℕ) → d < n + 1 → get_or (dart_numbers (xs ++ x ∷ [])) d 0 ≡ next_of s (twin_of s d)
-turns_more s n xs x long turns is d l =
-    let none : DartName = record { 0 = 0 } in
-    let read : get_or (dart_numbers (xs ++ x ∷ [])) d 0 ≡ (get_or (xs ++ x ∷ []) d none).0 =
-    number_at (xs ++ x ∷ []) d none (omega (arith, l, long, length_push xs x)) in
-    elim (cases_lt d n) [
-      | inl less ↦
-          read ∙ ap (λ (y : DartName). y.0) (get_or_append_left xs (x ∷ []) none d (omega (arith, less, long)))
-          ∙ sym (number_at xs d none (omega (arith, less, long))) ∙ turns d less
-      | inr more ↦
-          (let same : d ≡ n = omega arith in
-          read ∙ ap (λ (y : DartName). y.0) (get_or_push xs x none d (long ∙ sym same)) ∙ is ∙ ap (λ k. next_of s (twin_of s k)) (sym same))
-    ]
+turns_more s n xs x long turns is d l = grind (arith, common_steps, number_at)
 
 pub empty_rings : (s : OrientedMesh) (set_of : List Bool) (xs : List DartName) → set_of ≡ replicate (length s.table) false
     → length xs ≡ darts_of s
     → ((d : ℕ) → d < darts_of s → get_or (dart_numbers xs) d 0 ≡ next_of s (twin_of s d)) → AreRingsOf s (stored_rings set_of xs)
-empty_rings s set_of xs none long turns =
-    record {
-      each_edge = ap (λ (zs : List Bool). length zs) none ∙ length-replicate (length s.table) false;
-      each_dart = length-map xs (λ (x : DartName). x.0) ∙ long;
-      rule = λ d l.
-          let out : is_inside set_of (edge_of s d) ≡ false =
-          ap (λ (zs : List Bool). get_or zs (edge_of s d) false) none ∙ empty_at (edge_of s d) (length s.table) in
-          turns d l ∙ sym (turn (rotations_of s) (is_inside set_of) d out);
-    }
-  where
-    empty_at : (k n : ℕ) → get_or (replicate n false) k false ≡ false
-    empty_at k n = elim (cases_lt k n) [
-      | inl less ↦ get_or-replicate n k false false less
-      | inr more ↦ get_or_past (replicate n false) k false (omega (arith, more, length-replicate n false))
-    ]
+empty_rings s set_of xs none long turns = grind (arith, common_steps, turn)

@@ -1,5 +1,5 @@
 -- What an order of a search needs to grow, and what it is when it grows no more.
-use Rattle.tree_cotree.proofs.Common.{next_permutes, face-next, IsPermutationBelow, AreAlike, two_alike, steps_within, reached_keeps, rotation_system, after_steps, IsReached, OrientedMesh, IsOrientedSurface, Rotations, rotations_of, IsRotationSystem, ◌≡◌, ◌≢◌, ◌⊎◌, inl, inr, ℕ, zero, suc, ◌+◌, ◌<◌, ◌≤◌, Bool, true, false, List, [], ◌∷◌, ◌++◌, length, get_or, refl, ap, sym, ◌∙◌, subst, arith, set, cases_eq, cases_lt, length_push, get_or_push, get_or_append_left, get_or-set_same, get_or-set_other, length-set, get_or_read, map-append, append-nil, append_assoc, length-append, option_map, Option, Some, None, is_some, DartName, dart_numbers, node_of, turn_of, kept_at, IsFound, IsNamed, LeadsBack, IsOrder, IsCrossed, AreAdded, Nodes, Vertices, Faces}
+use Rattle.tree_cotree.proofs.Common.{next_permutes, face-next, IsPermutationBelow, AreAlike, two_alike, steps_within, reached_keeps, rotation_system, after_steps, IsReached, OrientedMesh, IsOrientedSurface, Rotations, rotations_of, IsRotationSystem, ◌≡◌, ◌≢◌, ◌⊎◌, inl, inr, ℕ, zero, suc, ◌+◌, ◌<◌, ◌≤◌, Bool, true, false, List, [], ◌∷◌, ◌++◌, length, get_or, refl, ap, sym, ◌∙◌, subst, arith, set, cases_eq, cases_lt, common_steps, length_push, get_or_push, get_or_append_left, get_or-set_same, get_or-set_other, length-set, get_or_read, map-append, append-nil, option_map, Option, Some, None, is_some, DartName, dart_numbers, node_of, turn_of, kept_at, IsFound, IsNamed, LeadsBack, IsOrder, IsCrossed, AreAdded, Nodes, Vertices, Faces}
 use Rattle.halfedge_map.proofs.VertexLemmas.{turns_permute, origin-turned}
 use Rattle.tree_cotree.proofs.AfterLemmas.{twin_edge}
 use Rattle.tree_cotree.proofs.ExchangeLemmas.{reached_soon}
@@ -132,13 +132,7 @@ pub record GoesOn (old new : List ℕ) : Type 0 where
   pub same : (j : ℕ) → j < length old → get_or new j 0 ≡ get_or old j 0
 
 pub found_on : {node : ℕ → ℕ} {old : List ℕ} (new : List ℕ) {v : ℕ} → GoesOn old new → IsFound node old v → IsFound node new v
-found_on {node} new h found =
-    record {
-      place = found.place;
-      within = omega (arith, found.within, h.longer);
-      is = ap node (h.same found.place found.within)
-          ∙ found.is;
-    }
+found_on {node} new h found = grind arith
 
 -- an order has no more darts than there are numbers of nodes
 pub order_few : {maps : Rotations} {node : ℕ → ℕ} {allowed : ℕ → Bool} {bound root : ℕ} {order : List ℕ} {from : List (Option ℕ)}
@@ -146,8 +140,7 @@ pub order_few : {maps : Rotations} {node : ℕ → ℕ} {allowed : ℕ → Bool}
 order_few {node} {bound} {order} h below =
     elim (cases_lt bound (length order)) [
       | inl more ↦
-          (let alike : AreAlike (λ j. node (get_or order j 0)) (suc bound) =
-          two_alike bound (λ j. node (get_or order j 0)) (λ j l. below (get_or order j 0) (h.within j (omega (arith, l, more)))) in
+          (let alike : AreAlike (λ j. node (get_or order j 0)) (suc bound) = grind (arith, two_alike) in
           absurd (h.fresh alike.first alike.second alike.before (omega (arith, alike.within, more)) alike.same))
       | inr few ↦ few
     ]
@@ -183,31 +176,21 @@ pub crossed_round : {maps : Rotations} {node : ℕ → ℕ} (allowed : ℕ → B
 crossed_round {maps} {node} allowed {turn} order first k t l crossed comes d b same passes =
     let way : IsReached turn first d = t.reaches first d l b (sym same) in
     let soon = round turn first k way.steps comes.0 comes.1 in
-    let is : after_steps turn soon.0 first ≡ d = sym soon.2 ∙ way.leads in
-    subst (λ y. IsFound node order (node (maps.twin y))) is (crossed soon.0 soon.1 (ap (λ y. allowed (maps.edge y)) is ∙ passes))
+    let is : after_steps turn soon.0 first ≡ d = sym soon.2 ∙ way.leads in grind arith
 
 pub crossed_all : {maps : Rotations} {node : ℕ → ℕ} (allowed : ℕ → Bool) {turn : ℕ → ℕ} (order : List ℕ) (first k : ℕ)
     → IsTurning maps node turn → first < maps.darts
     → CrossedUpTo maps node allowed turn order first k → maps.darts ≤ k → IsCrossed maps node allowed order (node first)
 crossed_all {maps} {node} allowed {turn} order first k t l crossed many d b same passes =
     let way : IsReached turn first d = t.reaches first d l b (sym same) in
-    let soon = reached_soon maps.darts turn t.permutes first l (suc way.steps) way.steps d (omega arith) way.leads in
-    subst (λ y. IsFound node order (node (maps.twin y))) soon.2
-    (crossed soon.0 (omega (arith, soon.1, many)) (ap (λ y. allowed (maps.edge y)) soon.2 ∙ passes))
+    let soon = reached_soon maps.darts turn t.permutes first l (suc way.steps) way.steps d (omega arith) way.leads in grind arith
 
 -- one more turn
 pub crossed_more : (maps : Rotations) (node : ℕ → ℕ) (allowed : ℕ → Bool) (turn : ℕ → ℕ) (old new : List ℕ) (first k : ℕ) → GoesOn old new
     → CrossedUpTo maps node allowed turn old first k
     → (allowed (maps.edge (after_steps turn k first)) ≡ true → IsFound node new (node (maps.twin (after_steps turn k first))))
     → CrossedUpTo maps node allowed turn new first (k + 1)
-crossed_more maps node allowed turn old new first k h crossed here i l passes =
-    elim (cases_lt i k) [
-      | inl less ↦ found_on new h (crossed i less passes)
-      | inr more ↦
-          (let same : i ≡ k = omega (arith, l, more) in
-          subst (λ j. IsFound node new (node (maps.twin (after_steps turn j first)))) (sym same)
-          (here (ap (λ j. allowed (maps.edge (after_steps turn j first))) (sym same) ∙ passes)))
-    ]
+crossed_more maps node allowed turn old new first k h crossed here i l passes = grind (arith, found_on)
 
 pub crossed_on : (maps : Rotations) (node : ℕ → ℕ) (allowed : ℕ → Bool) (old new : List ℕ) (v : ℕ) → GoesOn old new
     → IsCrossed maps node allowed old v → IsCrossed maps node allowed new v
@@ -217,12 +200,7 @@ crossed_on maps node allowed old new v h crossed d l is passes = found_on new h 
 pub turning : {s : OrientedMesh} → IsOrientedSurface s → (nodes : Nodes)
     → IsTurning (rotations_of s) (node_of nodes (rotations_of s)) (turn_of nodes (rotations_of s))
 turning {s} h Vertices =
-    let r : IsRotationSystem (rotations_of s) = rotation_system s h in
-    record {
-      permutes = turns_permute s h;
-      reaches = λ d e l k same. (r.vertices d e l k).0 same;
-      keeps = λ d l. origin-turned s h d l;
-    }
+    let r : IsRotationSystem (rotations_of s) = rotation_system s h in grind (arith, turns_permute, origin-turned)
 turning {s} h Faces =
     let r : IsRotationSystem (rotations_of s) = rotation_system s h in
     record {
@@ -272,14 +250,7 @@ order_pushed xs ys v x r h new is at pushed = rw (numbers_push xs ys x pushed, a
 
 pub found_pushed : (maps : Rotations) (node : ℕ → ℕ) (xs ys : List DartName) (d : ℕ) (x : DartName) → x.0 ≡ maps.twin d → ys ≡ xs ++ x ∷ []
     → IsFound node (dart_numbers ys) (node (maps.twin d))
-found_pushed maps node xs ys d x is pushed =
-    let more : dart_numbers ys ≡ dart_numbers xs ++ x.0 ∷ [] = numbers_push xs ys x pushed in
-    record {
-      place = length (dart_numbers xs);
-      within = omega (arith, ap (λ (zs : List ℕ). length zs) more, length_push (dart_numbers xs) x.0);
-      is = ap node (ap (λ (zs : List ℕ). get_or zs (length (dart_numbers xs)) 0) more
-          ∙ new_at (dart_numbers xs) x.0 (length (dart_numbers xs)) refl ∙ is);
-    }
+found_pushed maps node xs ys d x is pushed = grind (arith, common_steps, numbers_push, new_at)
 
 -- what is added
 pub added_none : (xs ws : List ℕ) → AreAdded xs ws xs ws
@@ -287,27 +258,13 @@ added_none xs ws = record { added = []; order = sym (append-nil xs); waits = sym
 
 pub added_pushed : (xs ys ws vs : List DartName) (x : DartName) → ys ≡ xs ++ x ∷ [] → vs ≡ ws ++ x ∷ []
     → AreAdded (dart_numbers xs) (dart_numbers ws) (dart_numbers ys) (dart_numbers vs)
-added_pushed xs ys ws vs x pushed waits = record {
-  added = x.0 ∷ [];
-  order = numbers_push xs ys x pushed;
-  waits =
-      numbers_push ws vs x waits;
-}
+added_pushed xs ys ws vs x pushed waits = grind (arith, common_steps, numbers_push)
 
 pub added_on : {xs ws ys vs zs us : List ℕ} → AreAdded xs ws ys vs → AreAdded ys vs zs us → AreAdded xs ws zs us
-added_on {xs} {ws} h k =
-    record {
-      added = h.added ++ k.added;
-      order = k.order ∙ ap (λ (ts : List ℕ). ts ++ k.added) h.order ∙ append_assoc xs h.added k.added;
-      waits = k.waits ∙ ap (λ (ts : List ℕ). ts ++ k.added) h.waits ∙ append_assoc ws h.added k.added;
-    }
+added_on {xs} {ws} h k = grind (arith, common_steps)
 
 pub added_goes : {xs ws ys vs : List ℕ} → AreAdded xs ws ys vs → GoesOn xs ys
-added_goes {xs} h =
-    record {
-      longer = omega (arith, ap (λ (ts : List ℕ). length ts) h.order, length-append xs h.added);
-      same = λ j l. ap (λ (ts : List ℕ). get_or ts j 0) h.order ∙ get_or_append_left xs h.added 0 j l;
-    }
+added_goes {xs} h = grind (arith, common_steps)
 
 -- going round a node: so many turns are done, and all that they cross is found
 pub record IsVisiting (maps : Rotations) (node : ℕ → ℕ) (allowed : ℕ → Bool) (turn : ℕ → ℕ) (bound root : ℕ)
@@ -321,8 +278,7 @@ pub visit_start : {maps : Rotations} {node : ℕ → ℕ} {allowed : ℕ → Boo
     {from : List (Option ℕ)} (first : ℕ)
     → IsOrder maps node allowed bound root order from
     → IsVisiting maps node allowed turn bound root order waiting order waiting from first first 0
-visit_start turn {order} waiting first h =
-    record { is_order = h; added = added_none order waiting; at = refl; crossed = λ i l passes. absurd (omega arith) }
+visit_start turn {order} waiting first h = grind (arith, added_none)
 
 pub visit_more : {maps : Rotations} {node : ℕ → ℕ} {allowed : ℕ → Bool} {turn : ℕ → ℕ} {bound root : ℕ}
     {before waited order waiting new more : List ℕ} {from kept : List (Option ℕ)} {first dart : ℕ} (next : ℕ) {k : ℕ}

@@ -10,10 +10,7 @@ pub with_itself : (set : ℕ → Bool) (e : ℕ) → with_one set e e ≡ true
 with_itself set e = or_left (eqb e e) (set e) (eq-eqb e e refl)
 
 pub with_other : (set : ℕ → Bool) (e x : ℕ) → x ≢ e → with_one set e x ≡ set x
-with_other set e x ne = elim (cases_Bool (eqb x e)) [
-  | inl same ↦ absurd (ne (eqb-true x e same))
-  | inr other ↦ rw other refl
-]
+with_other set e x ne = grind arith
 
 pub with_keeps : (set : ℕ → Bool) (e x : ℕ) → set x ≡ true → with_one set e x ≡ true
 with_keeps set e x h = or_right (eqb x e) (set x) h
@@ -30,10 +27,7 @@ count_few p q (suc n) h =
     let before : count_below p n ≤ count_below q n = count_few p q n (λ x l is. h x (omega arith) is) in
     elim (cases_Bool (p n)) [
       | inl yes_p ↦ (let yes_q : q n ≡ true = h n (omega arith) yes_p in rw (yes_p, yes_q) (omega arith))
-      | inr no_p ↦ elim (cases_Bool (q n)) [
-        | inl yes_q ↦ rw (no_p, yes_q) (omega arith)
-        | inr no_q ↦ rw (no_p, no_q) (omega arith)
-      ]
+      | inr no_p ↦ grind arith
     ]
 
 -- a set within another of the same count is that one
@@ -71,10 +65,7 @@ some_outside p q (suc n) = elim (some_outside p q n) [
   | inl found ↦ inl (found.0, omega (arith, found.1), found.2, found.3)
   | inr none ↦ elim (cases_Bool (q n)) [
     | inl yes_q ↦ elim (cases_Bool (p n)) [
-      | inl yes_p ↦ inr (λ x l is. elim (cases_lt x n) [
-        | inl less ↦ none x less is
-        | inr more ↦ (let top : n ≡ x = omega arith in subst (λ (k : ℕ). p k ≡ true) top yes_p)
-      ])
+      | inl yes_p ↦ grind arith
       | inr no_p ↦ inl (n, omega arith, yes_q, no_p)
     ]
     | inr no_q ↦ inr (λ x l is. elim (cases_lt x n) [

@@ -69,9 +69,7 @@ count_three tree cotree left (suc n) h =
 any_same : (p q : ℕ → Bool) (n : ℕ) → ((i : ℕ) → i < n → p i ≡ q i) → any_below p n ≡ any_below q n
 any_same p q zero h = refl
 any_same p q (suc n) h =
-    let here : p n ≡ q n = h n (omega arith) in
-    let before : any_below p n ≡ any_below q n = any_same p q n (λ i l. h i (omega arith)) in
-    rw (before, here) refl
+    let before : any_below p n ≡ any_below q n = any_same p q n (λ i l. h i (omega arith)) in grind arith
 
 pub rings_same : {n : ℕ} {f : ℕ → ℕ} (g : ℕ → ℕ) → IsPermutationBelow n f → ((x : ℕ) → x < n → f x ≡ g x) → ring_count f n ≡ ring_count g n
 rings_same {n} {f} g p same = count_same (is_least (meets f n)) (is_least (meets g n)) n

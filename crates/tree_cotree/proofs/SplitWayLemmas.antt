@@ -1,26 +1,16 @@
 -- Ways up a split: to the parents of its vertices, and from face to face of its cotree. From each one way leads to the root, and it passes
 -- nothing twice.
-use Rattle.tree_cotree.proofs.Common.{rotation_system, names_all, OrientedMesh, IsOrientedSurface, Rotations, rotations_of, IsRotationSystem, ◌≡◌, ◌⊎◌, inl, inr, ℕ, suc, ◌<◌, ◌≤◌, List, [], ◌∷◌, length, refl, ap, sym, ◌∙◌, subst, arith, cases_lt, IsPath, SplitView, IsSplit, StepsToParent, StepsUp, parent_dart}
+use Rattle.tree_cotree.proofs.Common.{rotation_system, names_all, OrientedMesh, IsOrientedSurface, Rotations, rotations_of, IsRotationSystem, ◌≡◌, ◌⊎◌, inl, inr, ℕ, suc, ◌<◌, ◌≤◌, List, [], ◌∷◌, length, ap, sym, ◌∙◌, subst, arith, cases_lt, common_steps, IsPath, SplitView, IsSplit, StepsToParent, StepsUp}
 use Rattle.tree_cotree.proofs.SearchLemmas.{not_both, same_some}
 use Rattle.tree_cotree.proofs.UpwardLemmas.{IsUpward, single_path, no_loop, few_steps}
 
 pub root_below : (s : OrientedMesh) (split : SplitView) → IsOrientedSurface s → (t : IsSplit s split) → t.parents.root < s.mesh.count
 root_below s split o t =
-    let dart = (names_all s o).each_vertex t.parents.root t.parents.root_used in
-    subst (λ x. x < s.mesh.count) dart.2 ((names_all s o).vertex_below dart.0 dart.1)
+    let dart = (names_all s o).each_vertex t.parents.root t.parents.root_used in grind (arith, names_all)
 
 pub parents_upward : (s : OrientedMesh) (split : SplitView) → IsOrientedSurface s → (t : IsSplit s split)
     → IsUpward (StepsToParent (rotations_of s) split) t.parents.root
-parents_upward s split o t = record {
-  one = λ u v w p q.
-      sym p.1.ends
-      ∙ ap (λ d. (rotations_of s).origin ((rotations_of s).twin d))
-      (same_some (parent_dart split u) p.0 q.0 p.1.is_parent q.1.is_parent)
-      ∙ q.1.ends;
-  top = λ v p.
-      not_both (parent_dart split t.parents.root) p.0 p.1.is_parent
-      ((t.parents.none t.parents.root (root_below s split o t)).1 (inl refl));
-}
+parents_upward s split o t = grind (arith, common_steps, same_some, not_both, root_below)
 
 pub faces_upward : (s : OrientedMesh) (split : SplitView) → IsOrientedSurface s → IsSplit s split
     → IsUpward (StepsUp (rotations_of s) split) split.root_face
@@ -61,12 +51,7 @@ above s split t f = pick t f (cases_lt f (length s.mesh.faces))
 pub above_path : (s : OrientedMesh) (split : SplitView) (t : IsSplit s split) (f : ℕ) → f < length s.mesh.faces
     → IsPath (StepsUp (rotations_of s) split) f (above s split t f) split.root_face
 unfolding pick
-above_path s split t f l = go (cases_lt f (length s.mesh.faces))
-  where
-    go : (c : (f < length s.mesh.faces) ⊎ (length s.mesh.faces ≤ f))
-        → IsPath (StepsUp (rotations_of s) split) f (pick t f c) split.root_face
-    go (inl within) = (t.child_faces.to_root f within).1
-    go (inr past) = absurd (omega arith)
+above_path s split t f l = grind (arith, pick)
 
 -- both faces of a step up are faces
 lower_within : {s : OrientedMesh} (split : SplitView) → IsOrientedSurface s → (f g : ℕ) → StepsUp (rotations_of s) split f g

@@ -1,6 +1,6 @@
 -- A split, made by two searches: over the vertices, and over the faces across the edges outside the tree. The tree of the second is then
 -- turned round, so that its root is a face that has a leftover dart.
-use Rattle.tree_cotree.proofs.Common.{rotation_system, names_all, OrientedMesh, IsOrientedSurface, Rotations, rotations_of, NamesAll, ◌≡◌, inl, inr, ℕ, suc, ◌+◌, ◌/◌, ◌<◌, Bool, true, false, List, length, get_or, refl, ap, sym, ◌∙◌, subst, arith, cases_Bool, both_ways, length-replicate, Option, Some, is_some, replicate, is_used, count_below, AreJoined, HasColouredTrees, without_ways, ColouringView, AreBelowEdges, bound_of, is_node_of, kind_over, AreSpanned, AreMarked, IsMarked, node_of, same_kind, has_kind, kept_at, IsSearched, IsSpanningTree, SplitView, HasParents, HasChildFaces, IsSplit, StepsToParent, StepsUp, below_edge, in_cotree, made_split, LeadsUp, IsRooted, Nodes, Vertices, Faces, Kind, Tree, Cotree, Left}
+use Rattle.tree_cotree.proofs.Common.{rotation_system, names_all, OrientedMesh, IsOrientedSurface, Rotations, rotations_of, NamesAll, ◌≡◌, inl, inr, ℕ, suc, ◌+◌, ◌/◌, ◌<◌, Bool, true, false, List, length, get_or, refl, ap, sym, ◌∙◌, subst, arith, cases_Bool, both_ways, common_steps, length-replicate, Option, Some, is_some, replicate, is_used, count_below, AreJoined, HasColouredTrees, without_ways, ColouringView, AreBelowEdges, bound_of, is_node_of, kind_over, AreSpanned, AreMarked, IsMarked, node_of, same_kind, has_kind, kept_at, IsSearched, IsSpanningTree, SplitView, HasParents, HasChildFaces, IsSplit, StepsToParent, StepsUp, below_edge, in_cotree, made_split, LeadsUp, IsRooted, Nodes, Vertices, Faces, Kind, Tree, Cotree, Left}
 use Rattle.tree_cotree.proofs.ClassLemmas.{count_same, count_none}
 use Rattle.tree_cotree.proofs.SetLemmas.{with_one, with_cases, with_keeps, count_with, same_from_count}
 use Rattle.tree_cotree.proofs.GrowthLemmas.{HasNodes}
@@ -29,9 +29,7 @@ count_nodes {bound} {root} {is_node} {from} n f =
 kept_below : {maps : Rotations} {node : ℕ → ℕ} {allowed : ℕ → Bool} {bound root edges : ℕ} {is_node : ℕ → Bool}
     {from : List (Option ℕ)} (v x : ℕ)
     → HasNodes maps node is_node bound edges → IsRooted maps node allowed bound root from → kept_at from v ≡ Some x → v < length from
-kept_below {node} {bound} v x n f e =
-    let below : node x < bound = n.node_within x (f.within v x e) in
-    omega (arith, below, f.of_node v x e, f.long)
+kept_below {node} {bound} v x n f e = grind (arith, common_steps)
 
 -- the edges of the kept darts span the nodes, where they get a kind that no edge had
 marked_spans : {s : OrientedMesh} → IsOrientedSurface s → (nodes : Nodes) {old new : List Kind} {allowed : ℕ → Bool} {root : ℕ}
@@ -54,10 +52,7 @@ marked_spans {s} o nodes {old} {new} {allowed} {from} long none left f m =
           count_nodes n f,
         );
       };
-      were_left = λ e l is. elim (sets.only e is) [
-        | inl before ↦ absurd (both_ways (has_kind old kind e) (none e l) before)
-        | inr dart ↦ left e l (ap allowed (sym dart.4) ∙ f.inside dart.0 dart.1 dart.3)
-      ];
+      were_left = λ e l is. grind arith;
       others = m.others;
     }
   where
@@ -122,10 +117,7 @@ parents_from {s} h kinds {p} b {root} top genus f =
         ],
         λ either. elim (option_cases (kept_at p v)) [
           | inl none ↦ none
-          | inr some ↦ elim either [
-            | inl at_root ↦ absurd (not_both (kept_at p v) some.0 some.1 (ap (kept_at p) at_root ∙ f.none))
-            | inr out ↦ absurd (both_ways (is_used s.mesh v) out (used v l ∙ with_keeps kept root v (ap is_some some.1)))
-          ]
+          | inr some ↦ grind (arith, not_both, with_keeps, is_some)
         ],
       );
       within = f.within;
@@ -156,23 +148,11 @@ child_faces_from {s} h kinds p {t} b {root} genus span a long kept_faces =
     record {
       root_below = subst (λ f. f < length s.mesh.faces) a.at_root.2 (names.face_below a.at_root.0 a.at_root.1);
       each_edge = long;
-      none = λ e l. (
-        λ none. cotree_kind (get_or kinds e Tree) ∙ sym (is_cotree e l) ∙ ap is_some none,
-        λ out. elim (option_cases (up e)) [
-          | inl none ↦ none
-          | inr some ↦ absurd (both_ways (has_kind kinds Cotree e) (sym (cotree_kind (get_or kinds e Tree)) ∙ out)
-              (sym (is_cotree e l) ∙ ap is_some some.1))
-        ],
-      );
+      none = λ e l. grind (arith, cotree_kind, is_some, option_cases);
       step = λ e x k.
           let there = faces.faces e x k in
           (there.0, a.within x there.0 there.2, there.3, a.of_node x there.0 there.2);
-      once = λ d e x k l.
-          let one = faces.faces d x k in
-          let other = faces.faces e x l in
-          let same : Some one.0 ≡ Some other.0 = sym one.2 ∙ other.2 in
-          let is : one.0 ≡ other.0 = cc in
-          sym one.3 ∙ ap maps.edge is ∙ other.3;
+      once = λ d e x k l. grind arith;
       not_root = λ e k. (let there = faces.faces e root k in not_both (kept_at t root) there.0 there.2 a.none);
       to_root = λ x l.
           let dart = names.each_face x l in
@@ -199,8 +179,7 @@ split_of_ways {s} o {colouring} {p} b c up across long below =
     let maps : Rotations = rotations_of s in
     let kinds : List Kind = colouring.kinds in
     let cotree_set : in_cotree (without_ways colouring) ≡ has_kind kinds Cotree = λ i e. cotree_kind (get_or kinds e Tree) i in
-    let cotree : IsSpanningTree maps maps.face (λ f. true) (length s.mesh.faces) (length s.table) (has_kind kinds Cotree) =
-    subst (IsSpanningTree maps maps.face (λ f. true) (length s.mesh.faces) (length s.table)) cotree_set c.trees.cotree in
+    let cotree : IsSpanningTree maps maps.face (λ f. true) (length s.mesh.faces) (length s.table) (has_kind kinds Cotree) = grind arith in
     record {
       trees = record { each_edge = c.trees.each_edge; tree = c.trees.tree; cotree = c.trees.cotree };
       parents = parents_from o kinds b colouring.root_face colouring.genus up;

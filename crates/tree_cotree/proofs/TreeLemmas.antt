@@ -1,5 +1,5 @@
 -- The tree that a search makes: a node's dart leads back to a node found before, so following the darts ends at the root.
-use Rattle.tree_cotree.proofs.Common.{joined_trans, joined_sym, Rotations, IsRotationSystem, ◌≡◌, ◌≢◌, ◌⊎◌, inl, inr, ℕ, zero, suc, ◌+◌, ◌<◌, Bool, true, false, cond, List, [], ◌∷◌, length, get_or, refl, ap, sym, ◌∙◌, subst, arith, set, cases_Bool, cases_eq, cases_lt, both_ways, get_or-set_same, get_or-set_other, length-set, Option, Some, None, is_some, count_below, IsPath, AreJoined, HangTogether, AreApart, AreMarked, IsMarked, same_kind, has_kind, kept_at, IsFound, IsNamed, LeadsBack, IsOrder, IsSearched, IsStepIn, StepsIn, LeadsUp, IsRooted, Kind, Tree, Cotree, Left}
+use Rattle.tree_cotree.proofs.Common.{joined_trans, joined_sym, Rotations, IsRotationSystem, ◌≡◌, ◌≢◌, ◌⊎◌, inl, inr, ℕ, zero, suc, ◌+◌, ◌<◌, Bool, true, false, cond, List, [], ◌∷◌, length, get_or, refl, ap, sym, ◌∙◌, subst, arith, set, cases_Bool, cases_eq, both_ways, get_or-set_same, get_or-set_other, length-set, Option, Some, None, is_some, count_below, IsPath, AreJoined, HangTogether, AreApart, AreMarked, IsMarked, same_kind, has_kind, kept_at, IsFound, IsNamed, LeadsBack, IsOrder, IsSearched, IsStepIn, StepsIn, LeadsUp, IsRooted, Kind, Tree, Cotree, Left}
 use Rattle.tree_cotree.proofs.SetLemmas.{with_one, with_itself, with_other, with_cases, with_keeps, count_with}
 use Rattle.tree_cotree.proofs.ClassLemmas.{count_same}
 use Rattle.tree_cotree.proofs.AfterLemmas.{twin_edge}
@@ -70,10 +70,7 @@ search_rooted {maps} {node} {allowed} {bound} start {from} l together s =
 -- one step at most leads up from a node, and none from the root
 pub upward : {maps : Rotations} {node : ℕ → ℕ} {allowed : ℕ → Bool} {bound root : ℕ} {from : List (Option ℕ)}
     → IsRooted maps node allowed bound root from → IsUpward (LeadsUp maps node from) root
-upward {maps} {node} {root} {from} h = record {
-  one = λ u v w p q. sym p.2 ∙ ap (λ d. node (maps.twin d)) (same_some (kept_at from u) p.0 q.0 p.1 q.1) ∙ q.2;
-  top = λ v p. not_both (kept_at from root) p.0 p.1 h.none;
-}
+upward {maps} {node} {root} {from} h = grind (arith, same_some, not_both)
 
 -- the nodes for which a dart is kept are all but the root
 pub kept_nodes : {maps : Rotations} {node : ℕ → ℕ} {allowed : ℕ → Bool} {bound root edges : ℕ} {is_node : ℕ → Bool}
@@ -155,30 +152,13 @@ kept_apart {maps} {node} {root} {from} r h =
     }
 
 pub marked_none : (maps : Rotations) (from : List (Option ℕ)) (edges : ℕ) (old : ℕ → Bool) → AreMarked maps from edges old old 0
-marked_none maps from edges old =
-    record { count = omega arith; marked = λ v x l e. absurd (omega arith); kept = λ e k. k; only = λ e k. inl k }
+marked_none maps from edges old = grind arith
 
 -- no dart is kept for the next node
 pub marked_skip : {maps : Rotations} {from : List (Option ℕ)} {edges n : ℕ} {old new : ℕ → Bool}
     → AreMarked maps from edges old new n → kept_at from n ≡ None
     → AreMarked maps from edges old new (n + 1)
-marked_skip {from} {edges} {n} {old} h none =
-    let no_more : count_below (λ w. is_some (kept_at from w)) (n + 1) ≡ count_below (λ w. is_some (kept_at from w)) n =
-    ap (count_below (λ w. is_some (kept_at from w))) (let e : n + 1 ≡ suc n = omega arith in e)
-    ∙ ap (λ o. count_below (λ w. is_some (kept_at from w)) n + cond (is_some o) 1 0) none
-    ∙ (let e : count_below (λ w. is_some (kept_at from w)) n + 0 ≡ count_below (λ w. is_some (kept_at from w)) n = omega arith in e) in
-    record {
-      count = h.count ∙ ap (λ k. count_below old edges + k) (sym no_more);
-      marked = λ v x l e. elim (cases_lt v n) [
-        | inl less ↦ h.marked v x less e
-        | inr more ↦ (let same : v ≡ n = omega arith in absurd (not_both (kept_at from n) x (ap (kept_at from) (sym same) ∙ e) none))
-      ];
-      kept = h.kept;
-      only = λ e k. elim (h.only e k) [
-        | inl before ↦ inl before
-        | inr node ↦ inr (node.0, node.1, omega (arith, node.2), node.3, node.4)
-      ];
-    }
+marked_skip {from} {edges} {n} {old} h none = grind (arith, is_some, not_both)
 
 -- the edge of the dart that is kept for the next node is put in
 pub marked_more : {maps : Rotations} {from : List (Option ℕ)} {edges n : ℕ} (x : ℕ) {old new : ℕ → Bool} (others : ℕ → Bool)
@@ -190,34 +170,15 @@ marked_more {maps} {from} {edges} {n} x {old} {new} others h some l free apart i
     let one_more : count_below (λ w. is_some (kept_at from w)) (n + 1) ≡ count_below (λ w. is_some (kept_at from w)) n + 1 =
     ap (count_below (λ w. is_some (kept_at from w))) (let e : n + 1 ≡ suc n = omega arith in e)
     ∙ ap (λ o. count_below (λ w. is_some (kept_at from w)) n + cond (is_some o) 1 0) some in
-    let out : new e ≡ false = elim (cases_Bool (new e)) [
-      | inl is_in ↦ elim (h.only e is_in) [
-        | inl before ↦ absurd (both_ways (old e) free before)
-        | inr node ↦ absurd (apart node.0 node.1 (λ same. omega (arith, node.2, same)) node.3 node.4)
-      ]
-      | inr is_out ↦ is_out
-    ] in
+    let out : new e ≡ false = grind arith in
     let counted : count_below others edges ≡ count_below new edges + 1 =
     count_same others (with_one new e) edges (λ k b. is k) ∙ count_with new edges e l out
     ∙ (let s : suc (count_below new edges) ≡ count_below new edges + 1 = omega arith in s) in
     record {
       count = omega (arith, counted, h.count, one_more);
-      marked = λ v y b k. elim (cases_lt v n) [
-        | inl less ↦ is (maps.edge y) ∙ with_keeps new e (maps.edge y) (h.marked v y less k)
-        | inr more ↦
-            (let here : v ≡ n = omega arith in
-            let same : Some y ≡ Some x = sym k ∙ ap (kept_at from) here ∙ some in
-            let y_is : y ≡ x = cc in
-            ap (λ z. others (maps.edge z)) y_is ∙ is e ∙ with_itself new e)
-      ];
+      marked = λ v y b k. grind (arith, with_keeps, with_itself);
       kept = λ k before. is k ∙ with_keeps new e k (h.kept k before);
-      only = λ k mark. elim (with_cases new e k (sym (is k) ∙ mark)) [
-        | inl same ↦ inr (n, x, omega arith, some, sym same)
-        | inr before ↦ elim (h.only k before) [
-          | inl old_mark ↦ inl old_mark
-          | inr node ↦ inr (node.0, node.1, omega (arith, node.2), node.3, node.4)
-        ]
-      ];
+      only = λ k mark. grind (arith, with_cases);
     }
 
 pub same_itself : (kind : Kind) → same_kind kind kind ≡ true
@@ -228,12 +189,7 @@ same_itself Left = refl
 pub marks_skip : {maps : Rotations} {from : List (Option ℕ)} {kind : Kind} {old new : List Kind} {n : ℕ}
     → IsMarked maps from kind old new n → kept_at from n ≡ None
     → IsMarked maps from kind old new (n + 1)
-marks_skip h none =
-    record {
-      long = h.long;
-      sets = marked_skip h.sets none;
-      others = h.others;
-    }
+marks_skip h none = grind (arith, marked_skip)
 
 pub marks_more : {maps : Rotations} {from : List (Option ℕ)} {kind : Kind} {old new : List Kind} {n : ℕ} (x : ℕ) → AreApart maps from
     → IsMarked maps from kind old new n
@@ -252,8 +208,5 @@ marks_more {maps} {kind} {new} {n} x apart h some l free =
             ∙ sym (ap (with_one (has_kind new kind) i) same ∙ with_itself (has_kind new kind) i)
         | inr ne ↦ ap (λ k. same_kind k kind) (other e ne) ∙ sym (with_other (has_kind new kind) i e ne)
       ]);
-      others = λ e out. elim (cases_eq e i) [
-        | inl same ↦ absurd (both_ways (has_kind more kind e) out (ap (has_kind more kind) same ∙ here))
-        | inr ne ↦ other e ne ∙ h.others e (ap (λ k. same_kind k kind) (sym (other e ne)) ∙ out)
-      ];
+      others = λ e out. grind arith;
     }

@@ -1,5 +1,5 @@
 -- A tree over nodes has another root when the dart between the two is turned. And ways up a tree over the faces, a dart longer or shorter.
-use Rattle.tree_cotree.proofs.Common.{names_all, OrientedMesh, IsOrientedSurface, rotations_of, Rotations, IsRotationSystem, ◌≡◌, ◌≢◌, ◌⊎◌, inl, inr, ℕ, ◌+◌, ◌<◌, Bool, true, List, [], ◌∷◌, ◌++◌, length, refl, ap, sym, ◌∙◌, subst, arith, set, cases_eq, get_or-set_same, get_or-set_other, length-set, Option, Some, None, IsPath, AreJoined, kept_at, LeadsUp, IsRooted, IsWay}
+use Rattle.tree_cotree.proofs.Common.{names_all, OrientedMesh, IsOrientedSurface, rotations_of, Rotations, IsRotationSystem, ◌≡◌, ◌≢◌, ◌⊎◌, inl, inr, ℕ, ◌+◌, ◌<◌, Bool, true, List, [], ◌∷◌, ◌++◌, length, refl, ap, sym, ◌∙◌, subst, arith, set, cases_eq, common_steps, get_or-set_same, get_or-set_other, length-set, Option, Some, None, IsPath, AreJoined, kept_at, LeadsUp, IsRooted, IsWay}
 use Rattle.tree_cotree.proofs.AfterLemmas.{twin_edge}
 use Rattle.tree_cotree.proofs.SearchLemmas.{not_both, same_some}
 use Rattle.tree_cotree.proofs.TreeLemmas.{upward}
@@ -13,8 +13,7 @@ kept_none : (from : List (Option ℕ)) (v w x : ℕ) → w < length from → kep
 kept_none from v w x l = get_or-set_same (set from v (Some x)) w None None (omega (arith, l, length-set from v (Some x)))
 
 kept_else : (from : List (Option ℕ)) (v w u x : ℕ) → u ≢ v → u ≢ w → kept_at (set (set from v (Some x)) w None) u ≡ kept_at from u
-kept_else from v w u x not_v not_w =
-    get_or-set_other (set from v (Some x)) w u None None not_w ∙ get_or-set_other from v u (Some x) None not_v
+kept_else from v w u x not_v not_w = grind (arith, common_steps)
 
 -- the dart d of a node that leads to the root is turned, and the node is the root
 pub rerooted : {maps : Rotations} {node : ℕ → ℕ} {allowed : ℕ → Bool} {bound root : ℕ} {from : List (Option ℕ)} (d x : ℕ)
@@ -160,13 +159,7 @@ pub record IsPartlyTurned (maps : Rotations) (old : List (Option ℕ)) (start : 
 pub turning_start : {maps : Rotations} {from : List (Option ℕ)} (start : ℕ) {root : ℕ} (way : List ℕ)
     → IsRooted maps maps.face (λ e. true) (length from) root from → IsWay maps from start way root
     → IsPartlyTurned maps from start from way
-turning_start {maps} {from} start {root} way h w = record {
-  top = root;
-  is_way = w;
-  rooted = λ allowed other f.
-      let same : maps.face h.at_root.0 ≡ other = ends_at_root f h.at_root.0 h.at_root.1 (ap (kept_at from) h.at_root.2 ∙ h.none) in
-      subst (λ v. IsRooted maps maps.face allowed (length from) v from) (sym same ∙ h.at_root.2) f;
-}
+turning_start {maps} {from} start {root} way h w = grind (arith, ends_at_root)
 
 pub turning_more : {maps : Rotations} {old : List (Option ℕ)} {start : ℕ} {from : List (Option ℕ)} (way : List ℕ) (d x : ℕ) {root : ℕ}
     → IsRotationSystem maps → ((e : ℕ) → e < maps.darts → maps.face e < length from)
@@ -203,12 +196,4 @@ last_in {maps} {old} {start} {from} way d {root} tree t is =
 pub allow : {maps : Rotations} {node : ℕ → ℕ} {allowed : ℕ → Bool} (other : ℕ → Bool) {bound root : ℕ} {from : List (Option ℕ)}
     → IsRooted maps node allowed bound root from → ((v x : ℕ) → kept_at from v ≡ Some x → other (maps.edge x) ≡ true)
     → IsRooted maps node other bound root from
-allow other f all = record {
-  long = f.long;
-  at_root = f.at_root;
-  none = f.none;
-  within = f.within;
-  of_node = f.of_node;
-  inside = all;
-  to_root = f.to_root;
-}
+allow other f all = grind arith

@@ -33,8 +33,7 @@ path_rest : (step : ℕ → ℕ → Type 0) (root u : ℕ) (path : List ℕ) →
 path_rest step root u path p zero l = (path, p, omega arith)
 path_rest step root u [] p (suc i) l = absurd (omega arith)
 path_rest step root u (w ∷ path) p (suc i) l =
-    let more = path_rest step root w path p.1 i (omega arith) in
-    (more.0, more.1, omega (arith, more.2))
+    let more = path_rest step root w path p.1 i (omega arith) in grind arith
 
 -- so a path passes no number twice, and is shorter than a bound on the numbers
 pub few_steps : (step : ℕ → ℕ → Type 0) (root bound : ℕ) → IsUpward step root → root < bound → ((u v : ℕ) → step u v → u < bound)
@@ -47,9 +46,7 @@ few_steps step root bound h top_below below u path p = elim (cases_lt (length pa
       (λ i l. is_below (get_or (u ∷ path) i 0) (rest many i l).0 (rest many i l).1) in
       let one = rest many twice.first (omega (arith, twice.before, twice.within)) in
       let two = rest many twice.second twice.within in
-      let same : one.0 ≡ two.0 =
-      single_path step root h (get_or (u ∷ path) twice.second 0) one.0 two.0
-      (subst (λ (x : ℕ). IsPath step x one.0 root) twice.same one.1) two.1 in
+      let same : one.0 ≡ two.0 = grind (arith, single_path) in
       absurd (omega (arith, one.2, two.2, ap (λ (l : List ℕ). length l) same, twice.before))
 ]
   where

@@ -1,5 +1,5 @@
 -- The darts that wait while a search is underway: each found node is crossed, or a dart of it waits.
-use Rattle.tree_cotree.proofs.Common.{Rotations, ◌≡◌, ◌⊎◌, inl, inr, ℕ, ◌+◌, ◌-◌, ◌<◌, Bool, List, [], ◌∷◌, ◌++◌, length, get_or, refl, ap, sym, ◌∙◌, subst, arith, cases_lt, get_or_read, length-append, get_or-append_right, append-nil, append_assoc, map-append, option_to_list, Option, Some, None, IfSome, IfNone, Contains, DartName, dart_numbers, IsFound, IsOrder, IsCrossed, IsSearched, AreAdded, waiting_darts, IsTaken}
+use Rattle.tree_cotree.proofs.Common.{Rotations, ◌≡◌, ◌⊎◌, inl, inr, ℕ, ◌+◌, ◌-◌, ◌<◌, Bool, List, [], ◌∷◌, ◌++◌, length, get_or, refl, ap, sym, ◌∙◌, subst, arith, cases_lt, common_steps, get_or_read, length-append, get_or-append_right, append_assoc, map-append, option_to_list, Option, Some, None, IfSome, IfNone, Contains, DartName, dart_numbers, IsFound, IsOrder, IsCrossed, IsSearched, AreAdded, waiting_darts, IsTaken}
 use Rattle.std.proofs.lemmas.List.Elements.{Contains-append_left, Contains-append_right, Contains-append_cases, Contains-push_cases, Contains-get_or}
 use Rattle.tree_cotree.proofs.SearchLemmas.{GoesOn, added_goes, crossed_on}
 
@@ -29,14 +29,7 @@ taken_others {x} t y h =
     ])
 
 pub taken_longer : {old new : List ℕ} {x : ℕ} → IsTaken old new x → length old ≡ length new + 1
-taken_longer {x} t =
-    omega (
-      arith,
-      ap (λ (xs : List ℕ). length xs) t.was,
-      ap (λ (xs : List ℕ). length xs) t.is,
-      length-append t.before (x ∷ t.behind),
-      length-append t.before t.behind,
-    )
+taken_longer {x} t = grind (arith, common_steps)
 
 numbers_apart : (far near : List DartName) → waiting_darts far near ≡ dart_numbers far ++ dart_numbers near
 numbers_apart far near = map-append (λ (d : DartName). d.0) far near
@@ -45,48 +38,26 @@ numbers_apart far near = map-append (λ (d : DartName). d.0) far near
 pub taken_near : (first : Option DartName) (far near rest : List DartName) → near ≡ option_to_list first ++ rest
     → IfSome first (λ dart. IsTaken (waiting_darts far near) (waiting_darts far rest) dart.0)
 taken_near None far near rest is = tt
-taken_near (Some first) far near rest is = record {
-  before = dart_numbers far;
-  behind = dart_numbers rest;
-  was = ap (waiting_darts far) is ∙ numbers_apart far (first ∷ rest);
-  is = numbers_apart far rest;
-}
+taken_near (Some first) far near rest is = grind (arith, numbers_apart)
 
 -- the first of all leaves, where all wait for a patch of their own
 pub taken_far : (first : Option DartName) (far near all rest none : List DartName) → all ≡ far ++ near → none ≡ []
     → all ≡ option_to_list first ++ rest
     → IfSome first (λ dart. IsTaken (waiting_darts far near) (waiting_darts rest none) dart.0)
 taken_far None far near all rest none whole empty is = tt
-taken_far (Some first) far near all rest none whole empty is = record {
-  before = [];
-  behind = dart_numbers rest;
-  was = ap dart_numbers (sym whole ∙ is);
-  is = ap (waiting_darts rest) empty ∙ ap dart_numbers (append-nil rest);
-}
+taken_far (Some first) far near all rest none whole empty is = grind (arith, common_steps)
 
 -- the last of the present patch leaves
 pub taken_near_last : (last : Option DartName) (far near rest : List DartName) → near ≡ rest ++ option_to_list last
     → IfSome last (λ dart. IsTaken (waiting_darts far near) (waiting_darts far rest) dart.0)
 taken_near_last None far near rest is = tt
-taken_near_last (Some last) far near rest is = record {
-  before = waiting_darts far rest;
-  behind = [];
-  was = ap (waiting_darts far) is ∙ ap dart_numbers (sym (append_assoc far rest (last ∷ []))) ∙ numbers_apart (far ++ rest) (last ∷ []);
-  is = sym (append-nil (waiting_darts far rest));
-}
+taken_near_last (Some last) far near rest is = grind (arith, common_steps, numbers_apart)
 
 -- the last of the others leaves
 pub taken_far_last : (last : Option DartName) (far near same rest : List DartName) → near ≡ same ++ [] → far ≡ rest ++ option_to_list last
     → IfSome last (λ dart. IsTaken (waiting_darts far near) (waiting_darts rest same) dart.0)
 taken_far_last None far near same rest stays is = tt
-taken_far_last (Some last) far near same rest stays is = record {
-  before = dart_numbers rest;
-  behind = dart_numbers same;
-  was =
-      ap (waiting_darts far) (stays ∙ append-nil same) ∙ ap (λ (ds : List DartName). waiting_darts ds same) is
-      ∙ ap dart_numbers (append_assoc rest (last ∷ []) same) ∙ numbers_apart rest (last ∷ same);
-  is = numbers_apart rest same;
-}
+taken_far_last (Some last) far near same rest stays is = grind (arith, common_steps, numbers_apart)
 
 -- what a dart that is taken, or none, says
 pub taken : (first : Option DartName) (x : DartName) (waiting rest : List ℕ) → first ≡ Some x

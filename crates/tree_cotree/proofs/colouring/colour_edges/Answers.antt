@@ -1,13 +1,10 @@
-use Rattle.tree_cotree.proofs.Common.{OrientedMesh, ◌≡◌, ◌/◌, ℕ, List, refl, length, ap, ◌∙◌, rules, length-replicate, replicate, count_below, has_kind, Kind, Tree, Left}
+use Rattle.tree_cotree.proofs.Common.{OrientedMesh, arith, ◌≡◌, ◌/◌, ℕ, List, length, rules, replicate, count_below, has_kind, Kind, Left}
 use Rattle.tree_cotree.proofs.ColouringLemmas.{none_before, none_between, vertices_hang, faces_hang, coloured}
 use Rattle.tree_cotree.proofs.ColourLemmas.{coloured_trees_are_of_a_split}
 use Rattle.tree_cotree.proofs.colouring.colour_edges.Goals as goal
 
 pub span-requires-clause-free : goal.span-requires-clause-free
-span-requires-clause-free c =
-    let s : OrientedMesh = c.args.surface.now in
-    let first : c.in_ok-kinds.kinds.items ≡ replicate (length s.table) Left = search rules in
-    none_before s c.in_ok-kinds.kinds.items Tree first refl
+span-requires-clause-free c = grind (arith, none_before)
 
 pub span-requires-clause-together : goal.span-requires-clause-together
 span-requires-clause-together c =
@@ -16,10 +13,7 @@ span-requires-clause-together c =
     vertices_hang c.in_ok-kinds.kinds.items c.faces.ensures.valid first
 
 pub span-requires-2-clause-free : goal.span-requires-2-clause-free
-span-requires-2-clause-free c =
-    let s : OrientedMesh = c.args.surface.now in
-    let first : c.in_ok-kinds.kinds.items ≡ replicate (length s.table) Left = search rules in
-    none_between first c.span.ensures
+span-requires-2-clause-free c = grind (arith, none_between)
 
 pub span-requires-2-clause-together : goal.span-requires-2-clause-together
 span-requires-2-clause-together c =
@@ -36,11 +30,7 @@ returns c =
     let root : ℕ = c.face_of.result.0 in
     let genus : ℕ = c.leftover_edges-genus.result / 2 in
     let first : k0 ≡ replicate (length s.table) Left = search rules in
-    let long : length k2 ≡ length s.table =
-    c.span-2.ensures.long ∙ c.span.ensures.long ∙ ap (λ (ks : List Kind). length ks) first ∙ length-replicate (length s.table) Left in
-    let half : genus ≡ count_below (has_kind k2 Left) (length s.table) / 2 = ap (λ n. n / 2)
-    (c.leftover_edges-genus.ensures ∙ ap (λ (ks : List Kind). count_below (has_kind ks Left) (length ks)) c.deref-2.ensures.value
-    ∙ ap (count_below (has_kind k2 Left)) long) in
+    let half : genus ≡ count_below (has_kind k2 Left) (length s.table) / 2 = grind arith in
     coloured_trees_are_of_a_split c.faces.ensures.valid
     (coloured c.faces.ensures.valid start root genus first c.span.ensures c.span-2.ensures c.leftover_dart-start.ensures.within
     (rw c.deref.ensures.value at c.leftover_dart-start.ensures.left) c.face_of.ensures.face half)

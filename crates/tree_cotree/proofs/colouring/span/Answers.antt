@@ -1,5 +1,5 @@
 use Rattle.tree_cotree.proofs.Common.{OrientedMesh, ◌<◌, ◌≤◌, ℕ, List, length, ap, sym, subst, arith, Edge, IsTried, kind_over, Kind}
-use Rattle.tree_cotree.proofs.ColouringLemmas.{IsSpanning, kind_not_left, spanning_none, spanning_early, spanning_next, spanning_all}
+use Rattle.tree_cotree.proofs.ColouringLemmas.{kind_not_left, spanning_none, spanning_early, spanning_next, spanning_all}
 use Rattle.tree_cotree.proofs.colouring.span.Goals.{then-begins_vertex, else-begins_vertex}
 use Rattle.tree_cotree.proofs.colouring.span.Goals as goal
 
@@ -24,17 +24,14 @@ loop-early-preserved c =
           (sym (ap (λ v. v.items) w.kinds-is))
           (subst (λ r. IsTried s c.args.nodes kind m c.loop-early.classes r c.loop-early.kinds.items w.try_edge.new.kinds.items)
           (sym w.classes-is) w.try_edge.ensures)) c.loop-early.invariant
-      | else-begins_vertex w ↦
-          subst (IsSpanning s c.args.nodes kind old 0 c.if-begins_vertex.classes) (sym (ap (λ v. v.items) w.kinds-is))
-          (subst (λ r. IsSpanning s c.args.nodes kind old 0 r c.loop-early.kinds.items) (sym w.classes-is) c.loop-early.invariant)
+      | else-begins_vertex w ↦ grind arith
     ]
 
 pub loop-edge-preserved : goal.loop-edge-preserved
 loop-edge-preserved c =
     let s : OrientedMesh = c.args.surface.now in
     let n : ℕ = c.loop-edge.edge in
-    let within : n < length s.table =
-    subst (λ (t : List Edge). n < length t) c.sides.ensures.table (omega (arith, c.loop-edge-test.true, c.len-edges.ensures)) in
+    let within : n < length s.table = grind arith in
     spanning_next c.requires.valid within
     (omega (arith, within, c.requires.kinds, c.loop-edge.invariant.long)) (kind_not_left c.args.nodes) c.try_edge-in-loop-edge.ensures
     c.loop-edge.invariant

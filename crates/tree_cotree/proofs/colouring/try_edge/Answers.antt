@@ -1,4 +1,4 @@
-use Rattle.tree_cotree.proofs.Common.{rotation_system, OrientedMesh, ◌≡◌, ◌<◌, List, length, refl, ap, sym, ◌∙◌, arith, set, both_ways, get_or_default, same_kind, has_kind, Kind, Tree, Left}
+use Rattle.tree_cotree.proofs.Common.{rotation_system, OrientedMesh, ◌≡◌, ◌<◌, length, arith, common_steps, has_kind, Left}
 use Rattle.tree_cotree.proofs.JoiningLemmas.{ends_within}
 use Rattle.tree_cotree.proofs.ColouringLemmas.{has_nodes}
 use Rattle.tree_cotree.proofs.colouring.try_edge.Goals as goal
@@ -14,10 +14,7 @@ within c =
 
 -- the test is whether the edge is left over
 read : (c : After-is_same) → c.is_same.result ≡ has_kind c.args.kinds.now.items Left c.args.edge.0
-read c =
-    let kinds : List Kind = c.args.kinds.now.items in
-    let few : c.args.edge.0 < length kinds = omega (arith, c.requires.edge, c.requires.kinds) in
-    c.is_same.ensures ∙ ap (λ k. same_kind k Left) (c.index.ensures ∙ get_or_default kinds c.args.edge.0 c.index.result.now Tree few)
+read c = grind (arith, common_steps)
 
 pub join_apart-requires-clause-first : goal.join_apart-requires-clause-first
 join_apart-requires-clause-first c = (within (goal.at.join_apart-requires-clause-first c).After-ends-first).0
@@ -26,40 +23,10 @@ pub join_apart-requires-clause-second : goal.join_apart-requires-clause-second
 join_apart-requires-clause-second c = (within (goal.at.join_apart-requires-clause-second c).After-ends-first).1
 
 pub returns-then-join_apart : goal.returns-then-join_apart
-returns-then-join_apart c =
-    let kinds : List Kind = c.args.kinds.now.items in
-    let left = sym (read (goal.at.returns-then-join_apart c).After-is_same) ∙ c.if-is_same.true in
-    record {
-      left = λ is. record {
-        x = c.ends-first.result.0;
-        y = c.ends-first.result.1;
-        ends = c.ends-first.ensures;
-        joined = c.join_apart.ensures.joined;
-        apart = λ differ. ap (set kinds c.args.edge.0) c.kind_over.ensures;
-        same = λ equal. absurd (c.join_apart.ensures.apart.0 c.if-join_apart.true equal);
-      };
-      other = λ out. absurd (both_ways (has_kind kinds Left c.args.edge.0) out left);
-    }
+returns-then-join_apart c = grind (arith, read)
 
 pub returns-else-join_apart : goal.returns-else-join_apart
-returns-else-join_apart c =
-    let left = sym (read (goal.at.returns-else-join_apart c).After-is_same) ∙ c.if-is_same.true in
-    record {
-      left = λ is. record {
-        x = c.ends-first.result.0;
-        y = c.ends-first.result.1;
-        ends = c.ends-first.ensures;
-        joined = c.join_apart.ensures.joined;
-        apart = λ differ. absurd (both_ways c.join_apart.result c.if-join_apart.false (c.join_apart.ensures.apart.1 differ));
-        same = λ equal. refl;
-      };
-      other = λ out. absurd (both_ways (has_kind c.args.kinds.now.items Left c.args.edge.0) out left);
-    }
+returns-else-join_apart c = grind (arith, read)
 
 pub returns-else-is_same : goal.returns-else-is_same
-returns-else-is_same c =
-    let out = sym (read (goal.at.returns-else-is_same c).After-is_same) ∙ c.if-is_same.false in
-    record {
-      left = λ is. absurd (both_ways (has_kind c.args.kinds.now.items Left c.args.edge.0) out is);
-      other = λ other. (refl, refl);
-    }
+returns-else-is_same c = grind (arith, read)

@@ -1,4 +1,4 @@
-use Rattle.tree_cotree.proofs.Common.{edge_of, OrientedMesh, Rotations, rotations_of, ◌≡◌, ◌<◌, ◌+◌, ℕ, List, length, ap, sym, ◌∙◌, subst, arith, set, length-set, Option, Some, None, FaceList, AreBelowEdges, kept_at}
+use Rattle.tree_cotree.proofs.Common.{edge_of, OrientedMesh, Rotations, rotations_of, ◌≡◌, ◌<◌, ◌+◌, ℕ, List, length, ap, sym, ◌∙◌, subst, arith, set, length-set, Option, Some, FaceList, AreBelowEdges, kept_at}
 use Rattle.tree_cotree.proofs.SearchLemmas.{kept_read}
 use Rattle.tree_cotree.proofs.BelowLemmas.{faces_skip, faces_more}
 use Rattle.tree_cotree.proofs.edge_faces.faces_below.Goals.{in-Some, in_default}
@@ -10,8 +10,7 @@ edge_of-requires c =
     let within : c.loop-face.face < length c.args.from.now = omega (arith, c.loop-face-test.true, count, c.requires.each_face) in
     let some : kept_at c.args.from.now c.loop-face.face ≡ Some c.in-Some.dart.0 =
     kept_read c.args.from.now c.loop-face.face c.index-from-face.result c.dart.result (Some c.in-Some.dart) within
-    c.index-from-face.is c.dart.ensures c.in-Some.is in
-    c.requires.apart.within c.loop-face.face c.in-Some.dart.0 some
+    c.index-from-face.is c.dart.ensures c.in-Some.is in grind arith
 
 pub loop-face-preserved : goal.loop-face-preserved
 loop-face-preserved c =
@@ -28,9 +27,7 @@ loop-face-preserved c =
           (let x : ℕ = w.in-Some.dart.0 in
           let some : kept_at from n ≡ Some x = kept_read from n c.index-from-face.result c.dart.result (Some w.in-Some.dart) within
           c.index-from-face.is c.dart.ensures w.in-Some.is in
-          let is : new ≡ set old (edge_of s x) (Some n) =
-          ap (λ v. v.items) w.below-is ∙ ap (λ e. set old e w.some.result) w.edge_of.ensures.edge
-          ∙ ap (set old (edge_of s x)) w.some.ensures in
+          let is : new ≡ set old (edge_of s x) (Some n) = grind arith in
           record {
             long = ap (λ (fs : List (Option ℕ)). length fs) is ∙ length-set old (edge_of s x) (Some n)
                 ∙ c.loop-face.invariant.long;
@@ -38,12 +35,5 @@ loop-face-preserved c =
                 (faces_more x old c.requires.apart c.loop-face.invariant.long c.loop-face.invariant.kept
                 some (subst (λ e. e < length s.table) w.edge_of.ensures.edge w.edge_of.ensures.within));
           })
-      | in_default w ↦
-          (let is : new ≡ old = ap (λ v. v.items) w.below-is in
-          record {
-            long = ap (λ (fs : List (Option ℕ)). length fs) is ∙ c.loop-face.invariant.long;
-            kept = subst (λ fs. AreBelowEdges maps from (length s.table) (kept_at fs) (n + 1)) (sym is)
-                (faces_skip old c.loop-face.invariant.kept
-                (kept_read from n c.index-from-face.result c.dart.result None within c.index-from-face.is c.dart.ensures w.in_default.is));
-          })
+      | in_default w ↦ grind (arith, faces_skip, kept_read)
     ]

@@ -8,8 +8,7 @@ pub edge_of-requires : goal.edge_of-requires
 edge_of-requires c =
     let some : kept_at c.args.from.now c.loop-node.node ≡ Some c.in-Some.dart.0 =
     kept_read c.args.from.now c.loop-node.node c.index-from-node.result c.dart.result (Some c.in-Some.dart) (omega arith)
-    c.index-from-node.is c.dart.ensures c.in-Some.is in
-    c.requires.apart.within c.loop-node.node c.in-Some.dart.0 some
+    c.index-from-node.is c.dart.ensures c.in-Some.is in grind arith
 
 pub loop-node-preserved : goal.loop-node-preserved
 loop-node-preserved c =

@@ -1,4 +1,4 @@
-use Rattle.tree_cotree.proofs.Common.{Rotations, ◌≡◌, ◌≤◌, ℕ, List, length, sym, ap, subst, arith, length-map, length-append, DartName, maps_of, node_in, crosses, dart_numbers, AreBelow, IsSearched, waiting_darts, IsTaken}
+use Rattle.tree_cotree.proofs.Common.{◌≡◌, ◌≤◌, ℕ, List, length, ap, arith, common_steps, length-map, length-append, DartName, dart_numbers, waiting_darts, IsTaken}
 use Rattle.tree_cotree.proofs.SearchLemmas.{order_few, rebound}
 use Rattle.tree_cotree.proofs.WaitingLemmas.{taken, none_waits, taken_longer, taken_dart, taken_found, underway_more, underway_done}
 use Rattle.tree_cotree.proofs.search.search_over.Goals as goal
@@ -13,16 +13,13 @@ pub visit-requires-clause-dart : goal.visit-requires-clause-dart
 visit-requires-clause-dart c = taken_dart c.loop-search.invariant (first_taken (goal.at.visit-requires-clause-dart c).In-Some)
 
 pub visit-requires-clause-below : goal.visit-requires-clause-below
-visit-requires-clause-below c =
-    let maps : Rotations = maps_of c.args.graph.now in
-    subst (AreBelow maps (node_in c.args.graph.now)) (sym c.loop-search.invariant.is_order.long) c.requires.below
+visit-requires-clause-below c = grind arith
 
 pub visit-requires-clause-found : goal.visit-requires-clause-found
 visit-requires-clause-found c = taken_found c.loop-search.invariant (first_taken (goal.at.visit-requires-clause-found c).In-Some)
 
 pub visit-requires-clause-order : goal.visit-requires-clause-order
-visit-requires-clause-order c =
-    rebound (length c.loop-search.search.from.items) (sym c.loop-search.invariant.is_order.long) c.loop-search.invariant.is_order
+visit-requires-clause-order c = grind (arith, rebound)
 
 pub loop-search-smaller : goal.loop-search-smaller
 loop-search-smaller c =
@@ -52,11 +49,4 @@ loop-search-preserved c =
     c.loop-search.invariant.is_order.long c.in_ok-visit.ensures.order) c.in_ok-visit.ensures.added c.in_ok-visit.ensures.crossed
 
 pub returns : goal.returns
-returns c =
-    let maps : Rotations = maps_of c.args.graph.now in
-    let node : ℕ → ℕ = node_in c.args.graph.now in
-    let allowed = crosses c.args.graph.now in
-    subst (λ r. IsSearched maps node allowed c.args.bound r c.loop-search.search.from.items) c.node-root.ensures (underway_done
-    c.loop-search.invariant
-    (none_waits c.in_ok-first.field-0 (waiting_darts c.loop-search.search.waiting.far.items c.loop-search.search.waiting.near.items)
-    c.in_default.not-Some c.in_ok-first.ensures.none))
+returns c = grind (arith, common_steps, underway_done, none_waits)

@@ -1,16 +1,12 @@
-use Rattle.tree_cotree.proofs.Common.{Rotations, ◌≡◌, ◌+◌, ◌≤◌, ℕ, List, length, sym, ◌∙◌, subst, arith, eqb-true, maps_of, node_in, turn_in, crosses, dart_numbers, AreBelow, waiting_darts}
+use Rattle.tree_cotree.proofs.Common.{Rotations, ◌≡◌, ◌+◌, ◌≤◌, ℕ, List, length, sym, ◌∙◌, arith, eqb-true, common_steps, maps_of, node_in, turn_in, crosses, dart_numbers, waiting_darts}
 use Rattle.tree_cotree.proofs.SearchLemmas.{IsVisiting, turning, visit_start, visit_more, visit_within, visit_found, rebound, added_on, crossed_round, crossed_all}
 use Rattle.tree_cotree.proofs.search.visit.Goals as goal
 
 pub loop-turn-init : goal.loop-turn-init
-loop-turn-init c =
-    visit_start (turn_in c.args.graph.now) (waiting_darts c.args.search.now.waiting.far.items
-    c.args.search.now.waiting.near.items) c.args.first.0 c.requires.order
+loop-turn-init c = grind (arith, common_steps, visit_start)
 
 pub cross-requires-clause-below : goal.cross-requires-clause-below
-cross-requires-clause-below c =
-    let maps : Rotations = maps_of c.args.graph.now in
-    subst (AreBelow maps (node_in c.args.graph.now)) (sym c.loop-turn.invariant.is_order.long) c.requires.below
+cross-requires-clause-below c = grind arith
 
 pub cross-requires-clause-dart : goal.cross-requires-clause-dart
 cross-requires-clause-dart c =
@@ -22,8 +18,7 @@ cross-requires-clause-found c =
     visit_found (turning c.darts-turn-end.ensures.valid c.args.graph.now.nodes) c.requires.dart c.requires.found c.loop-turn.invariant
 
 pub cross-requires-clause-order : goal.cross-requires-clause-order
-cross-requires-clause-order c =
-    rebound (length c.loop-turn.search.from.items) (sym c.loop-turn.invariant.is_order.long) c.loop-turn.invariant.is_order
+cross-requires-clause-order c = grind (arith, rebound)
 
 pub turn-dart-requires : goal.turn-dart-requires
 turn-dart-requires c =
@@ -65,12 +60,10 @@ returns-clause-crossed c =
     c.loop-turn.invariant.crossed all
 
 pub returns-then-eq-clause-order : goal.returns-then-eq-clause-order
-returns-then-eq-clause-order c =
-    rebound (length c.args.search.now.from.items) c.loop-turn.invariant.is_order.long c.in_ok-cross.ensures.order
+returns-then-eq-clause-order c = grind (arith, rebound)
 
 pub returns-then-eq-clause-added : goal.returns-then-eq-clause-added
-returns-then-eq-clause-added c =
-    added_on c.loop-turn.invariant.added c.in_ok-cross.ensures.added
+returns-then-eq-clause-added c = grind (arith, added_on)
 
 pub returns-clause-order : goal.returns-clause-order
 returns-clause-order c = c.loop-turn.invariant.is_order

@@ -1,4 +1,4 @@
-use Rattle.tree_cotree.proofs.Common.{rotation_system, names_all, OrientedMesh, Rotations, rotations_of, NamesAll, ◌≡◌, ◌<◌, ◌/◌, ℕ, Bool, true, List, length, refl, sym, ap, ◌∙◌, subst, rules, arith, length-replicate, with_items_is, Option, replicate, FaceList, count_below, AreBelowEdges, AreApart, same_kind, has_kind, kept_at, IsSearched, HasRoot, IsRooted, Kind, Tree, Left}
+use Rattle.tree_cotree.proofs.Common.{rotation_system, names_all, OrientedMesh, Rotations, rotations_of, NamesAll, ◌≡◌, ◌/◌, ℕ, Bool, List, length, sym, ap, ◌∙◌, subst, rules, arith, length-replicate, with_items_is, Option, replicate, count_below, AreApart, has_kind, IsSearched, IsRooted, Kind, Left}
 use Rattle.tree_cotree.proofs.KindLemmas.{all_left}
 use Rattle.tree_cotree.proofs.TreeLemmas.{kept_apart}
 use Rattle.tree_cotree.proofs.TurningLemmas.{allow}
@@ -9,9 +9,7 @@ pub search_over-requires-clause-below : goal.search_over-requires-clause-below
 search_over-requires-clause-below c =
     let s : OrientedMesh = c.args.surface.now in
     let names : NamesAll s = names_all s c.faces.ensures.valid in
-    let count : c.count-vertices.result ≡ s.mesh.count =
-    c.count-vertices.ensures.count ∙ ap (λ (m : FaceList). m.count) c.faces-2.ensures.mesh in
-    λ d l. subst (λ n. (rotations_of s).origin d < n) (sym count) (names.vertex_below d l)
+    let count : c.count-vertices.result ≡ s.mesh.count = grind arith in λ d l. grind arith
 
 pub mark-requires-clause-apart : goal.mark-requires-clause-apart
 mark-requires-clause-apart c =
@@ -25,18 +23,13 @@ pub mark-requires-clause-free : goal.mark-requires-clause-free
 mark-requires-clause-free c =
     let s : OrientedMesh = c.args.surface.now in
     let names : NamesAll s = names_all s c.faces.ensures.valid in
-    let first : c.in_ok-kinds.kinds.items ≡ replicate (length s.table) Left = search rules in
-    let apart : AreApart (rotations_of s) c.deref-2.result.now = mark-requires-clause-apart c in
-    λ v x some. ap (λ k. same_kind k Tree) (all_left s c.in_ok-kinds.kinds.items ((rotations_of s).edge x) first
-    (names.edge_below x (apart.within v x some)))
+    let apart : AreApart (rotations_of s) c.deref-2.result.now = mark-requires-clause-apart c in λ v x some. grind (arith, all_left)
 
 pub search_over-requires-2-clause-below : goal.search_over-requires-2-clause-below
 search_over-requires-2-clause-below c =
     let s : OrientedMesh = c.args.surface.now in
     let names : NamesAll s = names_all s c.faces.ensures.valid in
-    let count : c.len-faces.result ≡ length s.mesh.faces = c.len-faces.ensures.count
-    ∙ ap (λ (m : FaceList). length m.faces) c.faces.ensures.mesh in
-    λ d l. subst (λ n. (rotations_of s).face d < n) (sym count) (names.face_below d l)
+    let count : c.len-faces.result ≡ length s.mesh.faces = grind arith in λ d l. grind arith
 
 pub mark-requires-2-clause-apart : goal.mark-requires-2-clause-apart
 mark-requires-2-clause-apart c =
@@ -51,25 +44,10 @@ mark-requires-2-clause-apart c =
     subst (AreApart maps) (sym c.deref-4.ensures.value) (kept_apart (rotation_system s c.faces.ensures.valid) rooted)
 
 pub turn_round-requires-clause-tree : goal.turn_round-requires-clause-tree
-turn_round-requires-clause-tree c =
-    let s : OrientedMesh = c.args.surface.now in
-    let maps : Rotations = rotations_of s in
-    let q : List (Option ℕ) = c.in_ok-face_parents.face_parents.items in
-    let rooted : IsRooted maps maps.face (has_kind c.mark.new.kinds.items Left) (length s.mesh.faces) (maps.face 0) q =
-    cotree_rooted c.faces.ensures.valid (search rules)
-    (rw (c.deref.ensures.value, c.count-vertices.ensures.count, c.faces-2.ensures.mesh) at c.in_ok-parents.ensures)
-    (rw c.deref-2.ensures.value at c.mark.ensures)
-    (rw (c.deref-3.ensures.value, c.len-faces.ensures.count, c.faces.ensures.mesh) at c.in_ok-face_parents.ensures) in
-    subst (HasRoot maps) (sym c.deref_mut.ensures.value) (
-      maps.face 0,
-      subst (λ n. IsRooted maps maps.face (λ e. true) n (maps.face 0) q) (sym rooted.long) (allow (λ e. true) rooted (λ v x e. refl)),
-    )
+turn_round-requires-clause-tree c = grind (arith, cotree_rooted, allow)
 
 pub turn_round-requires-clause-each_face : goal.turn_round-requires-clause-each_face
-turn_round-requires-clause-each_face c =
-    let searched = c.in_ok-face_parents.ensures in
-    ap (λ (ds : List (Option ℕ)). length ds) c.deref_mut.ensures.value ∙ searched.is_order.long ∙ c.len-faces.ensures.count
-    ∙ ap (λ (m : FaceList). length m.faces) c.faces.ensures.mesh
+turn_round-requires-clause-each_face c = grind arith
 
 pub faces_below-requires-clause-apart : goal.faces_below-requires-clause-apart
 faces_below-requires-clause-apart c =
@@ -86,12 +64,7 @@ faces_below-requires-clause-apart c =
     let turned = c.in_ok-turn_round.ensures left (maps.face 0)
     (subst (λ ds. IsRooted maps maps.face left (length ds) (maps.face 0) ds) (sym c.deref_mut.ensures.value)
     (subst (λ n. IsRooted maps maps.face left n (maps.face 0) q) (sym rooted.long) rooted)) in
-    let size : length t ≡ c.in_ok-face_parents.face_parents.len = omega (
-      arith,
-      turned.long,
-      ap (λ (ds : List (Option ℕ)). length ds) c.deref_mut.ensures.value,
-      c.in_ok-face_parents.face_parents.ok.0,
-    ) in
+    let size : length t ≡ c.in_ok-face_parents.face_parents.len = grind arith in
     subst (AreApart maps) (sym (c.deref-6.ensures.value ∙ with_items_is c.in_ok-face_parents.face_parents t size)) (kept_apart
     (rotation_system s c.faces.ensures.valid) turned)
 
@@ -117,26 +90,11 @@ returns c =
     λ allowed root f. subst (λ n. IsRooted maps maps.face allowed n (maps.face start) t) long (c.in_ok-turn_round.ensures allowed root
     (subst (λ n. IsRooted maps maps.face allowed n root c.deref_mut.result.now) (sym long)
     (subst (IsRooted maps maps.face allowed (length s.mesh.faces) root) (sym is_q) f))) in
-    let rooted : IsRooted maps maps.face (has_kind k1 Left) (length s.mesh.faces) (maps.face 0) q =
-    cotree_rooted c.faces.ensures.valid first
-    (rw (c.deref.ensures.value, c.count-vertices.ensures.count, c.faces-2.ensures.mesh) at c.in_ok-parents.ensures)
-    (rw c.deref-2.ensures.value at c.mark.ensures) cotree in
+    let rooted : IsRooted maps maps.face (has_kind k1 Left) (length s.mesh.faces) (maps.face 0) q = grind (arith, cotree_rooted) in
     let size : length t ≡ c.in_ok-face_parents.face_parents.len =
     omega (arith, (turned (has_kind k1 Left) (maps.face 0) rooted).long, cotree.is_order.long, c.in_ok-face_parents.face_parents.ok.0) in
     let is_t : c.deref-6.result.now ≡ t = c.deref-6.ensures.value ∙ with_items_is c.in_ok-face_parents.face_parents t size in
-    let made : IsMade s k0 k1 k2 p q t c.in_ok-children.children.items start = record {
-      first = first;
-      tree = rw (c.deref.ensures.value, c.count-vertices.ensures.count, c.faces-2.ensures.mesh) at c.in_ok-parents.ensures;
-      marked = rw c.deref-2.ensures.value at c.mark.ensures;
-      cotree = cotree;
-      crossed = rw c.deref-4.ensures.value at c.mark-2.ensures;
-      start_in = c.leftover_dart-start.ensures.within;
-      start_left = rw c.deref-5.ensures.value at c.leftover_dart-start.ensures.left;
-      turned = turned;
-      each_edge = c.in_ok-children.ensures.each_edge;
-      below = subst (λ ds. AreBelowEdges maps ds (length s.table) (kept_at c.in_ok-children.children.items) (length ds)) is_t
-          c.in_ok-children.ensures.below;
-    } in
+    let made : IsMade s k0 k1 k2 p q t c.in_ok-children.children.items start = grind arith in
     let long_2 : length k2 ≡ length s.table =
     c.mark-2.ensures.long ∙ c.mark.ensures.long ∙ ap (λ (ks : List Kind). length ks) first ∙ length-replicate (length s.table) Left in
     let half : c.leftover_edges-genus.result / 2 ≡ count_below (has_kind k2 Left) (length s.table) / 2 = ap (λ n. n / 2)

@@ -1,13 +1,10 @@
-use Rattle.tree_cotree.proofs.Common.{rotation_system, names_all, OrientedMesh, Rotations, rotations_of, ◌≡◌, ◌<◌, ℕ, List, [], length, ap, sym, ◌∙◌, subst, arith, rules, set, length-set, Option, Some, None, dart_numbers}
+use Rattle.tree_cotree.proofs.Common.{rotation_system, names_all, OrientedMesh, Rotations, rotations_of, ◌≡◌, ◌<◌, ℕ, List, [], length, ap, sym, ◌∙◌, subst, arith, rules, set, common_steps, Option, Some, None, dart_numbers}
 use Rattle.tree_cotree.proofs.SearchLemmas.{numbers_push}
 use Rattle.tree_cotree.proofs.TurningLemmas.{IsPartlyTurned, turning_start, turning_more, turning_done, last_in}
 use Rattle.tree_cotree.proofs.turning.turn_round.Goals as goal
 
 pub loop-dart-init : goal.loop-dart-init
-loop-dart-init c =
-    let tree = c.requires.tree in
-    turning_start ((rotations_of c.args.surface.now).face c.args.start.0)
-    (dart_numbers c.in_ok-way.way.items) tree.1 (c.in_ok-way.ensures tree.0 tree.1)
+loop-dart-init c = grind (arith, turning_start)
 
 pub twin-back-requires : goal.twin-back-requires
 twin-back-requires c =
@@ -23,14 +20,7 @@ face_of-requires-in-Some c =
     (numbers_push c.pop.new.self.items c.loop-dart.way.items c.in-Some.dart c.in-Some.ensures.items)
 
 pub bounds-from-face_of-in-Some : goal.bounds-from-face_of-in-Some
-bounds-from-face_of-in-Some c =
-    omega (
-      arith,
-      c.face_of-in-Some.ensures.within,
-      c.requires.each_face,
-      c.loop-dart.auto.from,
-      length-set c.loop-dart.from c.face_of.result.0 c.some.result,
-    )
+bounds-from-face_of-in-Some c = grind (arith, common_steps)
 
 pub loop-dart-preserved : goal.loop-dart-preserved
 loop-dart-preserved c =
@@ -47,11 +37,7 @@ loop-dart-preserved c =
     (λ e l. subst (λ n. maps.face e < n) (sym long) ((names_all s c.requires.valid).face_below e l)) c.requires.tree.1
     (subst (IsPartlyTurned maps c.args.from.now start from)
     (numbers_push c.pop.new.self.items c.loop-dart.way.items c.in-Some.dart c.in-Some.ensures.items) c.loop-dart.invariant)
-    c.twin-back.ensures.twin in
-    subst (λ v. IsPartlyTurned maps c.args.from.now start (set (set from v c.some.result) c.face_of-in-Some.result.0 c.none.result) way)
-    (sym c.face_of.ensures.face)
-    (subst (λ w. IsPartlyTurned maps c.args.from.now start (set (set from (maps.face x) c.some.result) w c.none.result) way)
-    (sym c.face_of-in-Some.ensures.face) (rw (sym c.some.ensures, sym c.none.ensures) at turned))
+    c.twin-back.ensures.twin in grind arith
 
 pub returns : goal.returns
 returns c =

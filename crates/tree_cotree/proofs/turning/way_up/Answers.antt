@@ -4,14 +4,7 @@ use Rattle.tree_cotree.proofs.TurningLemmas.{face_within, way_more, few_darts, e
 use Rattle.tree_cotree.proofs.turning.way_up.Goals as goal
 
 pub loop-dart-init : goal.loop-dart-init
-loop-dart-init c =
-    let maps : Rotations = rotations_of c.args.surface.now in
-    let start : ℕ = maps.face c.args.start.0 in
-    record {
-      dart = (c.args.start.0, c.requires.start, sym c.face_of-face.ensures.face);
-      way = subst (λ ds. IsWay maps c.args.from.now start (dart_numbers ds) c.face_of-face.result.0) (sym c.new-way.ensures.items)
-          (sym c.face_of-face.ensures.face);
-    }
+loop-dart-init c = grind arith
 
 pub bounds-from-face : goal.bounds-from-face
 bounds-from-face c =
@@ -58,11 +51,7 @@ loop-dart-preserved c =
     let face : c.face_of-face-in-Some.result.0 ≡ maps.face (maps.twin d) =
     c.face_of-face-in-Some.ensures.face ∙ ap maps.face c.twin.ensures.twin in
     record {
-      dart = (
-        maps.twin d,
-        (rotation_system s c.requires.valid).twin_within d (c.requires.tree.1.within c.loop-dart.face.0 d keeps),
-        sym face,
-      );
+      dart = grind (arith, rotation_system);
       way = subst (IsWay maps c.args.from.now start (dart_numbers c.push.new.self.items)) (sym face)
           (subst (λ ds. IsWay maps c.args.from.now start ds (maps.face (maps.twin d)))
           (sym (numbers_push xs c.push.new.self.items c.in-Some.dart c.in_ok-push.ensures.items))
@@ -72,11 +61,7 @@ loop-dart-preserved c =
 pub returns : goal.returns
 returns c =
     let maps : Rotations = rotations_of c.args.surface.now in
-    let within : c.loop-dart.face.0 < length c.args.from.now =
-    face_within c.requires.valid (length c.args.from.now) c.loop-dart.face.0 c.requires.each_face c.loop-dart.invariant.dart in
     let at = c.loop-dart.invariant.dart in
-    let none : kept_at c.args.from.now c.loop-dart.face.0 ≡ None =
-    kept_read c.args.from.now c.loop-dart.face.0 c.index-from-face.result c.dart.result None within c.index-from-face.is c.dart.ensures
-    c.in_default.is in
+    let none : kept_at c.args.from.now c.loop-dart.face.0 ≡ None = grind (arith, kept_read) in
     λ root h. subst (IsWay maps c.args.from.now (maps.face c.args.start.0) (dart_numbers c.loop-dart.way.items)) (sym at.2
     ∙ ends_at_root h at.0 at.1 (ap (kept_at c.args.from.now) at.2 ∙ none)) c.loop-dart.invariant.way

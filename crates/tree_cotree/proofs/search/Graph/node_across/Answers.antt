@@ -1,4 +1,4 @@
-use Rattle.tree_cotree.proofs.Common.{rotation_system, Rotations, rotations_of, ◌≡◌, ℕ, ap, sym, ◌∙◌, subst, node_of, Nodes}
+use Rattle.tree_cotree.proofs.Common.{rotation_system, Rotations, rotations_of, arith, ◌≡◌, ℕ, ap, ◌∙◌}
 use Rattle.tree_cotree.proofs.search.Graph.node_across.Goals as goal
 
 pub returns-in-Vertices : goal.returns-in-Vertices
@@ -7,5 +7,4 @@ returns-in-Vertices c =
     let d : ℕ = c.args.dart.0 in
     let here : c.origin.result.0 ≡ maps.origin (maps.twin d) =
     c.origin.ensures ∙ ap maps.origin c.next.ensures.next
-    ∙ (rotation_system c.args.self.now.surface.now c.requires.valid).follows d c.requires.dart in
-    subst (λ (nodes : Nodes). c.origin.result.0 ≡ node_of nodes maps (maps.twin d)) (sym c.in-Vertices.is) here
+    ∙ (rotation_system c.args.self.now.surface.now c.requires.valid).follows d c.requires.dart in grind arith

@@ -1,4 +1,4 @@
-use Rattle.tree_cotree.proofs.Common.{Some}
+use Rattle.tree_cotree.proofs.Common.{arith, Some}
 use Rattle.tree_cotree.proofs.WaitingLemmas.{taken_near_last, taken_far_last}
 use Rattle.tree_cotree.proofs.waiting.Waiting.take_last.Goals as goal
 
@@ -8,7 +8,4 @@ returns-in-Some-clause-some c =
     c.in-Some.ensures.items
 
 pub returns-in-None-clause-some : goal.returns-in-None-clause-some
-returns-in-None-clause-some c =
-    taken_far_last c.pop_back-in-None.result c.args.self.now.far.items c.args.self.now.near.items c.pop_back.new.self.items
-    c.pop_back-in-None.new.self.items
-    c.in-None.ensures.items c.pop_back-in-None.ensures.items
+returns-in-None-clause-some c = grind (arith, taken_far_last)
