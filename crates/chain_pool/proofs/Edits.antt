@@ -36,11 +36,6 @@ module _ (slots : List (Option Cell)) (x c next v link v' : ℕ) (l r l' r' : St
     new_of (Left k) = l'
     new_of (Right k) = r'
 
-    was : (u : Owner) → IsMine u → stack_of (memory_of slots) free u ≡ old_of u
-    was Free is = refl
-    was (Left k) is = ap (λ (j : ℕ). left_of (under slots j)) is ∙ ap left_of head
-    was (Right k) is = ap (λ (j : ℕ). right_of (under slots j)) is ∙ ap right_of head
-
     now : (u : Owner) → IsMine u → stack_of (memory_of slots') free' u ≡ new_of u
     now Free is = refl
     now (Left k) is = ap (λ (j : ℕ). left_of (under slots' j)) is ∙ ap left_of at_c

@@ -51,23 +51,8 @@ module _ (slots : List (Option Cell)) (x c next v link v' : ℕ) (l r l' r' : St
   pub apart : x ≢ c
   apart e = let same = sym here ∙ ap (under slots) e ∙ head in cc
 
-  pub at_entry : under rewritten x ≡ Some (Entry link v')
-  at_entry = grind (arith, common_steps, within)
-
   pub at_head : under rewritten c ≡ Some (Head l' r')
   at_head = grind (arith, common_steps, within)
-
-  pub elsewhere : (k : ℕ) → k ≢ x → k ≢ c → under rewritten k ≡ under slots k
-  elsewhere k nx nc = grind (arith, common_steps)
-
-  pub entries_stay : (k a b : ℕ) → k ≢ x → under slots k ≡ Some (Entry a b) → under rewritten k ≡ Some (Entry a b)
-  entries_stay k a b nx e = elsewhere k nx (λ same. let both = sym e ∙ ap (under slots) same ∙ head in cc) ∙ e
-
-  pub lefts_stay : (k : ℕ) → k ≢ c → left_of (under rewritten k) ≡ left_of (under slots k)
-  lefts_stay k nc = grind (arith, common_steps, left_of, under)
-
-  pub rights_stay : (k : ℕ) → k ≢ c → right_of (under rewritten k) ≡ right_of (under slots k)
-  rights_stay k nc = grind (arith, common_steps, under)
 
   pub kinds_stay : (k : ℕ) → k ≢ c → (before behind : List ℕ)
       → parted_with (under rewritten k) before behind ≡ parted_with (under slots k) before behind

@@ -20,8 +20,6 @@ pub twice_written : (old mid new : Slab Cell) (x c : ℕ) (cell other : Cell) �
 twice_written old mid new x c cell other first second = grind arith
 
 module _ (slots : List (Option Cell)) (capacity : ℕ) (free : Stack) (spare : ℕ) (sound : IsSound slots capacity free spare) where
-  an_entry : (cell : Option Cell) (next value : ℕ) → cell ≡ Some (Entry next value) → IsEntry cell
-  an_entry cell next value e = subst IsEntry (sym e) tt
 
   top_entry : (s : Owner) → 0 < (stack_of (memory_of slots) free s).len → IsEntry (under slots (stack_of (memory_of slots) free s).top)
   top_entry s some =

@@ -5,11 +5,6 @@ use Rattle.closed_surfaces.specs.declared.component.Component.TheVariants.{Whole
 use Rattle.closed_surfaces.specs.declared.signed_mesh.SignedMesh.{SignedMesh}
 use Rattle.surf_model.specs.Walks.{IsWalk}
 
--- what a call ends with, by what it ends with besides
-pub if_ok : {V E : Type 0} {P Q : V → Type 0} (result : Result V E) → ((x : V) → P x → Q x) → IfOk result P → IfOk result Q
-if_ok (Ok x) more h = more x h
-if_ok (Err e) more h = tt
-
 -- a signed mesh is an orientable closed surface
 pub signed_surface : (signed : SignedMesh) → IsSigned signed → IsOrientableSurface signed.faces
 signed_surface signed is = record { manifold = is.manifold; orientable = (signed.signs, is.coherent) }

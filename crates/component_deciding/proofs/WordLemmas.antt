@@ -8,14 +8,6 @@ use Rattle.component_deciding.proofs.ComponentLemmas.{IsNumbered}
 use Rattle.component_deciding.proofs.OwnSurfaces.{own_homotopic, own_walks, walk_back}
 use Rattle.component_deciding.proofs.SphereLemmas.{homotopic_on_sphere}
 
--- where words decide, the answer is whether they are one
-pub words_answer : (mesh : FaceList) (IsWord : List ℕ → Word → Type 0) (first second : List ℕ) (one other : Word) (answer : Answer)
-    → DoDecide mesh IsWord → AreWalkPair mesh first second → IsWord first one → IsWord second other
-    → ((answer ≡ answers.Homotopic) ↔ (one ≡ other)) → IsFoundOn mesh first second (Some answer)
-words_answer mesh IsWord first second one other answer decide pair here there is =
-    let told : Homotopic mesh first second ↔ (one ≡ other) = decide first second one other pair here there in
-    (pair, ((λ e. told.1 (is.0 e)), (λ leads. is.1 (told.0 leads))))
-
 -- ---- several components
 
 numbered : (apart : Apart) (k : ℕ) → IsApart apart → k < length apart.parts.components

@@ -57,18 +57,3 @@ equal_pairs a b c d not_less not_more =
 
 pub one_pinch : (mesh : FaceList) (v w : ℕ) → IsLeastPinch mesh v → IsLeastPinch mesh w → v ≡ w
 one_pinch mesh v w h k = equal v w (λ less. h.pinched (k.least v less h.used)) (λ more. k.pinched (h.least w more k.used))
-
--- a check that tells a first fault, or that memory is wanting: of what is good it tells none, and of what is at fault it tells no other
-module _ {F : Type 0} (IsGood : Type 0) (IsFirst : F → Type 0) (none : F) (no_fault : (fault : F) → IsGood → IsFirst fault → ⊥) where
-  pub good_accepted : (result : Result (Unit {0}) F) → IfErr result (λ fault. (fault ≡ none) ⊎ IsFirst fault) → IsGood
-      → IfErr result (λ fault. fault ≡ none)
-  good_accepted (Ok u) h good = h
-  good_accepted (Err fault) (inl e) good = e
-  good_accepted (Err fault) (inr first) good = absurd (no_fault fault good first)
-
-  pub first_refused : ((fault other : F) → IsFirst fault → IsFirst other → fault ≡ other) → (result : Result (Unit {0}) F)
-      → OnOk result IsGood → IfErr result (λ fault. (fault ≡ none) ⊎ IsFirst fault)
-      → (fault : F) → IsFirst fault → (result ≡ Err fault) ⊎ (result ≡ Err none)
-  first_refused one (Ok u) good h fault first = absurd (no_fault fault good first)
-  first_refused one (Err found) good (inl e) fault first = inr (ap Err e)
-  first_refused one (Err found) good (inr h) fault first = inl (ap Err (one found fault h first))

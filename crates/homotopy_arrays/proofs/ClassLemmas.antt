@@ -81,10 +81,3 @@ none_cut mesh sizes vertices walks place cut none =
     }
 
 -- ---- on a mesh that is kept
-
-pub classed : (mesh : FaceList) (sizes vertices : List ℕ) (end : Result (Vec ℕ) NoClasses) → IsCompactSurface mesh
-    → sum sizes ≡ length vertices
-    → MatchResult end (λ given. AreClassesIn mesh sizes vertices given.items) (IsNoClassesIn mesh sizes vertices)
-    → MatchResult end (λ given. AreClassed mesh sizes vertices given.items) (IsNoClassesIn mesh sizes vertices)
-classed mesh sizes vertices (Ok given) surface all are = record { surface = surface; sizes = all; classes = are }
-classed mesh sizes vertices (Err fault) surface all none = none

@@ -124,9 +124,6 @@ module _ (places : List ℕ) (full : IsFullWheel places) (a b q : List ℕ) (a_l
     abbrev starts_as : ℕ → List ℕ
     starts_as = word_of places full a a_loop a_some a_canonical
 
-    one_in : 1 ≤ l
-    one_in = let long = s.long in omega arith
-
     -- the word behind many rounds ends in one round of the other list, behind the settled word
     right-end : (j : ℕ) → EndsIn (reverse (gone places b s0 (times (length b) (s.rounds + suc j))).word) (upto row_b from (length b) s.word)
     right-end j =

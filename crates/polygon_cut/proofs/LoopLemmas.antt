@@ -46,9 +46,6 @@ homotopy mesh = record {
   spur = λ u w. (Remove 0 (record { 0 = w }) ∷ [], rw (spur_out mesh u w) refl);
 }
 
-pub leads_to : (mesh : FaceList) (walk : List ℕ) → Homotopic mesh walk walk
-leads_to mesh walk = (homotopy mesh).itself walk
-
 -- The loops at a root, up to homotopy.
 abbrev pub SameLoop : {mesh : FaceList} {root : ℕ} → Loop mesh root → Loop mesh root → Type 0
 SameLoop {mesh} {root} a b = Homotopic mesh (root ∷ a.rest) (root ∷ b.rest)

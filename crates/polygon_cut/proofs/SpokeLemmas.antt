@@ -14,16 +14,6 @@ abbrev pub group_of : (s : OrientedMesh) (split : SplitView) (t : IsSplit s spli
     → IsGroup {X = Loops s split t} SameLoop loop_mul loop_inv (one_of s split t)
 group_of s split t = loops_make_a_group s.mesh t.parents.root t.parents.root_used
 
--- the value of a dart is its loop
-pub value_is : {s : OrientedMesh} {split : SplitView} (o : IsOrientedSurface s) (t : IsSplit s split) (d : ℕ) → d < darts_of s
-    → (way : IsWay s.mesh (origin_of s d) (origin_of s (twin_of s d)) (origin_of s (twin_of s d) ∷ []))
-    → SameLoop (value s split o t d)
-    (loop_of s.mesh t.parents.root (up s split t) (tree_ways s split o t) (origin_of s d) (origin_of s (twin_of s d))
-    (origin_of s (twin_of s d) ∷ []) way)
-value_is {s} {split} o t d l way =
-    value_along (homotopy s.mesh) split o t (origin_of s d) (origin_of s (twin_of s d)) d
-    (record { within = l; starts = refl; ends = refl }) way
-
 -- twins have inverse values
 pub value_twin : (s : OrientedMesh) (split : SplitView) (o : IsOrientedSurface s) (t : IsSplit s split) (d : ℕ) → d < darts_of s
     → SameLoop (value s split o t (twin_of s d)) (loop_inv (value s split o t d))

@@ -79,9 +79,6 @@ all_faces s polygon k is =
 abbrev one_face : Bool → List ℕ → FaceLabels
 one_face flipped labels = record { flipped = flipped; labels = labels }
 
-abbrev labelling_of : ℕ → List FaceLabels → List ℕ → LabellingView
-labelling_of degree faces places = record { degree = degree; faces = faces; places = places }
-
 -- the labels before the end of all faces are all labels
 whole : (s : OrientedMesh) (k : ℕ) (labels : List ℕ) → k ≡ length s.mesh.faces → length labels ≡ darts_of s
     → take (first_side s.mesh k) labels ≡ labels

@@ -26,12 +26,6 @@ module _ (old new : Chains) (name taken place moved : ℕ) (is : IsMoved old new
   abbrev list : List ℕ
   list = list_under old.lists name
 
-  -- where the entry at the place goes, the other chain stays
-  pub taken_stays : (read mid : Chains) → read ≡ new
-      → IsEdit read.lists mid.lists name (Some (cut (list_under read.lists name) place (place + 1)))
-      → moved ≤ length list - place → moved ≤ length (list_under mid.lists taken)
-  taken_stays read mid same edit le = grind (arith, common_steps, under, list_under-is)
-
   pub moved_more : (read mid after : Chains) (value : ℕ) → read ≡ new → place ≤ length list → moved < length list - place
       → value ≡ get_or (list_under new.lists name) place 0
       → IsEdit read.lists mid.lists name (Some (cut (list_under read.lists name) place (place + 1)))

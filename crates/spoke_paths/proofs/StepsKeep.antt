@@ -185,14 +185,6 @@ module _ {State : Type 0} (Belongs : List ℕ → State → Type 0) (IsAtVertex 
   Stands true s = AtVertex s
   Stands false s = InMiddle s
 
-  stands-next : (b : Bool) (s : State) (i : ℕ) → Stands b s → i < length places → Stands (not b) (next places s i)
-  stands-next true s i h below = record { before = s; spoke = i; below = below; at = h; is = refl }
-  stands-next false s i h below = grind arith
-
-  belongs-of : (b : Bool) (s : State) → Stands b s → Belongs places s
-  belongs-of true s h = h.belongs
-  belongs-of false s h = rw h.is (stays.belongs places h.before h.spoke h.at.belongs h.below)
-
   -- lists that lead each state alike
   abbrev pub LeadAlike : Bool → List ℕ → List ℕ → Type 0
   LeadAlike b p q = (s : State) → Stands b s → led next places s p ≡ led next places s q

@@ -79,10 +79,6 @@ module _ (places : List ℕ) (spoke_at partner : ℕ → ℕ) (q : IsQuadWheel (
   value_of_spoke true x l = q.place_of_spoke x l
   value_of_spoke false x l = refl
 
-  spoke_of_value : (v : Bool) (i : ℕ) → i < length places → spoke_round spoke_at v (place_round places v i) ≡ i
-  spoke_of_value true i l = q.spoke_of_place i l
-  spoke_of_value false i l = refl
-
   abbrev path : Bool → ℕ → List ℕ → List ℕ
   path v m word = path_of places spoke_at v m word
 

@@ -52,10 +52,6 @@ exchange_of f a b x ne = grind (arith, at_first, at_second, elsewhere)
 exchanged_within : {n : ℕ} {f : ℕ → ℕ} (a b : ℕ) → IsPermutationBelow n f → a < n → b < n → a ≢ b → (x : ℕ) → x < n → exchanged f a b x < n
 exchanged_within {n} {f} a b p a_in b_in ne x l = grind (arith, exchange_of)
 
--- where the value of the exchanged map comes from under the map itself
-partner : ℕ → ℕ → ℕ → ℕ
-partner a b x = cond (eqb x a) b (cond (eqb x b) a x)
-
 -- the map exchanged twice is the map
 pub exchanged_twice : (f : ℕ → ℕ) (a b : ℕ) → a ≢ b → (x : ℕ) → exchanged (exchanged f a b) a b x ≡ f x
 exchanged_twice f a b ne x = grind (arith, exchange_of, at_second, at_first, elsewhere)

@@ -20,8 +20,3 @@ module _ {State : Type 0} (next : List ℕ → State → ℕ → State) (places 
     notes.3,
     notes-append Notes (next places s spoke) first second notes.1 b notes.4 more,
   )
-
-  -- what one spoke notes
-  pub notes-one : (Notes : List ℕ → State → ℕ → List Step → Type 0) (s : State) (spoke : ℕ) (steps : List Step) →
-      Notes places s spoke steps → NotesAlong next Notes places s (spoke ∷ []) steps
-  notes-one Notes s spoke steps notes = (steps, [], sym (append-nil steps), notes, refl)

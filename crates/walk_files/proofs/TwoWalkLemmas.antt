@@ -67,13 +67,6 @@ module _ {F : Type 0} (not_two : ℕ → F) (of_entry : EntryFault → F) (of_bo
   two_fault-both mesh walks a b two is =
       ap (λ o. option_or (option_map of_entry o) (of_both a b)) (is ∙ ap (walks_fault mesh) two) ∙ ap (fault_of mesh) (sym two)
 
-  -- where nothing is wrong, there are two
-  pub two_fault-two : (mesh : FaceList) (walks : List (List ℕ)) → fault_of mesh walks ≡ None → length walks ≡ 2
-  two_fault-two mesh [] e = cc
-  two_fault-two mesh (a ∷ []) e = cc
-  two_fault-two mesh (a ∷ b ∷ []) e = refl
-  two_fault-two mesh (a ∷ b ∷ c ∷ rest) e = cc
-
   -- and lists that have entries are such a pair then, if any two of them with which nothing is wrong are one
   pub two_of_none : (mesh : FaceList) (walks : List (List ℕ)) (ArePair : List (List ℕ) → Type 0) → All (λ walk. 0 < length walk) walks
       → ((first second : List ℕ) → 0 < length first → 0 < length second → fault_of mesh (first ∷ second ∷ []) ≡ None
