@@ -20,7 +20,6 @@ pub twice_written : (old mid new : Slab Cell) (x c : ℕ) (cell other : Cell) �
 twice_written old mid new x c cell other first second = grind arith
 
 module _ (slots : List (Option Cell)) (capacity : ℕ) (free : Stack) (spare : ℕ) (sound : IsSound slots capacity free spare) where
-
   top_entry : (s : Owner) → 0 < (stack_of (memory_of slots) free s).len → IsEntry (under slots (stack_of (memory_of slots) free s).top)
   top_entry s some =
       let top = IsOwned-top (memory_of slots) sound.owners s _ _ some (sound.stacks s) in grind arith

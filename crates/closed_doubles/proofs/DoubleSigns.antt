@@ -162,7 +162,6 @@ abbrev Runs : FaceList → List Bool → Side → ℕ → ℕ → Type 0
 Runs mesh signs side start end = (start_there mesh signs side ≡ start) × (end_there mesh signs side ≡ end)
 
 module _ (mesh : FaceList) (signs : List Bool) (size : length signs ≡ length mesh.faces) where
-
   sign_quad : (k : ℕ) → k < length (rims mesh)
       → is_flipped (double_signs mesh signs) (length mesh.faces + length mesh.faces + k) ≡ quad_sign mesh signs k
   sign_quad k l =
