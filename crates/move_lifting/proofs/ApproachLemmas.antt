@@ -1,5 +1,5 @@
 -- The loops of spokes, as walks without spurs.
-use Rattle.move_lifting.proofs.Common.{names_all, darts_of, origin_of, OrientedMesh, IsOrientedSurface, IsCutSurface, IsSpokeWalk, AreSpokeWalks, HasWalk, last_of, before, behind, home_and_there, there_and_home, value, spoke, root_is, up_is, loop_list, side_in, spoke_list, path_list, backward_is, free_equality, way_end, spoke_product, up, up_path, tree_ways, walk_way, other_way, IsWay, HasWays, loop_mul, loop_inv, loop_one, back, back_back, back-append, way_home, way_on, way_walk, PolygonView, side_at, AreWaysUp, backward, by_loop, dart_loop, last_side, spoke_loop, path_loop, ◌≡◌, ◌⊎◌, inl, inr, ℕ, suc, ◌+◌, ◌-◌, ◌<◌, Bool, true, false, List, [], ◌∷◌, ◌++◌, length, drop, get_or, refl, ap, sym, ◌∙◌, subst, arith, append_assoc, length-append, cases_lt, both_ways, drop_more, get_or_append_left, get_or-append-add, get_or_past, IsTrue, Some, if◌then◌else◌, list_keeps_walk, list_keeps_ends, FaceList, is_used, AreFreelyEqual, HasNoSpur, apply_all, IsWalk, Move, SplitView, IsSplit}
+use Rattle.move_lifting.proofs.Common.{names_all, darts_of, origin_of, OrientedMesh, IsOrientedSurface, IsCutSurface, IsSpokeWalk, AreSpokeWalks, HasWalk, last_of, before, behind, home_and_there, there_and_home, value, spoke, root_is, up_is, loop_list, side_in, spoke_list, path_list, backward_is, free_equality, way_end, spoke_product, up, up_path, tree_ways, walk_way, other_way, IsWay, HasWays, loop_mul, loop_inv, loop_one, back, back_back, back-append, way_home, way_on, way_walk, PolygonView, side_at, AreWaysUp, backward, by_loop, dart_loop, last_side, spoke_loop, path_loop, ◌≡◌, ◌⊎◌, inl, inr, ℕ, suc, ◌+◌, ◌-◌, ◌<◌, Bool, true, false, List, [], ◌∷◌, ◌++◌, length, get_or, refl, ap, sym, ◌∙◌, subst, arith, append_assoc, length-append, cases_lt, both_ways, common_steps, get_or_append_left, get_or-append-add, get_or_past, IsTrue, Some, if◌then◌else◌, list_keeps_walk, list_keeps_ends, FaceList, is_used, AreFreelyEqual, HasNoSpur, apply_all, IsWalk, Move, SplitView, IsSplit}
 use Rattle.move_lifting.proofs.BackLemmas.{way_of}
 use Rattle.move_lifting.proofs.ListLemmas.{one_no_spur}
 use Rattle.move_lifting.proofs.TreeUpLemmas.{own_ways}
@@ -49,10 +49,7 @@ home_way mesh root loop h = subst (IsWay mesh root root) (sym (backward_is root 
 -- up the tree from a vertex, a loop, and down the tree to it again
 pub closed_way : (mesh : FaceList) (root : ℕ) (ways : ℕ → List ℕ) → HasWays mesh root ways → (y : ℕ) → IsTrue (is_used mesh y)
     → (loop : List ℕ) → IsWay mesh root root loop → IsWay mesh y y (ways y ++ (loop ++ backward y (ways y)))
-closed_way mesh root ways w y used loop h =
-    subst (λ (k : List ℕ). IsWay mesh y y (ways y ++ (loop ++ k))) (sym (backward_is y (ways y)))
-    (way_on mesh y root y (ways y) (loop ++ back y (ways y)) (w.way y used)
-    (way_on mesh root root y loop (back y (ways y)) h (way_home mesh y root (ways y) (w.way y used))))
+closed_way mesh root ways w y used loop h = grind (arith, backward_is, way_on, back, way_home)
 
 -- at the root, down the tree to a vertex and up again may be put in
 pub down_and_up : (mesh : FaceList) (root : ℕ) (ways : ℕ → List ℕ) → HasWays mesh root ways → (y : ℕ) → IsTrue (is_used mesh y)
@@ -127,12 +124,7 @@ pub record AreMade (s : OrientedMesh) (split : SplitView) (polygon : PolygonView
 
 pub none_made : (s : OrientedMesh) (split : SplitView) (polygon : PolygonView) (named : List Bool) (walks : List (List ℕ)) (walk : List ℕ)
     → walks ≡ [] → IsSpokeWalk s split polygon 0 walk → AreMade s split polygon named 0 walks walk
-none_made s split polygon named walks walk is own = record {
-  count = ap (λ (l : List (List ℕ)). length l) is;
-  each = λ i has. absurd (let none : 0 < 0 = subst (λ (l : List (List ℕ)). HasWalk l i) is has in omega arith);
-  made = λ i l marked. absurd (omega arith);
-  own = own;
-}
+none_made s split polygon named walks walk is own = grind arith
 
 -- one walk more, or none in its place
 pub one_made : (s : OrientedMesh) (split : SplitView) (polygon : PolygonView) (named : List Bool) (n : ℕ) (walks more : List (List ℕ))
@@ -198,12 +190,7 @@ which_kept false walk = inr (refl, refl)
 
 -- a spoke that has a walk is one of those that there are
 pub walk_within : (walks : List (List ℕ)) (i : ℕ) → HasWalk walks i → i < length walks
-walk_within walks i has = elim (cases_lt i (length walks)) [
-  | inl below ↦ below
-  | inr above ↦
-      let none : 0 < 0 = subst (λ (l : List ℕ). 0 < length l) (get_or_past walks i [] (omega (arith, above))) has in
-      absurd (omega arith)
-]
+walk_within walks i has = grind (arith, common_steps)
 
 -- where a way ends
 pub goes_end : {mesh : FaceList} {u v : ℕ} {walk : List ℕ} → GoesFrom mesh u v walk → last_of walk ≡ v
@@ -222,14 +209,7 @@ goes_walk {mesh} {u} {v} g = subst (IsWalk mesh) (sym g.walk_is) (way_walk mesh 
 
 -- a walk, from its first entry to its last
 pub walk_goes : (mesh : FaceList) (walk : List ℕ) → IsWalk mesh walk → GoesFrom mesh (get_or walk 0 0) (last_of walk) walk
-walk_goes mesh walk w =
-    let whole : walk ≡ get_or walk 0 0 ∷ drop 1 walk = drop_more walk 0 0 w.starts in
-    record {
-      rest = drop 1 walk;
-      walk_is = whole;
-      way = subst (λ (x : ℕ). IsWay mesh (get_or walk 0 0) x (drop 1 walk)) (ap last_of (sym whole))
-          (way_of mesh (get_or walk 0 0) (drop 1 walk) (subst (IsWalk mesh) whole w));
-    }
+walk_goes mesh walk w = grind (arith, common_steps, way_of)
 
 -- where moves lead from a single vertex
 pub turn_goes_home : (mesh : FaceList) (y : ℕ) (walk : List ℕ) (moves : List Move) → IsTrue (is_used mesh y)

@@ -1,25 +1,17 @@
 -- Ways back as lists.
-use Rattle.move_lifting.proofs.Common.{last_entry, last_of, walk_way, IsWay, back, start_used, backward, ◌≡◌, inl, inr, ℕ, suc, ◌+◌, ◌-◌, ◌<◌, ◌≤◌, List, [], ◌∷◌, ◌++◌, length, take, drop, get_or, refl, ap, sym, ◌∙◌, subst, arith, append_assoc, length-append, cases_lt, append-nil, get_or_append_left, get_or-append-add, get_or-drop, get_or-take, take_more, take-take, take-append-drop, drop_more, drop-drop, drop-map, drop-append-le, length-drop, length-take-le, FaceList, numbers, IsWalk, VertexName}
+use Rattle.move_lifting.proofs.Common.{last_entry, last_of, walk_way, IsWay, back, start_used, backward, ◌≡◌, inl, inr, ℕ, suc, ◌+◌, ◌-◌, ◌<◌, ◌≤◌, List, [], ◌∷◌, ◌++◌, length, take, drop, get_or, refl, ap, sym, ◌∙◌, subst, arith, append_assoc, length-append, cases_lt, common_steps, append-nil, get_or_append_left, get_or-append-add, get_or-drop, get_or-take, take_more, take-take, take-append-drop, drop_more, drop-drop, drop-map, drop-append-le, length-drop, length-take-le, FaceList, numbers, IsWalk, VertexName}
 use Rattle.move_lifting.proofs.ExpandLemmas.{one_pending, length-numbers}
 
 last-more : (u w : ℕ) (xs : List ℕ) → last_of (u ∷ w ∷ xs) ≡ last_of (w ∷ xs)
-last-more u w xs =
-    let at : length (u ∷ w ∷ xs) - 1 ≡ suc (length (w ∷ xs) - 1) = omega arith in
-    ap (λ (n : ℕ). get_or (u ∷ w ∷ xs) n 0) at
+last-more u w xs = grind arith
 
 -- the last entry of a list that stands behind another
 pub last_behind : (front rest : List ℕ) → 0 < length rest → last_of (front ++ rest) ≡ last_of rest
-last_behind front rest some =
-    let at : length (front ++ rest) - 1 ≡ length front + (length rest - 1) = omega (arith, length-append front rest) in
-    ap (λ (n : ℕ). get_or (front ++ rest) n 0) at ∙ get_or-append-add front rest (length rest - 1) 0
+last_behind front rest some = grind (arith, common_steps)
 
 -- the same of a list that goes on from the last entry of the other
 pub last_joined : (front rest : List ℕ) → 0 < length front → last_of (last_of front ∷ rest) ≡ last_of (front ++ rest)
-last_joined front rest some =
-    let before : List ℕ = take (length front - 1) front in
-    let whole : front ++ rest ≡ before ++ (last_of front ∷ rest) =
-    ap (λ (l : List ℕ). l ++ rest) (last_entry front some) ∙ append_assoc before (last_of front ∷ []) rest in
-    sym (ap last_of whole ∙ last_behind before (last_of front ∷ rest) (omega arith))
+last_joined front rest some = grind (arith, common_steps, last_entry, last_behind)
 
 -- the way back along one step more
 pub backward-push : (u v : ℕ) (xs : List ℕ) → backward u (xs ++ v ∷ []) ≡ last_of (u ∷ xs) ∷ backward u xs
@@ -88,9 +80,7 @@ way_apart mesh u v (w ∷ rest) more h =
 
 -- a walk as a way
 pub way_of : (mesh : FaceList) (u : ℕ) (rest : List ℕ) → IsWalk mesh (u ∷ rest) → IsWay mesh u (last_of (u ∷ rest)) rest
-way_of mesh u rest w =
-    let at : length rest ≡ length (u ∷ rest) - 1 = omega arith in
-    subst (λ (x : ℕ). IsWay mesh u x rest) (ap (λ (n : ℕ). get_or (u ∷ rest) n 0) at) (walk_way mesh u rest w)
+way_of mesh u rest w = grind (arith, common_steps, walk_way)
 
 -- one name more
 pub one_longer : (xs ys : List VertexName) (v : VertexName) → xs ≡ ys ++ v ∷ [] → length xs ≡ length ys + 1

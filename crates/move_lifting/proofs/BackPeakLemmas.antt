@@ -1,6 +1,6 @@
 -- The way back along an approach and on along a walk that begins alike: where both have no spur it has none either, once what they have in
 -- common is left out.
-use Rattle.move_lifting.proofs.Common.{last_entry, last_of, RisesWithTurn, before, behind, home_and_there, backward_is, free_equality, IsWay, way_home, backward, ◌≡◌, ◌≢◌, inl, inr, ℕ, zero, suc, ◌+◌, ◌-◌, ◌<◌, ◌≤◌, max, List, [], ◌∷◌, ◌++◌, length, take, drop, get_or, ap, sym, ◌∙◌, subst, arith, append_assoc, length-append, cases_lt, get_or_append_left, get_or-append-add, take-append-drop, drop_more, length-take-le, length-drop, get_or-take, FaceList, AreFreelyEqual, HasNoSpur, IsWalk, darts}
+use Rattle.move_lifting.proofs.Common.{last_entry, last_of, RisesWithTurn, before, behind, home_and_there, backward_is, free_equality, IsWay, way_home, backward, ◌≡◌, ◌≢◌, inl, inr, ℕ, zero, suc, ◌+◌, ◌-◌, ◌<◌, ◌≤◌, max, List, [], ◌∷◌, ◌++◌, length, take, drop, get_or, ap, sym, ◌∙◌, subst, arith, append_assoc, length-append, cases_lt, common_steps, get_or_append_left, get_or-append-add, take-append-drop, drop_more, length-take-le, length-drop, get_or-take, FaceList, AreFreelyEqual, HasNoSpur, IsWalk, darts}
 use Rattle.move_lifting.proofs.BackLemmas.{backward_at, length-backward, last_joined, backward-append, way_apart, way_of}
 use Rattle.move_lifting.proofs.TurnLemmas.{BeginAlike, turned_whole, length-turned_whole}
 
@@ -17,9 +17,7 @@ no_spur_back front rest h k l same =
 back_entry : (b : ℕ) (d : List ℕ) (k : ℕ) → k ≤ length d
     → get_or (last_of (b ∷ d) ∷ backward b d) k 0 ≡ get_or (b ∷ d) (length d - k) 0
 back_entry b d zero l = ap (λ (n : ℕ). get_or (b ∷ d) n 0) (let at : length (b ∷ d) - 1 ≡ length d - 0 = omega arith in at)
-back_entry b d (suc k) l =
-    backward_at b d k (omega arith)
-    ∙ ap (λ (n : ℕ). get_or (b ∷ d) n 0) (let at : length d - 1 - k ≡ length d - suc k = omega arith in at)
+back_entry b d (suc k) l = grind (arith, backward_at)
 
 -- back along one walk from b, and on along another one from there
 no_spur_round : (b : ℕ) (d e : List ℕ) → HasNoSpur (b ∷ d) → HasNoSpur (b ∷ e) → (0 < length d → 0 < length e → get_or d 0 0 ≢ get_or e 0 0)
@@ -78,26 +76,12 @@ back_and_on approach walk n = last_of approach ∷ (backward (last_of (take n ap
 pub back-long : {approach walk : List ℕ} {n : ℕ} → BeginAlike approach walk n
     → length (back_and_on approach walk n) ≡ 1 + (length approach - n) + (length walk - n)
 unfolding back_and_on
-back-long {approach} {walk} {n} a =
-    let home : List ℕ = backward (last_of (take n approach)) (drop n approach) in
-    omega (
-      arith,
-      length-append home (drop n walk),
-      length-backward (last_of (take n approach)) (drop n approach),
-      length-drop n approach,
-      length-drop n walk,
-    )
+back-long {approach} {walk} {n} a = grind (arith, common_steps, length-backward)
 
 -- the first n entries, up to the last of them
 parts : (approach : List ℕ) (n : ℕ) → 0 < n → n ≤ length approach → (rest : List ℕ)
     → take n approach ++ rest ≡ take (n - 1) (take n approach) ++ (last_of (take n approach) ∷ rest)
-parts approach n some le rest =
-    let laid : List ℕ = take n approach in
-    let long : length laid ≡ n = length-take-le n approach le in
-    let at : length laid - 1 ≡ n - 1 = omega (arith, long) in
-    ap (λ (l : List ℕ). l ++ rest) (last_entry laid (omega (arith, long, some)))
-    ∙ append_assoc (take (length laid - 1) laid) (last_of laid ∷ []) rest
-    ∙ ap (λ (m : ℕ). take m laid ++ (last_of laid ∷ rest)) at
+parts approach n some le rest = grind (arith, common_steps, last_entry)
 
 pub back_no_spur : {approach walk : List ℕ} {n : ℕ} → BeginAlike approach walk n → HasNoSpur approach → HasNoSpur walk
     → (n < length approach → n < length walk → get_or approach n 0 ≢ get_or walk n 0) → HasNoSpur (back_and_on approach walk n)

@@ -1,5 +1,5 @@
 -- How long a walk gets on the way off the cotree, and how great the peak, in numbers of darts.
-use Rattle.move_lifting.proofs.Common.{dart_between, darts_of, OrientedMesh, IsOrientedSurface, load_of, AreWeights, IsLedOn, MOST_LIFTED_SIDES, MOST_LIFTED_DARTS, MOST_LOW_PEAK, MOST_SHORT_MOVES, ◌≡◌, ℕ, ◌+◌, ◌*◌, ◌-◌, ◌<◌, ◌≤◌, max, List, [], ◌∷◌, length, sym, ap, subst, arith, mul-le-mul_left, mul-le-mul_right, get_or-le-sum_by, PeakedMoves, IsWalk, darts, SplitView, IsSplit}
+use Rattle.move_lifting.proofs.Common.{dart_between, darts_of, OrientedMesh, IsOrientedSurface, load_of, AreWeights, IsLedOn, MOST_LIFTED_SIDES, MOST_LIFTED_DARTS, MOST_LOW_PEAK, MOST_SHORT_MOVES, ◌≡◌, ℕ, ◌+◌, ◌*◌, ◌-◌, ◌<◌, ◌≤◌, max, List, [], ◌∷◌, length, sym, ap, subst, arith, mul-le-mul_left, mul-le-mul_right, common_steps, PeakedMoves, IsWalk, darts, SplitView, IsSplit}
 use Rattle.std.proofs.lemmas.Nat.{mul-le}
 use Rattle.move_lifting.proofs.ExpandLemmas.{IsRest, rest_of_step, below_falls}
 use Rattle.move_lifting.proofs.RestLemmas.{pair_weight, pair_positive, pair_most}
@@ -38,12 +38,7 @@ pub short_within : {s : OrientedMesh} {split : SplitView} {behind : ℕ} {walk n
     → load_of (pair_weight s split t) walk ≤ most → IsLedOn s split behind walk list next more → IsShort most behind next list more
 short_within {s} {split} {next = next} o t most light led =
     let weight : ℕ → ℕ → ℕ = pair_weight s split t in
-    let told = led.within weight (are_weights s split o t) in
-    record {
-      long = omega (arith, light, told.0, darts_weigh weight (pair_positive s split t) next);
-      peak = omega (arith, light, told.1);
-      moves = omega (arith, light, told.2);
-    }
+    let told = led.within weight (are_weights s split o t) in grind (arith, darts_weigh, pair_positive)
 
 pub short_walk : {s : OrientedMesh} {split : SplitView} {behind : ℕ} {walk next : List ℕ} {list more : PeakedMoves}
     → IsOrientedSurface s → IsSplit s split → IsWalk s.mesh walk → IsLedOn s split behind walk list next more
@@ -52,12 +47,7 @@ short_walk {s} {split} {walk = walk} o t w led = short_within o t (darts walk * 
 
 -- a surface has a face, and so three darts
 pub three_darts : (s : OrientedMesh) → IsOrientedSurface s → 3 ≤ darts_of s
-three_darts s o =
-    omega (
-      arith,
-      (o.faces.faces 0 [] o.closed.some_face).polygon,
-      get_or-le-sum_by (λ (l : List ℕ). length l) s.mesh.faces 0 [] o.closed.some_face,
-    )
+three_darts s o = grind (arith, common_steps)
 
 -- a peak of so many darts for each dart of two walks, and the darts of the walks, is low
 pub is_low : (sides darts few peak : ℕ) → 3 ≤ sides → few ≤ darts → peak ≤ max (2 * darts) (few * sides + darts)
@@ -84,8 +74,7 @@ is_few sides darts second few begun moves some part less start more =
 -- within the limits it is no greater than this
 pub low_most : (sides darts peak : ℕ) → sides ≤ MOST_LIFTED_SIDES → darts ≤ MOST_LIFTED_DARTS → 2 * peak ≤ (3 * darts + 7) * sides
     → peak ≤ MOST_LOW_PEAK
-low_most sides darts peak few less low =
-    omega (arith, low, mul-le (3 * darts + 7) sides 1543 MOST_LIFTED_SIDES (omega (arith, less)) few)
+low_most sides darts peak few less low = grind arith
 
 -- within the limits a short list has no more moves than these
 pub few_most : (sides darts moves : ℕ) → sides ≤ MOST_LIFTED_SIDES → darts ≤ MOST_LIFTED_DARTS → moves ≤ darts * (sides + 1)

@@ -1,5 +1,5 @@
 -- A walk as the list of a chain that is alone in its pool.
-use Rattle.move_lifting.proofs.Common.{Chains, under, IsUnder, IsEdit, IsAlike, list_of, cells_of, cells_in, inserted, cut, spliced, IsAlone, IsPushed, ◌≡◌, ◌≢◌, inl, inr, refl, ℕ, zero, suc, ◌+◌, ◌<◌, ◌≤◌, ◌^◌, max, List, [], ◌∷◌, ◌++◌, length, take, drop, set, is_some, ap, sym, ◌∙◌, subst, arith, append_assoc, length-append, Option, cases_eq, length-take-le, length-drop, get_or-set_other, Result, Ok, Err, OnOk, OnErr, true≢false}
+use Rattle.move_lifting.proofs.Common.{Chains, under, IsUnder, IsEdit, IsAlike, list_of, cells_of, cells_in, inserted, cut, spliced, IsAlone, IsPushed, ◌≡◌, ◌≢◌, inl, inr, refl, ℕ, zero, suc, ◌+◌, ◌<◌, ◌≤◌, ◌^◌, max, List, [], ◌∷◌, ◌++◌, length, set, is_some, ap, sym, ◌∙◌, arith, length-append, Option, cases_eq, common_steps, get_or-set_other, Result, Ok, Err, OnOk, OnErr}
 use Rattle.chain_pool.proofs.Lists.{list_under-is, list_is, edit_twice}
 use Rattle.chain_pool.proofs.Lookups.{cells_in-edit, cells_in-alike}
 use Rattle.chain_pool.specs.declared.cells.CellName.{CellName}
@@ -27,31 +27,11 @@ alone_on old new chain list was_alone edit some spare =
 -- more cells are spare
 pub alone_alike : (old new : Chains) (chain : CellName) → IsAlone old chain → IsAlike old.lists new.lists
     → length (list_of old chain.0) + 1 + new.spare < 2 ^ 32 → (list_of new chain.0 ≡ list_of old chain.0) × IsAlone new chain
-alone_alike old new chain was_alone alike fits =
-    let was : under old.lists chain.0 ≡ Some (list_of old chain.0) = list_is old.lists chain.0 was_alone.live in
-    let here : under new.lists chain.0 ≡ Some (list_of old chain.0) = alike chain.0 ∙ was in
-    let now : list_of new chain.0 ≡ list_of old chain.0 = list_under-is new.lists chain.0 (list_of old chain.0) here in
-    let long : length (list_of new chain.0) ≡ length (list_of old chain.0) = ap (λ (l : List ℕ). length l) now in (
-      now,
-      record {
-        live = live_from new.lists chain.0 (list_of old chain.0) here;
-        starts = omega (arith, long, was_alone.starts);
-        cells = omega (arith, long, was_alone.cells, cells_in-alike old.lists new.lists alike);
-        fits = omega (arith, long, fits);
-      },
-    )
+alone_alike old new chain was_alone alike fits = grind (arith, under, list_is, list_under-is, live_from, cells_in-alike)
 
 -- how long a list is without the entries between two places, and with one more
 pub length-cut : (list : List ℕ) (from to : ℕ) → from ≤ to → to ≤ length list → length (cut list from to) + to ≡ length list + from
-length-cut list from to order within =
-    omega (
-      arith,
-      order,
-      within,
-      length-append (take from list) (drop to list),
-      length-take-le from list (omega (arith, order, within)),
-      length-drop to list,
-    )
+length-cut list from to order within = grind (arith, common_steps)
 
 -- a chain with its first entry, in a pool that had none
 pub alone_first : (empty reserved started pushed : Chains) (chain : CellName) (value more : ℕ) → empty.lists ≡ []
@@ -85,17 +65,7 @@ reserved_fits (Err y) entries more spare new given refused room fits = omega (ar
 -- some entries, and then others
 pub pushed_both : {old mid new : Chains} {chain : CellName} {first second : List ℕ} → IsPushed old mid chain first
     → IsPushed mid new chain second → IsPushed old new chain (first ++ second)
-pushed_both {old} {mid} {new} {chain} {first} {second} one two =
-    let list : List ℕ = list_of old chain.0 in
-    let now : list_of mid chain.0 ≡ list ++ first = list_under-is mid.lists chain.0 (list ++ first) one.list.here in
-    let whole : list_of mid chain.0 ++ second ≡ list ++ (first ++ second) =
-    ap (λ (l : List ℕ). l ++ second) now ∙ append_assoc list first second in
-    record {
-      list = subst (λ (l : List ℕ). IsEdit old.lists new.lists chain.0 (Some l)) whole
-          (edit_twice old.lists mid.lists new.lists chain.0 (Some (list ++ first)) (Some (list_of mid chain.0 ++ second))
-          one.list two.list);
-      spare = omega (arith, one.spare, two.spare, length-append first second);
-    }
+pushed_both {old} {mid} {new} {chain} {first} {second} one two = grind (arith, common_steps, list_under-is, edit_twice)
 
 pub alone_pushed : {old new : Chains} {chain : CellName} {more : List ℕ} → IsAlone old chain → IsPushed old new chain more
     → IsAlone new chain
@@ -133,19 +103,11 @@ cells_in-spliced old new name other list differ here gone others =
     )
 
 length-spliced : (list other : List ℕ) (place : ℕ) → place ≤ length list → length (spliced list place other) ≡ length list + length other
-length-spliced list other place within =
-    omega (
-      arith,
-      length-append (take place list) (other ++ drop place list),
-      length-append other (drop place list),
-      length-take-le place list within,
-      length-drop place list,
-    )
+length-spliced list other place within = grind (arith, common_steps)
 
 -- a live chain, and a name that no chain has
 pub apart : (lists : List (Option (List ℕ))) (name other : ℕ) → IsUnder lists name → under lists other ≡ None → name ≢ other
-apart lists name other live none e =
-    true≢false (sym (subst (λ (n : ℕ). IsUnder lists n) e live) ∙ ap (λ (o : Option (List ℕ)). is_some o) none)
+apart lists name other live none e = grind (arith, is_some)
 
 -- a piece that was made as a chain of its own is moved in
 pub record IsPutIn (old new : Chains) (chain : CellName) (place : ℕ) (piece : List ℕ) : Type 0 where

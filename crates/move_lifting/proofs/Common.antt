@@ -50,17 +50,17 @@ pub use Rattle.quad_system.proofs.PushWorthLemmas.{DownWorth, down_worth, front_
 pub use Rattle.quad_system.proofs.SpokeProductLemmas.{spoke_at}
 pub use Rattle.spoke_paths.proofs.Placing.{AtPlace, IsTurned, at-place, is-turned, new_way, old_way, some-turn}
 pub use Rattle.spoke_paths.proofs.StepsKeep.{later-is, spokes-stay-below, spur-is}
-pub use Rattle.spoke_paths.specs.PathSteps.{PathLeads, after_path_step, after_path_steps, from_spoke, lower_way, quad_turned, upper_way}
+pub use Rattle.spoke_paths.specs.PathSteps.{PathLeads, after_path_step, after_path_steps, from_spoke, quad_turned}
 pub use Rattle.spoke_paths.specs.PathTurns.{HasQuads, from_vertex}
 pub use Rattle.spoke_paths.specs.declared.step.PathStep.{PathStep}
 pub use Rattle.spoke_paths.specs.declared.step.PathStep.TheVariants.{Spur, Turn}
-pub use Rattle.std.proofs.Common.{Bool, List, Option, ap, append_assoc, ap₂, arith, cond, drop, eqb, false, get_or, inl, inr, is_some, length, length-append, max, not, refl, rules, set, subst, suc, sym, take, true, zero, ℕ, [], ◌%◌, ◌&&◌, ◌*◌, ◌++◌, ◌+◌, ◌-◌, ◌/◌, ◌<◌, ◌^◌, ◌||◌, ◌∙◌, ◌∷◌, ◌≡◌, ◌≢◌, ◌≤◌, ◌⊎◌}
+pub use Rattle.std.proofs.Common.{Bool, List, Option, ap, append_assoc, arith, cond, drop, eqb, false, get_or, inl, inr, is_some, length, length-append, max, not, refl, set, subst, suc, sym, take, true, zero, ℕ, [], ◌%◌, ◌&&◌, ◌*◌, ◌++◌, ◌+◌, ◌-◌, ◌/◌, ◌<◌, ◌^◌, ◌||◌, ◌∙◌, ◌∷◌, ◌≡◌, ◌≢◌, ◌≤◌, ◌⊎◌}
 pub use Rattle.std.proofs.Math.Nat.{mul-le-mul_left, mul-le-mul_right}
 pub use Rattle.std.proofs.Math.Seq.{take-append_seam}
 pub use Rattle.std.proofs.lemmas.Bool.{both_ways, cases_Bool, cases_eq, cases_lt, eq-eqb, eqb-true, ne_eqb, or_cases, or_left, or_right}
+pub use Rattle.std.proofs.lemmas.Grind.{common_steps}
 pub use Rattle.std.proofs.lemmas.List.{append-nil, drop-append-le, drop-drop, drop-map, drop_all, drop_more, get_or-append-add, get_or-drop, get_or-map, get_or-set_other, get_or-take, get_or_append_left, get_or_past, length-drop, length-map, length-reverse, length-take-le, map-append, nil_from_length, reverse-append, take-append-drop, take-append-le, take-take, take_all, take_more, take_more_same, take_rest}
 pub use Rattle.std.proofs.lemmas.List.Elements.{All-append, All-cons, All-head, All-more, All-nil, All-tail, All-take}
-pub use Rattle.std.proofs.lemmas.List.Sums.{get_or-le-sum_by}
 pub use Rattle.std.proofs.lemmas.Result.{IfOk-weaker, on_ok_weaker}
 pub use Rattle.std.specs.Option.{option_map}
 pub use Rattle.std.specs.Prelude.{All, Err, IfOk, IsTrue, MatchOption, None, Ok, OnErr, OnOk, Result, Some, if◌then◌else◌, option_and_then, reverse, slice_index, vec_len, ◌==◌}
@@ -93,4 +93,3 @@ pub use Rattle.tree_cotree.specs.Splits.{IsSplit, SplitView, StepsToParent, Step
 pub use Rattle.turn_words.specs.FormLaws.{IsQuad, led}
 pub use Rattle.walk_actions.proofs.Corners.{after_back, after_more, after_within, corners_apart, once_round}
 pub use Rattle.walk_actions.proofs.Runs.{end_from}
-pub use mathlib.Core.Bool.{beq, true≢false}

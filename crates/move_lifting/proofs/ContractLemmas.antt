@@ -1,5 +1,5 @@
 -- A closed walk that follows the steps on its spokes, and what holds on the way.
-use Rattle.move_lifting.proofs.Common.{rotation_system, OrientedMesh, rotations_of, IsLedFrom, IsCutSurface, spokes_in_front, signed_loop, IsFreelyPath, HasLoopIn, TrackView, GoesOn, last_of, Crosses, sides_cross, up, up_path, PolygonView, across, AreWaysUp, by_loop, path_loop, put_behind, later-is, spokes-stay-below, after_path_step, after_path_steps, PathLeads, from_vertex, PathStep, Spur, Turn, ◌≡◌, ◌≢◌, ◌⊎◌, inl, inr, ℕ, ◌+◌, ◌-◌, ◌<◌, ◌≤◌, Bool, true, false, not, List, [], ◌∷◌, length, get_or, take, drop, ap, sym, ◌∙◌, subst, arith, cases_eq, eq-eqb, ne_eqb, drop_more, drop_all, All-append, All-nil, All-cons, All-take, if◌then◌else◌, ◌==◌, slice_index, All, option_and_then, Result, Ok, Err, IfOk, list_keeps_ends, HasNoSpur, IsWalk, after_dart, SplitView, in_cotree, is_left, IsQuad}
+use Rattle.move_lifting.proofs.Common.{rotation_system, OrientedMesh, rotations_of, IsLedFrom, IsCutSurface, spokes_in_front, signed_loop, IsFreelyPath, HasLoopIn, TrackView, GoesOn, last_of, Crosses, sides_cross, up, up_path, PolygonView, across, AreWaysUp, by_loop, path_loop, put_behind, later-is, spokes-stay-below, after_path_step, after_path_steps, PathLeads, from_vertex, PathStep, Spur, Turn, ◌≡◌, ◌≢◌, ◌⊎◌, ℕ, ◌+◌, ◌-◌, ◌<◌, ◌≤◌, Bool, true, false, not, List, [], ◌∷◌, length, get_or, take, drop, ap, sym, ◌∙◌, subst, arith, drop_more, drop_all, All-append, All-take, if◌then◌else◌, ◌==◌, slice_index, All, option_and_then, Result, Ok, Err, IfOk, list_keeps_ends, HasNoSpur, IsWalk, after_dart, SplitView, in_cotree, is_left, IsQuad}
 use Rattle.std.proofs.Common.{Some}
 use Rattle.move_lifting.proofs.HomeLemmas.{goes_nowhere}
 use Rattle.move_lifting.proofs.LiftLemmas.{closed_walk}
@@ -25,15 +25,8 @@ pub record IsContracted (s : OrientedMesh) (split : SplitView) (polygon : Polygo
 
 extra_below : (n z a c : ℕ) (b : Bool) → z < n → a < n → (a ≡ z → c + 1 < n) → (a ≢ z → a + 1 < n)
     → All (λ i. i < n) (if a == z then (if b then [] else (c + 1) ∷ []) else (if b then a ∷ (a + 1) ∷ [] else z ∷ []))
-extra_below n z a c true z_in a_in own other = elim (cases_eq a z) [
-  | inl same ↦ rw (eq-eqb a z same) (All-nil (λ i. i < n))
-  | inr apart ↦ rw (ne_eqb a z apart)
-      (All-cons (λ i. i < n) a ((a + 1) ∷ []) a_in (All-cons (λ i. i < n) (a + 1) [] (other apart) (All-nil (λ i. i < n))))
-]
-extra_below n z a c false z_in a_in own other = elim (cases_eq a z) [
-  | inl same ↦ rw (eq-eqb a z same) (All-cons (λ i. i < n) (c + 1) [] (own same) (All-nil (λ i. i < n)))
-  | inr apart ↦ rw (ne_eqb a z apart) (All-cons (λ i. i < n) z [] z_in (All-nil (λ i. i < n)))
-]
+extra_below n z a c true z_in a_in own other = grind arith
+extra_below n z a c false z_in a_in own other = grind arith
 
 module _ {s : OrientedMesh} {split : SplitView} {polygon : PolygonView} (is_cut : IsCutSurface s split polygon) where
   open is_cut use {valid as o, tree as t, cut, some}
@@ -80,10 +73,7 @@ module _ {s : OrientedMesh} {split : SplitView} {polygon : PolygonView} (is_cut 
 
   -- the spokes in front are below the degree
   pub quad_below : {a c : ℕ} → IsQuad polygon.places a c → (a < polygon.degree) × (c < polygon.degree)
-  quad_below {a} {c} quad = (
-    subst (λ n. a < n) (cut.places some).each_spoke quad.a_below,
-    subst (λ n. c < n) (cut.places some).each_spoke quad.c_below,
-  )
+  quad_below {a} {c} quad = grind arith
 
   pub front_below : (at a c : ℕ) (path : List ℕ) → All (λ i. i < polygon.degree) path → IsQuad polygon.places a c
       → All (λ i. i < polygon.degree) (spokes_in_front (polygon.degree - 1) path at a c)

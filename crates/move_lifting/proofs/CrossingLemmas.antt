@@ -1,5 +1,5 @@
 -- The step across the face below a cotree edge, and the vertices of the rest of the face.
-use Rattle.move_lifting.proofs.Common.{corner_back, face_at_number, vertex_at, IsNumberOf, rotation_system, names_all, origin-twin, darts_of, twin_of, origin_of, target_of, edge_of, face_of, OrientedMesh, IsOrientedSurface, rotations_of, IsRotationSystem, IsDartFrom, beyond, GoesAlong, IsOneIn, IsFaceBelow, FaceStep, ◌≡◌, ◌⊎◌, inl, inr, ℕ, zero, suc, ◌+◌, ◌-◌, ◌<◌, Bool, true, false, List, [], ◌∷◌, ◌++◌, length, get_or, refl, ap, sym, ◌∙◌, subst, arith, append_assoc, length-append, map-append, length-map, Some, None, step_within, corner_after, corners_before, IsSide, side_number, FaceList, face_at, next_corner, numbers, Side, VertexName, SplitView, IsSplit, below_edge, in_cotree, after_more}
+use Rattle.move_lifting.proofs.Common.{corner_back, face_at_number, vertex_at, IsNumberOf, rotation_system, names_all, origin-twin, darts_of, twin_of, origin_of, target_of, edge_of, face_of, OrientedMesh, IsOrientedSurface, rotations_of, IsRotationSystem, IsDartFrom, beyond, GoesAlong, IsOneIn, IsFaceBelow, FaceStep, ◌≡◌, ◌⊎◌, inl, inr, ℕ, zero, suc, ◌+◌, ◌-◌, ◌<◌, Bool, true, false, List, [], ◌∷◌, ◌++◌, length, get_or, refl, ap, sym, ◌∙◌, subst, arith, append_assoc, common_steps, map-append, Some, None, step_within, corner_after, corners_before, IsSide, side_number, FaceList, face_at, next_corner, numbers, Side, VertexName, SplitView, IsSplit, below_edge, in_cotree, after_more}
 use Rattle.surf_model.proofs.PartnerLemmas.{ends_agree}
 use Rattle.move_lifting.proofs.RestLemmas.{side_ends}
 
@@ -50,9 +50,7 @@ rest_more old new v start ring rising t k c pushed before at read =
     ∙ ap (corners_before ring rising next) (sym one))
 
 pub corner_more : (rising : Bool) (m t k c : ℕ) → c ≡ corner_after rising m t k → next_corner rising m c ≡ corner_after rising m t (k + 1)
-corner_more rising m t k c is =
-    let one : suc k ≡ k + 1 = omega arith in
-    ap (next_corner rising m) is ∙ sym (after_more rising m t k) ∙ ap (corner_after rising m t) one
+corner_more rising m t k c is = grind (arith, after_more)
 
 -- how many vertices come
 length-before : (ring : List ℕ) (rising : Bool) (t k : ℕ) → length (corners_before ring rising t k) ≡ k
@@ -61,12 +59,7 @@ length-before ring rising t (suc k) = ap suc (length-before ring rising (next_co
 
 pub come_long : (mesh : FaceList) (step : FaceStep) (old new : List VertexName) → numbers new ≡ numbers old ++ beyond mesh step
     → length new ≡ length old + (length (face_at mesh step.face.0) - 1)
-come_long mesh step old new is =
-    let ring : List ℕ = face_at mesh step.face.0 in
-    let next : ℕ = next_corner step.forward (length ring) step.corner in
-    sym (length-map new (λ (x : VertexName). x.0)) ∙ ap (λ (l : List ℕ). length l) is ∙ length-append (numbers old) (beyond mesh step)
-    ∙ ap (λ (n : ℕ). n + length (beyond mesh step)) (length-map old (λ (x : VertexName). x.0))
-    ∙ ap (λ (n : ℕ). length old + n) (length-before ring step.forward next (length ring - 1))
+come_long mesh step old new is = grind (arith, common_steps, length-before)
 
 module _ {s : OrientedMesh} {split : SplitView} (o : IsOrientedSurface s) (t : IsSplit s split) where
   -- the one of the two darts lies in the face below their edge

@@ -1,5 +1,5 @@
 -- A walk that is led off the cotree, step by step: what holds on the way.
-use Rattle.move_lifting.proofs.Common.{one_more, leads_nowhere, last_entry, dart_between, darts_of, edge_of, OrientedMesh, IsOrientedSurface, rotations_of, IsDartFrom, beyond, IsFaceBelow, IsCrossed, LeadsAtPeak, load_of, StaysWithin, IsLedOn, TrackView, GoesOn, GrowsOrShrinks, last_of, FaceStep, IsOffCotree, ◌≡◌, inl, inr, ℕ, suc, ◌+◌, ◌-◌, ◌<◌, ◌≤◌, Bool, true, false, not, max, List, [], ◌∷◌, ◌++◌, length, take, drop, get_or, refl, ap, sym, ◌∙◌, subst, arith, append_assoc, length-append, cases_lt, map-append, length-map, drop_more, drop_all, length-drop, append-nil, reverse-append, length-reverse, get_or-map, get_or-append-add, get_or_append_left, Some, reverse, Linked, together, round_linked, by_replacing, length-corners_from, corner_after, corners_before, last_corner, FaceList, face_at, next_corner, corners_from, is_edge, IsFaceList, IsFace, HasNoSpur, PeakedMoves, apply, numbers, IsWalk, darts, Across, VertexName, SplitView, IsSplit, in_cotree}
+use Rattle.move_lifting.proofs.Common.{one_more, leads_nowhere, last_entry, dart_between, darts_of, edge_of, OrientedMesh, IsOrientedSurface, rotations_of, IsDartFrom, beyond, IsFaceBelow, IsCrossed, LeadsAtPeak, load_of, StaysWithin, IsLedOn, TrackView, GoesOn, GrowsOrShrinks, last_of, FaceStep, IsOffCotree, ◌≡◌, inl, inr, ℕ, suc, ◌+◌, ◌-◌, ◌<◌, ◌≤◌, Bool, true, false, not, max, List, [], ◌∷◌, ◌++◌, length, take, drop, get_or, refl, ap, sym, ◌∙◌, subst, arith, append_assoc, length-append, common_steps, map-append, length-map, length-drop, append-nil, reverse-append, length-reverse, get_or_append_left, Some, reverse, Linked, together, round_linked, by_replacing, length-corners_from, corner_after, corners_before, last_corner, FaceList, face_at, next_corner, corners_from, is_edge, IsFaceList, IsFace, HasNoSpur, PeakedMoves, apply, numbers, IsWalk, darts, Across, VertexName, SplitView, IsSplit, in_cotree}
 use Rattle.move_lifting.proofs.LeavingLemmas.{crossed_leaves}
 use Rattle.move_lifting.proofs.ListLemmas.{read_on, one_no_spur}
 use Rattle.move_lifting.proofs.RoundLemmas.{before-from, rest_turned, rest_ends}
@@ -20,23 +20,7 @@ avoids_front s split front rest h k d l from =
 pub avoids_on : (s : OrientedMesh) (split : SplitView) (walk : List ℕ) (v : ℕ) → 0 < length walk → IsOffCotree s split walk
     → ((d : ℕ) → IsDartFrom (rotations_of s) (last_of walk) v d → in_cotree split (edge_of s d) ≡ false)
     → IsOffCotree s split (walk ++ v ∷ [])
-avoids_on s split walk v some h last k d l from =
-    let long : k + 1 < length walk + 1 = omega (arith, length-append walk (v ∷ []), l) in
-    let one : get_or (walk ++ v ∷ []) k 0 ≡ get_or walk k 0 = get_or_append_left walk (v ∷ []) 0 k (omega arith) in
-    let here : IsDartFrom (rotations_of s) (get_or walk k 0) (get_or (walk ++ v ∷ []) (k + 1) 0) d =
-    subst (λ (x : ℕ). IsDartFrom (rotations_of s) x (get_or (walk ++ v ∷ []) (k + 1) 0) d) one from in
-    elim (cases_lt (k + 1) (length walk)) [
-      | inl within ↦
-          h k d within (subst (λ (x : ℕ). IsDartFrom (rotations_of s) (get_or walk k 0) x d)
-          (get_or_append_left walk (v ∷ []) 0 (k + 1) within) here)
-      | inr past ↦
-          let at : k ≡ length walk - 1 = omega arith in
-          let end : k + 1 ≡ length walk + 0 = omega arith in
-          let two : get_or (walk ++ v ∷ []) (k + 1) 0 ≡ v = ap (λ (n : ℕ). get_or (walk ++ v ∷ []) n 0) end
-          ∙ get_or-append-add walk (v ∷ []) 0 0 in
-          last d (subst (λ (x : ℕ). IsDartFrom (rotations_of s) (get_or walk x 0) v d) at
-          (subst (λ (x : ℕ). IsDartFrom (rotations_of s) (get_or walk k 0) x d) two here))
-    ]
+avoids_on s split walk v some h last k d l from = grind (arith, common_steps)
 
 -- what holds while a walk is led on to a vertex: so many steps are done, and the vertices that are still to come are pending, the next
 -- one last
@@ -57,19 +41,7 @@ pub under_way : (s : OrientedMesh) (split : SplitView) → IsOrientedSurface s �
     → 0 < length begun.walk → HasNoSpur begun.walk → IsOffCotree s split begun.walk → is_edge s.mesh (last_of begun.walk) to ≡ true
     → IsUnderWay s split behind to begun track pending 0
 under_way s split o behind to spare begun track pending same is some no_spur off edge =
-    let found = dart_between s o (last_of begun.walk) to edge in
-    let darts_there : 0 < darts_of s = (let within : found.0 < darts_of s = found.1.within in omega arith) in
-    subst (λ (t : TrackView). IsUnderWay s split behind to begun t pending 0) (sym same)
-    (subst (λ (l : List ℕ). IsUnderWay s split behind to begun (record begun { spare = spare }) l 0) (sym is)
-    (record {
-      some = some;
-      no_spur = no_spur;
-      off_cotree = off;
-      linked = (edge, tt);
-      falls = λ t. omega (arith, pair_most s split t (last_of begun.walk) to darts_there);
-      long = omega arith;
-      led = led_itself behind (begun.walk ++ to ∷ []) begun.list (omega (arith, some, length-append begun.walk (to ∷ [])));
-    }))
+    grind (arith, common_steps, dart_between, pair_most, led_itself)
 
 -- a vertex is taken from what is pending
 pub reverse-push : (pending : List ℕ) (v : ℕ) → reverse (pending ++ v ∷ []) ≡ v ∷ reverse pending
@@ -108,8 +80,7 @@ put_on_way {s} {split} {behind} {track = track} {steps = steps} new rest v after
         | inr shrunk ↦ avoids_front s split new.walk (shrunk.0 ∷ []) (subst (IsOffCotree s split) shrunk.1 on.off_cotree)
       ];
       linked = subst (λ (x : ℕ). Linked s.mesh (x ∷ reverse rest)) (sym last) turned.0.1;
-      falls = λ t. subst (λ (x : ℕ). load s split t (x ∷ reverse rest) + (steps + 1) ≤ darts_of s) (sym last)
-          (omega (arith, turned.1 t, pair_positive s split t (last_of track.walk) v));
+      falls = λ t. grind (arith, pair_positive);
       long = omega (arith, long, on.long);
       led = led_after turned.2 (led_behind behind track.walk v (reverse rest) put (omega (arith, counted, length-reverse rest)));
     }
@@ -352,9 +323,7 @@ all_come {s} {split} t {track = track} {pending} on done =
 pub all_led : {s : OrientedMesh} {split : SplitView} {behind to : ℕ} {begun track : TrackView} {pending : List ℕ} {steps : ℕ}
     → IsUnderWay s split behind to begun track pending steps → pending ≡ []
     → IsLedOn s split behind (begun.walk ++ to ∷ []) begun.list track.walk track.list
-all_led {s} {split} {behind} {to} {begun} {track} on none =
-    subst (λ (l : List ℕ). IsLedOn s split behind (begun.walk ++ to ∷ []) begun.list l track.list) (append-nil track.walk)
-    (subst (λ (l : List ℕ). IsLedOn s split behind (begun.walk ++ to ∷ []) begun.list (track.walk ++ reverse l) track.list) none on.led)
+all_led {s} {split} {behind} {to} {begun} {track} on none = grind (arith, common_steps)
 
 pub one_pending : (xs ys : List VertexName) (v : VertexName) → xs ≡ ys ++ v ∷ [] → numbers xs ≡ numbers ys ++ v.0 ∷ []
 one_pending xs ys v is = ap numbers is ∙ map-append (λ (x : VertexName). x.0) ys (v ∷ [])
@@ -365,11 +334,7 @@ length-numbers xs = length-map xs (λ (x : VertexName). x.0)
 -- each vertex of a walk is reached along an edge
 pub edge_to : (mesh : FaceList) (names : List VertexName) → IsWalk mesh (numbers names) → (n : ℕ) → 0 < n → n < length names
     → (none : VertexName) → is_edge mesh (get_or (numbers names) (n - 1) 0) (get_or names n none).0 ≡ true
-edge_to mesh names walk n later within none =
-    let before : n - 1 < length (numbers names) - 1 = omega (arith, length-numbers names) in
-    let next : get_or (numbers names) (n - 1 + 1) 0 ≡ (get_or names n none).0 =
-    ap (λ (k : ℕ). get_or (numbers names) k 0) (omega arith) ∙ get_or-map (λ (x : VertexName). x.0) names n none 0 within in
-    ap (is_edge mesh (get_or (numbers names) (n - 1) 0)) (sym next) ∙ walk.edges (n - 1) before
+edge_to mesh names walk n later within none = grind (arith, common_steps, length-numbers)
 
 -- there is room for a step along the edge, and for one across a face
 pub room_along : {s : OrientedMesh} {split : SplitView} → IsSplit s split
@@ -415,15 +380,7 @@ pub record IsLedSoFar (s : OrientedMesh) (split : SplitView) (behind : ℕ) (wal
 pub led_first : (s : OrientedMesh) (split : SplitView) (behind : ℕ) (walk : List ℕ) (begun : PeakedMoves) (track : TrackView) (v spare : ℕ)
     → 0 < length walk
     → get_or walk 0 0 ≡ v → track ≡ record { walk = v ∷ []; list = begun; spare = spare } → IsLedSoFar s split behind walk begun track 1
-led_first s split behind walk begun track v spare some is start =
-    let whole : walk ≡ v ∷ [] ++ drop 1 walk = drop_more walk 0 0 some ∙ ap (λ (x : ℕ). x ∷ drop 1 walk) is in
-    subst (λ (t : TrackView). IsLedSoFar s split behind walk begun t 1) (sym start)
-    (record {
-      some = omega arith;
-      no_spur = one_no_spur v;
-      last = sym is;
-      led = subst (λ (w : List ℕ). IsLedOn s split behind walk begun w begun) whole (led_itself behind walk begun some);
-    })
+led_first s split behind walk begun track v spare some is start = grind (arith, common_steps, one_no_spur, led_itself)
 
 pub led_more : {s : OrientedMesh} {split : SplitView} {behind : ℕ} {walk : List ℕ} {begun : PeakedMoves} {track : TrackView} {n : ℕ}
     (new : TrackView) (v after : ℕ)
@@ -445,9 +402,7 @@ led_more {s} {split} {behind} {walk} {begun} {track} {n} new v after so_far l is
 -- when all entries are read
 pub led_all : {s : OrientedMesh} {split : SplitView} {behind : ℕ} {walk : List ℕ} {begun : PeakedMoves} {track : TrackView} {n : ℕ}
     → IsLedSoFar s split behind walk begun track n → n ≡ length walk → IsLedOn s split behind walk begun track.walk track.list
-led_all {s} {split} {behind} {walk} {begun} {track} {n} so_far all =
-    subst (λ (w : List ℕ). IsLedOn s split behind walk begun w track.list)
-    (ap (λ (w : List ℕ). track.walk ++ w) (drop_all n walk (omega arith)) ∙ append-nil track.walk) so_far.led
+led_all {s} {split} {behind} {walk} {begun} {track} {n} so_far all = grind (arith, common_steps)
 
 -- a walk that is led on from itself
 pub led_whole : (mesh : FaceList) (walk vertices : List ℕ) (begun : PeakedMoves) (track : TrackView) → vertices ≡ walk

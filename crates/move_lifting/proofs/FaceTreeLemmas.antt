@@ -1,5 +1,5 @@
 -- The tree of the faces: each face hangs below the face across its parent edge. What hangs below a cotree edge, counted in darts.
-use Rattle.move_lifting.proofs.Common.{OrientedMesh, IsOrientedSurface, rotations_of, ◌≡◌, ◌⊎◌, inl, inr, ℕ, ◌<◌, Bool, true, false, ◌||◌, eqb, List, [], ◌∷◌, length, refl, ap, sym, ◌∙◌, subst, arith, both_ways, eqb-true, eq-eqb, or_cases, or_left, or_right, IsPath, faces_upward, one_way_up, above, above_path, upper_within, rank_step, not_itself, SplitView, IsSplit, StepsUp}
+use Rattle.move_lifting.proofs.Common.{OrientedMesh, IsOrientedSurface, rotations_of, ◌≡◌, ◌⊎◌, inl, inr, ℕ, ◌<◌, Bool, true, false, ◌||◌, eqb, List, [], ◌∷◌, length, refl, ap, sym, ◌∙◌, subst, arith, eqb-true, eq-eqb, or_cases, or_left, or_right, IsPath, faces_upward, one_way_up, above, above_path, upper_within, rank_step, not_itself, SplitView, IsSplit, StepsUp}
 
 -- a list names a number
 abbrev pub names : ℕ → List ℕ → Bool
@@ -21,10 +21,7 @@ module _ {s : OrientedMesh} {split : SplitView} (o : IsOrientedSurface s) (t : I
   named_higher : (g : ℕ) (path : List ℕ) (f : ℕ)
       → IsPath (StepsUp (rotations_of s) split) g path split.root_face → names f (g ∷ path) ≡ true
       → (f ≡ g) ⊎ (length (above s split t f) < length path)
-  named_higher g [] f p h = elim (or_cases (eqb g f) (names f []) h) [
-    | inl here ↦ inl (sym (eqb-true g f here))
-    | inr none ↦ absurd (both_ways false refl none)
-  ]
+  named_higher g [] f p h = grind arith
   named_higher g (x ∷ path) f p h = elim (or_cases (eqb g f) (names f (x ∷ path)) h) [
     | inl here ↦ inl (sym (eqb-true g f here))
     | inr later ↦ elim (named_higher x path f p.1 later) [
@@ -41,12 +38,7 @@ module _ {s : OrientedMesh} {split : SplitView} (o : IsOrientedSurface s) (t : I
   -- a way up that names a face names the one above it
   names_next : (c f g : ℕ) (path : List ℕ) → StepsUp (rotations_of s) split c f
       → IsPath (StepsUp (rotations_of s) split) g path split.root_face → names c (g ∷ path) ≡ true → names f (g ∷ path) ≡ true
-  names_next c f g [] step p h = elim (or_cases (eqb g c) (names c []) h) [
-    | inl here ↦
-        absurd ((faces_upward s split o t).top f
-        (subst (λ (x : ℕ). StepsUp (rotations_of s) split x f) (sym (eqb-true g c here) ∙ p) step))
-    | inr none ↦ absurd (both_ways false refl none)
-  ]
+  names_next c f g [] step p h = grind (arith, faces_upward)
   names_next c f g (x ∷ path) step p h = elim (or_cases (eqb g c) (names c (x ∷ path)) h) [
     | inl here ↦
         let same : x ≡ f =
@@ -71,13 +63,7 @@ module _ {s : OrientedMesh} {split : SplitView} (o : IsOrientedSurface s) (t : I
   -- of the faces that hang straight below a face, a way up names one at most
   named_once : (c d f g : ℕ) (path : List ℕ) → StepsUp (rotations_of s) split c f → StepsUp (rotations_of s) split d f
       → IsPath (StepsUp (rotations_of s) split) g path split.root_face → names c (g ∷ path) ≡ true → names d (g ∷ path) ≡ true → c ≡ d
-  named_once c d f g [] a b p h k = elim (or_cases (eqb g c) (names c []) h) [
-    | inr none ↦ absurd (both_ways false refl none)
-    | inl here ↦ elim (or_cases (eqb g d) (names d []) k) [
-      | inr none ↦ absurd (both_ways false refl none)
-      | inl there ↦ sym (eqb-true g c here) ∙ eqb-true g d there
-    ]
-  ]
+  named_once c d f g [] a b p h k = grind arith
   named_once c d f g (x ∷ path) a b p h k = elim (or_cases (eqb g c) (names c (x ∷ path)) h) [
     | inl here ↦ elim (or_cases (eqb g d) (names d (x ∷ path)) k) [
       | inl there ↦ sym (eqb-true g c here) ∙ eqb-true g d there

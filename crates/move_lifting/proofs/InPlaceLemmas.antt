@@ -1,5 +1,5 @@
 -- Spurs that are taken out of a walk in place: what stands in front has none, and the rest is as it was.
-use Rattle.move_lifting.proofs.Common.{cut, IsRemoval, TrackView, GoesOn, IsStepBack, IsNextPut, last_of, ◌≡◌, inr, refl, ℕ, ◌+◌, ◌-◌, ◌<◌, ◌≤◌, max, List, [], ◌∷◌, ◌++◌, length, take, drop, get_or, ap, sym, ◌∙◌, subst, arith, length-append, take_more, take_all, drop_all, length-take-le, length-drop, get_or-take, get_or-drop, take-append-le, drop-append-le, drop-drop, All-cons, All-nil, FaceList, AreFreelyEqual, HasNoSpur, PeakedMoves, darts, Remove, VertexName}
+use Rattle.move_lifting.proofs.Common.{cut, IsRemoval, TrackView, GoesOn, IsStepBack, IsNextPut, last_of, ◌≡◌, inr, ℕ, ◌+◌, ◌-◌, ◌<◌, ◌≤◌, max, List, [], ◌∷◌, ◌++◌, length, take, drop, get_or, ap, sym, ◌∙◌, subst, arith, length-append, common_steps, take_more, take_all, drop_all, length-take-le, length-drop, get_or-take, get_or-drop, take-append-le, drop-append-le, drop-drop, All-cons, All-nil, FaceList, AreFreelyEqual, HasNoSpur, PeakedMoves, darts, Remove, VertexName}
 use Rattle.move_lifting.proofs.MoveLemmas.{step_back_goes, step_back_no_spur}
 use Rattle.move_lifting.proofs.SpurLemmas.{IsReducedSoFar, reduced_first, reduced_more, reduced_all}
 
@@ -86,13 +86,7 @@ pub record IsReducedInPlace (behind : ℕ) (walk : List ℕ) (begun : PeakedMove
 
 pub in_place_first : (behind spare : ℕ) (walk : List ℕ) (begun : PeakedMoves) → 0 < length walk
     → IsReducedInPlace behind walk begun (record { walk = walk; list = begun; spare = spare }) 1 1
-in_place_first behind spare walk begun some = record {
-  so_far = reduced_first behind walk begun (front_of (record { walk = walk; list = begun; spare = spare }) 1) (get_or walk 0 0) 0 some refl
-      (ap (λ (w : List ℕ). record { walk = w; list = begun; spare = 0 }) (take_more walk 0 0 some));
-  some = omega arith;
-  within = some;
-  rest = refl;
-}
+in_place_first behind spare walk begun some = grind (arith, common_steps, reduced_first, front_of)
 
 -- one entry is left at least to be put
 pub in_place_next : {behind : ℕ} {walk : List ℕ} {begun : PeakedMoves} {track : TrackView} {front n : ℕ}
@@ -109,13 +103,7 @@ in_place_next {walk} {track} {front} {n} now l =
 
 pub in_place_short : {behind : ℕ} {walk : List ℕ} {begun : PeakedMoves} {track : TrackView} {front n : ℕ}
     → IsReducedInPlace behind walk begun track front n → n ≤ length walk → length track.walk ≤ length walk
-in_place_short {track} {front} now l =
-    omega (
-      arith,
-      in_place_next now l,
-      now.so_far.long,
-      length-take-le front track.walk now.within,
-    )
+in_place_short {track} {front} now l = grind (arith, common_steps, in_place_next)
 
 pub in_place_more : {behind : ℕ} {walk : List ℕ} {begun : PeakedMoves} {track new : TrackView} {front next n : ℕ}
     → IsReducedInPlace behind walk begun track front n → 0 < n → n < length walk → IsNextPut behind track front new next

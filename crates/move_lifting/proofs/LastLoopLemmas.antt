@@ -1,5 +1,7 @@
 -- All round the root face from the last side, in either direction.
-use Rattle.move_lifting.proofs.Common.{leads_nowhere, one_more, face_at_number, start_kept, start_flipped, IsNumberOf, names_all, darts_of, face_of, origin_of, start_corner_of, OrientedMesh, IsOrientedSurface, IsStepOf, IsStepFrom, LeadsAtPeak, MoreLeaveCotree, load_of, signed_loop, TrackView, FaceStep, at_face, backward_is, side_in, led_round, led_back_round, read_back, back, PolygonView, IsCutFrom, AreWaysUp, backward, by_loop, last_side, way_round, way_back_round, IsOffCotree, ◌≡◌, inl, inr, ℕ, suc, ◌+◌, ◌-◌, ◌<◌, ◌≤◌, Bool, true, false, not, max, List, [], ◌∷◌, ◌++◌, length, drop, get_or, refl, ap, sym, ◌∙◌, subst, arith, ◌⊎◌, append-nil, get_or-le-sum_by, Some, IsTrue, if◌then◌else◌, first_answer, walk_from, all_more, none_yet, by_replacing, length-corners_from, corner_after, corners_before, last_corner, keeps_walk, IsSide, side_number, FaceList, face_at, next_corner, corners_from, is_used, AreFreelyEqual, PeakedMoves, apply, apply_all, is_flipped, numbers, IsWalk, darts, Side, Move, Across, FaceName, VertexName, SplitView, IsSplit, once_round, end_from as end_of, beq}
+use Rattle.move_lifting.proofs.Common.{leads_nowhere, one_more, face_at_number, start_kept, start_flipped, IsNumberOf, names_all, darts_of, face_of, origin_of, start_corner_of, OrientedMesh, IsOrientedSurface, IsStepOf, IsStepFrom, LeadsAtPeak, MoreLeaveCotree, load_of, signed_loop, TrackView, FaceStep, at_face, backward_is, side_in, led_round, led_back_round, read_back, back, PolygonView, IsCutFrom, AreWaysUp, backward, by_loop, last_side, way_round, way_back_round, IsOffCotree, ◌≡◌, inl, inr, ℕ, suc, ◌+◌, ◌-◌, ◌<◌, ◌≤◌, Bool, true, false, not, max, List, [], ◌∷◌, ◌++◌, length, drop, get_or, refl, ap, sym, ◌∙◌, subst, arith, ◌⊎◌, append-nil, Some, IsTrue, if◌then◌else◌, first_answer, walk_from, all_more, none_yet, by_replacing, length-corners_from, corners_before, last_corner, keeps_walk, IsSide, side_number, FaceList, face_at, next_corner, corners_from, is_used, AreFreelyEqual, PeakedMoves, apply, apply_all, is_flipped, numbers, IsWalk, darts, Side, Move, Across, FaceName, VertexName, SplitView, IsSplit, once_round, end_from as end_of}
+use Rattle.std.proofs.lemmas.List.Sums.{get_or-le-sum_by}
+use mathlib.Core.Bool.{beq}
 use Rattle.move_lifting.proofs.RestLemmas.{pair_weight, root_round}
 
 -- the step from where a dart starts, from the side that the dart is
@@ -32,17 +34,7 @@ step_is_from s d side back flipped step in_mesh number same_face flips corner fo
 pub all_round : (ring : List ℕ) (rising : Bool) (t v : ℕ) → t < length ring → v ≡ get_or ring t 0
     → v ∷ (corners_before ring rising (next_corner rising (length ring) t) (length ring - 1) ++ v ∷ []) ≡ corners_from ring rising t
     (length ring)
-all_round ring rising t v l is =
-    let m : ℕ = length ring in
-    let next : ℕ = next_corner rising m t in
-    let count : suc (m - 1) ≡ m = omega arith in
-    let home : corner_after rising m next (m - 1) ≡ t = ap (corner_after rising m t) count ∙ once_round rising m t l in
-    let end : get_or ring (corner_after rising m next (m - 1)) 0 ≡ v = ap (λ (c : ℕ). get_or ring c 0) home ∙ sym is in
-    sym
-    (ap (corners_from ring rising t) (sym count)
-    ∙ ap (λ (x : ℕ). x ∷ corners_from ring rising next (m - 1)) (sym is)
-    ∙ ap (λ (x : List ℕ). v ∷ x) (last_corner ring rising next (m - 1) ∙ ap (λ (x : ℕ). corners_before ring rising next (m - 1) ++ x ∷ [])
-    end))
+all_round ring rising t v l is = grind (arith, once_round, last_corner)
 
 -- one move leads all round
 pub round_move : (mesh : FaceList) (face : FaceName) (corner v : ℕ) (forward : Bool) → face.0 < length mesh.faces
@@ -231,19 +223,11 @@ last_below s split polygon c some = side_in s split polygon c some (polygon.degr
 -- where a step from a dart stands
 pub step_within : {s : OrientedMesh} {d : ℕ} {back : Bool} {step : FaceStep} → d < darts_of s → IsStepFrom s d back step
     → IsStepOf s.mesh step
-step_within {s} {d} {step} l along =
-    let at = at_face s d l in
-    record {
-      face = subst (λ (f : ℕ). f < length s.mesh.faces) (sym along.face) at.in_list;
-      corner = subst (λ (f : ℕ). step.corner < length (face_at s.mesh f)) (sym along.face)
-          (subst (λ (k : ℕ). k < length (face_at s.mesh (face_of s d))) (sym along.corner) at.in_face);
-    }
+step_within {s} {d} {step} l along = grind (arith, at_face)
 
 pub step_starts : {s : OrientedMesh} {d : ℕ} {back : Bool} {step : FaceStep} → d < darts_of s → IsStepFrom s d back step
     → origin_of s d ≡ get_or (face_at s.mesh step.face.0) step.corner 0
-step_starts {s} {d} {step} l along =
-    (at_face s d l).vertex ∙ ap (λ (f : ℕ). get_or (face_at s.mesh f) (start_corner_of s d) 0) (sym along.face)
-    ∙ ap (λ (k : ℕ). get_or (face_at s.mesh step.face.0) k 0) (sym along.corner)
+step_starts {s} {d} {step} l along = grind (arith, at_face)
 
 -- what is put together goes all round
 pub gone_round : (s : OrientedMesh) (split : SplitView) (polygon : PolygonView) → IsOrientedSurface s → IsCutFrom s split polygon

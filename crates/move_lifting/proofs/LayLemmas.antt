@@ -1,5 +1,5 @@
 -- Walks laid without spurs, up to spurs.
-use Rattle.move_lifting.proofs.Common.{last_of, free_equality, ◌≡◌, inr, ℕ, ◌+◌, ◌-◌, ◌<◌, List, [], ◌∷◌, ◌++◌, length, take, drop, get_or, ap, sym, ◌∙◌, subst, arith, append_assoc, length-append, append-nil, map-append, drop-map, get_or_append_left, take_all, take_more, take_rest, FaceList, AreFreelyEqual, HasNoSpur, numbers, VertexName}
+use Rattle.move_lifting.proofs.Common.{free_equality, ◌≡◌, ℕ, ◌+◌, ◌-◌, ◌<◌, List, [], ◌∷◌, ◌++◌, length, take, drop, get_or, ap, sym, ◌∙◌, subst, arith, append_assoc, length-append, common_steps, map-append, take_more, FaceList, AreFreelyEqual, HasNoSpur, numbers, VertexName}
 use Rattle.move_lifting.proofs.ExpandLemmas.{length-numbers, one_pending}
 use Rattle.move_lifting.proofs.ListLemmas.{no_spur_front}
 use Rattle.move_lifting.proofs.SpurLemmas.{put_freely, freely_further}
@@ -23,31 +23,18 @@ laid_more mesh begun old new vertices k d some l so_far one =
 
 pub laid_none : (mesh : FaceList) (begun : List VertexName) (vertices : List VertexName)
     → AreFreelyEqual mesh (numbers begun ++ numbers (take 0 vertices)) (numbers begun)
-laid_none mesh begun vertices =
-    subst (λ (w : List ℕ). AreFreelyEqual mesh w (numbers begun)) (sym (append-nil (numbers begun)))
-    ((free_equality mesh).itself (numbers begun))
+laid_none mesh begun vertices = grind (arith, common_steps, free_equality)
 
 -- the last vertex taken off
 pub popped_off : (old new : List VertexName) (n : ℕ) (d : VertexName) → 0 < length old → n ≡ length old → new ≡ take (n - 1) old
     → old ≡ new ++ get_or old (n - 1) d ∷ []
-popped_off old new n d some count is =
-    let up : n - 1 + 1 ≡ length old = omega arith in
-    sym (take_all (length old) old (omega arith)) ∙ ap (λ (n : ℕ). take n old) (sym up) ∙ take_more old (n - 1) d (omega arith)
-    ∙ ap (λ (l : List VertexName). l ++ get_or old (n - 1) d ∷ []) (sym is)
+popped_off old new n d some count is = grind (arith, common_steps)
 
 -- one vertex goes where the walk leads straight back
 pub goes_out : (mesh : FaceList) (old new : List VertexName) (next via : VertexName) → 1 < length old
     → get_or (numbers old) (length old - 2) 0 ≡ next.0
     → old ≡ new ++ via ∷ [] → AreFreelyEqual mesh (numbers old ++ next.0 ∷ []) (numbers new)
-goes_out mesh old new next via long came popped =
-    let parts : numbers old ≡ numbers new ++ via.0 ∷ [] = one_pending old new via popped in
-    let count : length old ≡ length new + 1 = ap (λ (l : List VertexName). length l) popped ∙ length-append new (via ∷ []) in
-    let new_long : length (numbers new) ≡ length new = length-numbers new in
-    let at : length (numbers new) - 1 ≡ length old - 2 = omega arith in
-    let last : last_of (numbers new) ≡ next.0 =
-    ap (λ (n : ℕ). get_or (numbers new) n 0) at ∙ sym (get_or_append_left (numbers new) (via.0 ∷ []) 0 (length old - 2) (omega arith))
-    ∙ ap (λ (l : List ℕ). get_or l (length old - 2) 0) (sym parts) ∙ came in
-    put_freely mesh (numbers old) (numbers new) next.0 (inr (via.0, parts)) (omega arith) last
+goes_out mesh old new next via long came popped = grind (arith, common_steps, one_pending, length-numbers, put_freely)
 
 pub goes_out_clean : (old new : List VertexName) (via : VertexName) → old ≡ new ++ via ∷ [] → HasNoSpur (numbers old)
     → HasNoSpur (numbers new)
@@ -73,5 +60,4 @@ laid_round mesh start first second third there down out back head some a b c =
 
 -- the names behind the first one
 pub behind_first : (names part : List VertexName) → part ≡ take (length names - 1) (drop 1 names) → numbers part ≡ drop 1 (numbers names)
-behind_first names part is =
-    ap numbers (is ∙ take_rest names 1) ∙ sym (drop-map (λ (y : VertexName). y.0) 1 names)
+behind_first names part is = grind (arith, common_steps)

@@ -1,13 +1,11 @@
 -- Walks that are led on: nothing is done, one thing after another, and the same where more of a walk stands behind.
-use Rattle.move_lifting.proofs.Common.{last_entry, walk_front, OrientedMesh, IsLedFrom, LeadsAtPeak, MoreRemove, load_of, IsLedOn, TrackView, GoesOn, GrowsOrShrinks, last_of, LeavesCotree, ◌≡◌, ℕ, ◌+◌, ◌-◌, ◌<◌, ◌≤◌, max, List, [], ◌∷◌, ◌++◌, length, take, get_or, refl, ap, sym, ◌∙◌, subst, arith, append_assoc, length-append, append-nil, get_or-append-add, list_keeps_walk, FaceList, PeakedMoves, IsWalk, SplitView}
+use Rattle.move_lifting.proofs.Common.{last_entry, walk_front, OrientedMesh, IsLedFrom, LeadsAtPeak, MoreRemove, load_of, IsLedOn, TrackView, GoesOn, GrowsOrShrinks, last_of, LeavesCotree, ◌≡◌, ℕ, ◌+◌, ◌-◌, ◌<◌, ◌≤◌, max, List, [], ◌∷◌, ◌++◌, length, take, ap, sym, ◌∙◌, subst, arith, append_assoc, length-append, common_steps, append-nil, list_keeps_walk, FaceList, PeakedMoves, IsWalk, SplitView}
 use Rattle.move_lifting.proofs.LeavingLemmas.{more_on, none_more, removed_leave}
 use Rattle.move_lifting.proofs.WithinLemmas.{load-joined, darts_weigh, within_put}
 
 -- the last entry of a walk that goes on
 pub last-behind : (front rest : List ℕ) (x : ℕ) → last_of (front ++ x ∷ rest) ≡ last_of (x ∷ rest)
-last-behind front rest x =
-    let at : length (front ++ x ∷ rest) - 1 ≡ length front + (length (x ∷ rest) - 1) = omega (arith, length-append front (x ∷ rest)) in
-    ap (λ (n : ℕ). get_or (front ++ x ∷ rest) n 0) at ∙ get_or-append-add front (x ∷ rest) (length (x ∷ rest) - 1) 0
+last-behind front rest x = grind (arith, common_steps)
 
 pub last-push : (front : List ℕ) (v : ℕ) → last_of (front ++ v ∷ []) ≡ v
 last-push front v = last-behind front [] v
@@ -15,19 +13,12 @@ last-push front v = last-behind front [] v
 -- the end of a walk stays when its next vertex is put on what is laid
 last_put : (old new tail : List ℕ) (v : ℕ) → last_of new ≡ v → last_of (new ++ tail) ≡ last_of (old ++ v ∷ tail)
 last_put old new [] v is = ap last_of (append-nil new) ∙ is ∙ sym (last-push old v)
-last_put old new (x ∷ tail) v is =
-    last-behind new tail x ∙ sym (last-behind (v ∷ []) tail x) ∙ sym (last-behind old (x ∷ tail) v)
+last_put old new (x ∷ tail) v is = grind (arith, last-behind)
 
 -- nothing is done
 pub led_itself : {s : OrientedMesh} {split : SplitView} (behind : ℕ) (walk : List ℕ) (list : PeakedMoves) → 0 < length walk
     → IsLedOn s split behind walk list walk list
-led_itself {s} {split} behind walk list some = record {
-  some = some;
-  last = refl;
-  goes = λ first rest l h. h;
-  leaves = none_more (LeavesCotree s split) list.moves;
-  within = λ weight are. (omega arith, omega arith, omega arith);
-}
+led_itself {s} {split} behind walk list some = grind (arith, none_more)
 
 -- one thing after another
 pub led_after : {s : OrientedMesh} {split : SplitView} {behind : ℕ} {a b c : List ℕ} {x y z : PeakedMoves}
@@ -37,10 +28,7 @@ led_after {s} {split} {x = x} {y} {z} h k = record {
   last = k.last ∙ h.last;
   goes = λ first rest l led. k.goes first rest l (h.goes first rest l led);
   leaves = more_on (LeavesCotree s split) x.moves y.moves z.moves h.leaves k.leaves;
-  within = λ weight are.
-      let one = h.within weight are in
-      let two = k.within weight are in
-      (omega (arith, one.0, two.0), omega (arith, one.0, one.1, two.1), omega (arith, one.2, two.2));
+  within = λ weight are. grind arith;
 }
 
 -- a vertex is put on a track

@@ -1,5 +1,5 @@
 -- The closed walk along the first and back along the second is contracted, and the second is left.
-use Rattle.move_lifting.proofs.Common.{leads_nowhere, walk_front, OrientedMesh, IsOrientedSurface, IsLedFrom, LeavesNothing, IsCutSurface, LeadsAtPeak, IsLedOn, IsFreelyPath, IsReductionOf, TrackView, GoesOn, last_of, PolygonView, LeavesCotree, IsOffCotree, spokes_along, free_walk_below, PathLeads, ◌≡◌, ℕ, ◌<◌, refl, List, [], ◌∷◌, ◌++◌, length, drop, get_or, ap, sym, ◌∙◌, subst, arith, drop_more, length-drop, get_or_append_left, All, Some, option_and_then, list_keeps_walk, list_keeps_ends, FaceList, HasNoSpur, PeakedMoves, Leads, Homotopic, apply, apply_all, numbers, IsWalk, HaveCommonEnds, darts, AreWalkPair, Move, VertexName, SplitView, IsSplit}
+use Rattle.move_lifting.proofs.Common.{leads_nowhere, walk_front, OrientedMesh, IsOrientedSurface, IsLedFrom, LeavesNothing, IsCutSurface, LeadsAtPeak, IsLedOn, IsFreelyPath, IsReductionOf, TrackView, GoesOn, last_of, PolygonView, LeavesCotree, IsOffCotree, spokes_along, free_walk_below, PathLeads, ◌≡◌, ℕ, ◌<◌, refl, List, [], ◌∷◌, ◌++◌, length, drop, get_or, ap, sym, ◌∙◌, subst, arith, drop_more, length-drop, get_or_append_left, All, option_and_then, list_keeps_walk, list_keeps_ends, FaceList, HasNoSpur, PeakedMoves, Leads, Homotopic, apply, apply_all, numbers, IsWalk, HaveCommonEnds, darts, AreWalkPair, Move, VertexName, SplitView, IsSplit}
 use Rattle.move_lifting.specs.declared.reducing.Reduction.{Reduction}
 use Rattle.std.proofs.lemmas.Option.{option_and_then_some}
 use Rattle.move_lifting.proofs.HomeLemmas.{nothing_is_left}
@@ -12,9 +12,7 @@ pub closed_from : (mesh : FaceList) (first second vertices closed : List ℕ) (b
     → ((face_list : FaceList) (walk : List ℕ) → IsWalk face_list second → LeadsAtPeak face_list walk begun vertices
     → LeadsAtPeak face_list walk list (closed ++ drop 1 second))
     → LeadsAtPeak mesh first list (closed ++ drop 1 second)
-closed_from mesh first second vertices closed begun list n w same is count goes =
-    let nowhere : begun ≡ record { moves = []; peak = darts first } = subst (λ (k : ℕ). begun ≡ record { moves = []; peak = k }) count is in
-    goes mesh first w (subst (LeadsAtPeak mesh first begun) (sym same) (leads_nowhere mesh first begun nowhere))
+closed_from mesh first second vertices closed begun list n w same is count goes = grind (arith, leads_nowhere)
 
 -- the closed walk is one
 pub closed_walk : (mesh : FaceList) (first closed rest : List ℕ) (list : PeakedMoves) → IsWalk mesh first
@@ -48,9 +46,7 @@ closed_is mesh first second names list track walks leads some meets same noted =
 pub second_there : {mesh : FaceList} {first second : List ℕ} {list : PeakedMoves} (closed : List ℕ) → IsClosed mesh first closed second list
     → length closed ≡ 1 → 0 < length second → LeadsAtPeak mesh first list second
 second_there [] k one some = absurd (omega (arith, one))
-second_there {mesh} {first} {second} {list} (v ∷ []) k one some =
-    let whole : v ∷ drop 1 second ≡ second = ap (λ (x : ℕ). x ∷ drop 1 second) k.meets ∙ sym (drop_more second 0 0 some) in
-    subst (LeadsAtPeak mesh first list) whole k.led
+second_there {mesh} {first} {second} {list} (v ∷ []) k one some = grind arith
 second_there (v ∷ w ∷ rest) k one some = absurd (omega (arith, one))
 
 pub second_left : (s : OrientedMesh) (split : SplitView) → IsOrientedSurface s → IsSplit s split → split.genus ≡ 0
@@ -74,8 +70,7 @@ second_left s split o t sphere first closed second list track w some common h go
 -- what a list of moves does behind another
 leads_rest : (mesh : FaceList) (moves more : List Move) (a b c : List ℕ) → Leads mesh a moves b → Leads mesh a (moves ++ more) c
     → Leads mesh b more c
-leads_rest mesh [] more a b c h k =
-    (let same : a ≡ b = (let e : Some a ≡ Some b = h in cc) in subst (λ (l : List ℕ). Leads mesh l more c) same k)
+leads_rest mesh [] more a b c h k = grind arith
 leads_rest mesh (move ∷ moves) more a b c h k =
     option_and_then_some (λ next. apply_all mesh next moves) (apply mesh a move) b h
     (λ middle is rest.
@@ -171,13 +166,7 @@ module _ {s : OrientedMesh} {split : SplitView} {polygon : PolygonView} (is_cut 
   pub steps_to_nothing : (closed vertices : List ℕ) (reduction : Reduction) (r : IsReductionOf s polygon vertices reduction)
       → vertices ≡ closed
       → IsWalk s.mesh closed → r.end ≡ [] → LeavesNothing polygon reduction
-  steps_to_nothing closed vertices reduction r is w none = record {
-    wheel = r.wheel;
-    below = subst (λ (l : List ℕ). All (λ i. i < polygon.degree) l) (sym (r.spokes.path_is ∙ ap (spokes_along r.spokes.spokes) is))
-        (subst (λ n. All (λ i. i < n) (spokes_along r.spokes.spokes closed)) (cut.places some).each_spoke
-        (free_walk_below s split polygon o t cut some r.spokes.spokes r.spokes.free closed w));
-    leads = subst (λ (l : List ℕ). PathLeads polygon.places reduction.spokes.items reduction.steps.items l) none r.leads;
-  }
+  steps_to_nothing closed vertices reduction r is w none = grind (arith, free_walk_below)
 
   -- and the walk of the track is the loop of the spokes, up to spurs
   pub begun_freely : (first closed second vertices : List ℕ) (list : PeakedMoves) (track : TrackView) (reduction : Reduction)

@@ -1,5 +1,5 @@
 -- Entries of walks that are put together, and spurs in them.
-use Rattle.move_lifting.proofs.Common.{◌≡◌, ◌≢◌, inl, inr, ℕ, ◌+◌, ◌<◌, List, [], ◌∷◌, ◌++◌, length, take, drop, get_or, ap, sym, ◌∙◌, arith, append_assoc, length-append, cases_lt, get_or-append-add, get_or_append_left, take_more, take_all, drop_more, HasNoSpur}
+use Rattle.move_lifting.proofs.Common.{◌≡◌, ◌≢◌, ℕ, ◌+◌, ◌<◌, List, [], ◌∷◌, ◌++◌, length, take, drop, get_or, sym, ◌∙◌, arith, length-append, common_steps, get_or_append_left, take_more, take_all, HasNoSpur}
 
 -- a part in front of a walk without spurs has none
 pub no_spur_front : (front rest : List ℕ) → HasNoSpur (front ++ rest) → HasNoSpur front
@@ -10,17 +10,7 @@ no_spur_front front rest h k l same =
 -- nor has the walk with one more entry, which is not the entry two places before
 pub no_spur_on : (walk : List ℕ) (next : ℕ) → HasNoSpur walk → ((k : ℕ) → k + 2 ≡ length walk → get_or walk k 0 ≢ next)
     → HasNoSpur (walk ++ next ∷ [])
-no_spur_on walk next h other k l same =
-    let long : k + 2 < length walk + 1 = omega (arith, length-append walk (next ∷ []), l) in
-    let left : get_or (walk ++ next ∷ []) k 0 ≡ get_or walk k 0 = get_or_append_left walk (next ∷ []) 0 k (omega arith) in
-    elim (cases_lt (k + 2) (length walk)) [
-      | inl within ↦ h k within (sym left ∙ same ∙ get_or_append_left walk (next ∷ []) 0 (k + 2) within)
-      | inr past ↦
-          let last : k + 2 ≡ length walk + 0 = omega arith in
-          let end : get_or (walk ++ next ∷ []) (k + 2) 0 ≡ next =
-          ap (λ (n : ℕ). get_or (walk ++ next ∷ []) n 0) last ∙ get_or-append-add walk (next ∷ []) 0 0 in
-          other k (omega arith) (sym left ∙ same ∙ end)
-    ]
+no_spur_on walk next h other k l same = grind (arith, common_steps)
 
 -- a list is its front and its last entry
 pub front_and_last : (xs : List ℕ) (n : ℕ) → n + 1 ≡ length xs → xs ≡ take n xs ++ get_or xs n 0 ∷ []
@@ -29,9 +19,7 @@ front_and_last xs n h = sym (take_all (n + 1) xs (omega arith)) ∙ take_more xs
 -- one entry of a walk is read
 pub read_on : (front walk : List ℕ) (place v : ℕ) → place < length walk → get_or walk place 0 ≡ v
     → front ++ drop place walk ≡ front ++ v ∷ [] ++ drop (place + 1) walk
-read_on front walk place v l is =
-    ap (λ (rest : List ℕ). front ++ rest) (drop_more walk place 0 l ∙ ap (λ (x : ℕ). x ∷ drop (place + 1) walk) is)
-    ∙ sym (append_assoc front (v ∷ []) (drop (place + 1) walk))
+read_on front walk place v l is = grind (arith, common_steps)
 
 -- a walk of one vertex has no spur
 pub one_no_spur : (v : ℕ) → HasNoSpur (v ∷ [])

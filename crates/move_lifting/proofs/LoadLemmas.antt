@@ -72,10 +72,7 @@ counted : (s : OrientedMesh) (split : SplitView) (t : IsSplit s split) (k : ℕ)
     → sum_below (λ j. weight s split t ((rotations_of s).edge (x j))) k
     ≡ sum_below
     (λ j. count_below (hangs_at s split t (below_edge split ((rotations_of s).edge (x j))) (x j)) (darts_of s)) k
-counted s split t k x within =
-    sum_same (λ j. weight s split t ((rotations_of s).edge (x j)))
-    (λ j. count_below (hangs_at s split t (below_edge split ((rotations_of s).edge (x j))) (x j)) (darts_of s)) k
-    (λ j m. weight_is s split t (x j) (within j m))
+counted s split t k x within = grind (arith, sum_same, weight, hangs_at, weight_is)
 
 -- darts of a face f besides the one on the edge above f
 pub record AreBeside (s : OrientedMesh) (f h k : ℕ) (x : ℕ → ℕ) : Type 0 where

@@ -7,9 +7,7 @@ use Rattle.move_lifting.proofs.TreeUpLemmas.{own_ways}
 -- a loop, up the tree before it and down the tree behind it
 pub whole_way : (mesh : FaceList) (root : ℕ) (ways : ℕ → List ℕ) (w : HasWays mesh root ways) (u v : ℕ) (loop : Loop mesh root)
     → IsTrue (is_used mesh u) → IsTrue (is_used mesh v) → IsWay mesh u v (ways u ++ (loop.rest ++ back v (ways v)))
-whole_way mesh root ways w u v loop u_used v_used =
-    way_on mesh u root v (ways u) (loop.rest ++ back v (ways v)) (w.way u u_used)
-    (way_on mesh root root v loop.rest (back v (ways v)) loop.is_way (way_home mesh v root (ways v) (w.way v v_used)))
+whole_way mesh root ways w u v loop u_used v_used = grind (arith, way_on, back, way_home)
 
 -- its loop is that loop
 own_loop : (mesh : FaceList) (root : ℕ) (ways : ℕ → List ℕ) (w : HasWays mesh root ways) (u v : ℕ) (loop : Loop mesh root)
@@ -328,8 +326,7 @@ module _ {s : OrientedMesh} {split : SplitView} {polygon : PolygonView} (is_cut 
   pub is_ready : {walks : List (List ℕ)} {front approach : List ℕ} {x y : ℕ} {turn : Lifted} {against : Bool}
       → IsLastLoop s split polygon against turn → IsByTree s split polygon walks front x y approach → IsReady s.mesh x y approach turn
   is_ready {y = y} {turn} last by =
-      let from_y : LeadsAtPeak s.mesh (y ∷ []) turn.moves turn.walk =
-      subst (λ (v : ℕ). LeadsAtPeak s.mesh (v ∷ []) turn.moves turn.walk) (sym by.there) last.leads in
+      let from_y : LeadsAtPeak s.mesh (y ∷ []) turn.moves turn.walk = grind arith in
       let there = approach_goes by in
       record {
         there = there;

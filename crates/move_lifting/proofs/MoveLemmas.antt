@@ -1,5 +1,5 @@
 -- One more move behind a list of moves, and a spur that goes out at the end of the part of a walk that is laid.
-use Rattle.move_lifting.proofs.Common.{greatest_darts-more, greatest_darts-none, one_more, spur_goes, LeadsAtPeak, IsRemoval, TrackView, GoesOn, IsStepBack, ◌≡◌, ℕ, suc, ◌+◌, ◌-◌, ◌<◌, max, List, [], ◌∷◌, ◌++◌, length, take, get_or, ap, sym, ◌∙◌, subst, arith, append_assoc, length-append, get_or_append_left, length-take-le, Some, All, first_answer, stays_walk, by_replacing, FaceList, HasNoSpur, PeakedMoves, apply, apply_all, greatest_darts, darts, Move, Insert, Remove, Across, VertexName}
+use Rattle.move_lifting.proofs.Common.{greatest_darts-more, greatest_darts-none, one_more, spur_goes, LeadsAtPeak, IsRemoval, TrackView, GoesOn, IsStepBack, ◌≡◌, ℕ, suc, ◌+◌, ◌-◌, ◌<◌, max, List, [], ◌∷◌, ◌++◌, length, take, get_or, ap, sym, ◌∙◌, subst, arith, append_assoc, length-append, common_steps, get_or_append_left, length-take-le, Some, All, first_answer, stays_walk, by_replacing, FaceList, HasNoSpur, PeakedMoves, apply, apply_all, greatest_darts, darts, Move, Insert, Remove, Across, VertexName}
 use Rattle.move_lifting.proofs.ListLemmas.{front_and_last, no_spur_front}
 
 -- a spur goes out
@@ -67,5 +67,4 @@ removals_peak mesh (Remove at via ∷ moves) first walk start all e =
     omega (arith, rest, from, to, out, one, greatest_darts-more mesh first next (Remove at via) moves told.1)
 
 pub step_back_some : {behind : ℕ} {old new : TrackView} → 1 < length old.walk → IsStepBack behind old new → 0 < length new.walk
-step_back_some {new} some back =
-    omega (arith, some, ap (λ (l : List ℕ). length l) back.walk, length-append new.walk (back.via.0 ∷ []))
+step_back_some {new} some back = grind (arith, common_steps)

@@ -22,10 +22,7 @@ avoids_more : (s : OrientedMesh) (split : SplitView) (u v : ℕ) (rest : List �
     → ((d : ℕ) → IsDartFrom (rotations_of s) u v d → in_cotree split (edge_of s d) ≡ false) → IsOffCotree s split (v ∷ rest)
     → IsOffCotree s split (u ∷ v ∷ rest)
 avoids_more s split u v rest first others zero d l from = first d from
-avoids_more s split u v rest first others (suc k) d l from =
-    let up : suc k + 1 ≡ suc (k + 1) = omega arith in
-    others k d (omega arith)
-    (subst (λ (n : ℕ). IsDartFrom (rotations_of s) (get_or (u ∷ v ∷ rest) (suc k) 0) (get_or (u ∷ v ∷ rest) n 0) d) up from)
+avoids_more s split u v rest first others (suc k) d l from = grind arith
 
 -- one move, to a walk that weighs less
 record IsStepOff (s : OrientedMesh) (split : SplitView) (t : IsSplit s split) (walk : List ℕ) : Type 0 where

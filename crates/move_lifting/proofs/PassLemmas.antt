@@ -34,8 +34,4 @@ put_more {behind} {begun} {were} {track} {pending} new rest v after on popped co
 pub crossed_on : (mesh faces : FaceList) (step : FaceStep) (behind spare : ℕ) (old reserved new : TrackView) (pending left : List ℕ)
     → faces ≡ mesh → reserved ≡ record old { spare = spare } → IsCrossed faces step behind reserved pending new left
     → IsCrossed mesh step behind old pending new left
-crossed_on mesh faces step behind spare old reserved new pending left is same h =
-    let crossed : IsCrossed mesh step behind (record old { spare = spare }) pending new left =
-    subst (λ (t : TrackView). IsCrossed mesh step behind t pending new left) same
-    (subst (λ (m : FaceList). IsCrossed m step behind reserved pending new left) is h) in
-    record { walk = crossed.walk; comes = crossed.comes; list = crossed.list }
+crossed_on mesh faces step behind spare old reserved new pending left is same h = grind arith

@@ -1,5 +1,5 @@
 -- The spokes of a walk, dart by dart, and how many are left after some steps.
-use Rattle.move_lifting.proofs.Common.{next_of, OrientedMesh, IsOrientedSurface, rotations_of, IsDartFrom, spokes_of_dart, HasSpokesMore, AreSpokesOf, spurs_of, dart_from, from_is, PolygonView, label_of, HasFreeSpokes, HaveFreeSpokes, spokes_along, last_side, AtPlace, at-place, old_way, new_way, IsTurned, is-turned, spur-is, later-is, PathLeads, quad_turned, after_path_step, from_vertex, PathStep, Spur, Turn, ◌≡◌, ◌≢◌, inl, inr, ℕ, zero, suc, ◌+◌, ◌*◌, ◌-◌, ◌<◌, ◌≤◌, Bool, true, false, List, [], ◌∷◌, ◌++◌, length, get_or, take, refl, ap, sym, ◌∙◌, subst, arith, append_assoc, length-append, cases_eq, eq-eqb, ne_eqb, append-nil, take_all}
+use Rattle.move_lifting.proofs.Common.{next_of, OrientedMesh, IsOrientedSurface, rotations_of, IsDartFrom, spokes_of_dart, HasSpokesMore, AreSpokesOf, spurs_of, dart_from, from_is, PolygonView, label_of, HasFreeSpokes, HaveFreeSpokes, spokes_along, last_side, AtPlace, at-place, old_way, new_way, IsTurned, is-turned, spur-is, later-is, PathLeads, quad_turned, after_path_step, from_vertex, PathStep, Spur, Turn, ◌≡◌, ◌≢◌, ℕ, zero, suc, ◌+◌, ◌*◌, ◌-◌, ◌<◌, ◌≤◌, Bool, true, false, List, [], ◌∷◌, ◌++◌, length, get_or, take, refl, ap, sym, ◌∙◌, subst, arith, append_assoc, length-append, common_steps, append-nil}
 use Rattle.spoke_paths.specs.PathSteps.{spur_goes}
 use Rattle.std.proofs.Common.{Some}
 
@@ -13,31 +13,18 @@ unfolding own_spokes
 own_is s polygon o u v d from = ap (spokes_of_dart s polygon) (from_is s o u v d from)
 
 of_dart : (s : OrientedMesh) (polygon : PolygonView) (d : ℕ) → HasFreeSpokes s polygon d (spokes_of_dart s polygon d)
-of_dart s polygon d = record {
-  last = λ e. rw (eq-eqb d (last_side polygon) e) refl;
-  other = λ ne. elim (cases_eq (label_of polygon d) (label_of polygon (next_of s d))) [
-    | inl same ↦ inr (rw (ne_eqb d (last_side polygon) ne, eq-eqb (label_of polygon d) (label_of polygon (next_of s d)) same) refl, same)
-    | inr apart ↦ inl (rw (ne_eqb d (last_side polygon) ne, ne_eqb (label_of polygon d) (label_of polygon (next_of s d)) apart) refl)
-  ];
-}
+of_dart s polygon d = grind arith
 
 pub have_own : (s : OrientedMesh) (polygon : PolygonView) → IsOrientedSurface s → HaveFreeSpokes s polygon (own_spokes s polygon)
 have_own s polygon o u v d from = subst (HasFreeSpokes s polygon d) (sym (own_is s polygon o u v d from)) (of_dart s polygon d)
 
 pub few_of_dart : (s : OrientedMesh) (polygon : PolygonView) (d : ℕ) → length (spokes_of_dart s polygon d) ≤ 2
-few_of_dart s polygon d = elim (cases_eq d (last_side polygon)) [
-  | inl last ↦ rw (eq-eqb d (last_side polygon) last) (omega arith)
-  | inr other ↦ elim (cases_eq (label_of polygon d) (label_of polygon (next_of s d))) [
-    | inl same ↦ rw (ne_eqb d (last_side polygon) other, eq-eqb (label_of polygon d) (label_of polygon (next_of s d)) same) (omega arith)
-    | inr apart ↦ rw (ne_eqb d (last_side polygon) other, ne_eqb (label_of polygon d) (label_of polygon (next_of s d)) apart) (omega arith)
-  ]
-]
+few_of_dart s polygon d = grind arith
 
 pub none_of_dart : (s : OrientedMesh) (polygon : PolygonView) (d : ℕ) → d ≢ last_side polygon
     → label_of polygon d ≡ label_of polygon (next_of s d)
     → spokes_of_dart s polygon d ≡ []
-none_of_dart s polygon d other same =
-    rw (ne_eqb d (last_side polygon) other, eq-eqb (label_of polygon d) (label_of polygon (next_of s d)) same) refl
+none_of_dart s polygon d other same = grind arith
 
 -- one dart more
 along_next : (spokes : ℕ → ℕ → List ℕ) (walk : List ℕ) (k : ℕ) → k + 1 < length walk
@@ -83,11 +70,7 @@ more_so_far s polygon o walk (suc k) u v old new some l one two so_far more =
 pub all_spokes : (s : OrientedMesh) (polygon : PolygonView) → IsOrientedSurface s → (walk : List ℕ) (n : ℕ) (path : List ℕ)
     → length walk ≤ n
     → AreSpokesSoFar s polygon walk n path → AreSpokesOf s polygon walk path
-all_spokes s polygon o walk n path all so_far = record {
-  spokes = own_spokes s polygon;
-  free = have_own s polygon o;
-  path_is = so_far.is ∙ ap (spokes_along (own_spokes s polygon)) (take_all n walk all);
-}
+all_spokes s polygon o walk n path all so_far = grind (arith, common_steps, own_spokes, have_own)
 
 -- how many spurs are taken out
 spurs_on : (steps more : List PathStep) → spurs_of (steps ++ more) ≡ spurs_of steps + spurs_of more

@@ -65,9 +65,7 @@ pub step_edge : (s : OrientedMesh) → IsOrientedSurface s → (f : ℕ) (rising
     → t < length (face_at s.mesh f)
     → edge_of s (dart_from s (vertex_at s f t) (vertex_at s f (next_corner rising (length (face_at s.mesh f)) t)))
     ≡ edge_of s (first_side s.mesh f + side_place rising (length (face_at s.mesh f)) t)
-step_edge s o f true t l k =
-    edge_between s o (vertex_at s f t) (vertex_at s f (next_corner true (length (face_at s.mesh f)) t)) (first_side s.mesh f + t)
-    (side_ends s f t (first_side s.mesh f + t) (numbered s f t l k))
+step_edge s o f true t l k = grind (arith, edge_between, first_side, side_ends, numbered)
 step_edge s o f false t l k =
     let m : ℕ = length (face_at s.mesh f) in
     let p : ℕ = next_corner false m t in
@@ -119,10 +117,7 @@ shift_most false = omega arith
 -- the sides of a face are apart from each other, and those of the rest from the side of the step
 rest_apart : (rising : Bool) (m c i j : ℕ) → c < m → i < j → j < m
     → side_place rising m (corner_after rising m c i) ≢ side_place rising m (corner_after rising m c j)
-rest_apart rising m c i j b less few same =
-    let most : shift rising ≤ 1 = shift_most rising in
-    corners_apart rising m c (i + shift rising) (j + shift rising) b (omega arith) (omega arith) (omega arith)
-    (sym (side-after rising m c i) ∙ same ∙ side-after rising m c j)
+rest_apart rising m c i j b less few same = grind (arith, shift, shift_most, corners_apart, side-after)
 
 rest_beside : (rising : Bool) (m c j : ℕ) → c < m → j < m - 1
     → side_place (not rising) m (corner_after (not rising) m c j) ≢ side_place rising m c

@@ -9,9 +9,7 @@ before-from ring rising t (suc k) =
 -- one corner more at the end
 pub corners_more : (ring : List ℕ) (rising : Bool) (t k : ℕ)
     → corners_from ring rising t (suc k) ≡ corners_from ring rising t k ++ get_or ring (corner_after rising (length ring) t (suc k)) 0 ∷ []
-corners_more ring rising t k =
-    last_corner ring rising t (suc k)
-    ∙ ap (λ (l : List ℕ). l ++ get_or ring (corner_after rising (length ring) t (suc k)) 0 ∷ []) (before-from ring rising t k)
+corners_more ring rising t k = grind (arith, last_corner, before-from)
 
 -- corners that are read the other way
 pub corners_turned : (ring : List ℕ) (rising : Bool) (t k : ℕ) → t < length ring
@@ -30,13 +28,7 @@ corners_turned ring rising t (suc k) l =
 pub rest_turned : (ring : List ℕ) (rising : Bool) (t k : ℕ) → t < length ring → k + 2 ≡ length ring
     → reverse (corners_from ring rising (next_corner rising (length ring) t) k) ≡ corners_from ring (not rising)
     (next_corner (not rising) (length ring) t) k
-rest_turned ring rising t k l all =
-    let m : ℕ = length ring in
-    let next : ℕ = next_corner rising m t in
-    let left : m - suc k ≡ 1 = omega arith in
-    let end : corner_after rising m next k ≡ next_corner (not rising) m t =
-    meet rising m t (suc k) l (omega arith) ∙ ap (corner_after (not rising) m t) left in
-    corners_turned ring rising next k (step_within rising m t l) ∙ ap (λ (c : ℕ). corners_from ring (not rising) c k) end
+rest_turned ring rising t k l all = grind (arith, meet, corners_turned, step_within)
 
 -- the last corner of the rest is where the step ends
 pub rest_ends : (rising : Bool) (m t : ℕ) → t < m → corner_after (not rising) m t (m - 1) ≡ next_corner rising m t

@@ -1,6 +1,6 @@
 -- Steps on paths of spokes make them no longer, and the loop of the last side goes in along ways that are short for half of their spokes
 -- and one pair more.
-use Rattle.move_lifting.proofs.Common.{dart_between, rotation_system, OrientedMesh, IsOrientedSurface, rotations_of, IsCutSurface, spokes_in_front, parity, sides_cross, walk_way, IsWay, PolygonView, place_of, across, AreShortAround, HasFreeSpokes, HaveFreeSpokes, across_last, comes_back, last_side, spokes_along, IsQuadWheel, polygon_wheel, spoke_at, AtPlace, at-place, IsTurned, is-turned, quad_turned, after_path_step, from_vertex, PathStep, Turn, ◌≡◌, ◌≢◌, ◌⊎◌, inl, inr, ℕ, suc, ◌+◌, ◌*◌, ◌-◌, ◌<◌, ◌≤◌, Bool, true, false, not, List, [], ◌∷◌, ◌++◌, length, take, get_or, refl, ap, sym, ◌∙◌, subst, arith, length-append, take-append_seam, cases_Bool, cases_eq, eq-eqb, ne_eqb, get_or-append-add, get_or_append_left, All-cons, All, if◌then◌else◌, ◌==◌, IsWalk, darts, after_dart, SplitView, in_cotree, is_left}
+use Rattle.move_lifting.proofs.Common.{dart_between, rotation_system, OrientedMesh, IsOrientedSurface, rotations_of, IsCutSurface, spokes_in_front, parity, sides_cross, walk_way, IsWay, PolygonView, place_of, across, AreShortAround, HasFreeSpokes, HaveFreeSpokes, across_last, comes_back, spokes_along, IsQuadWheel, polygon_wheel, spoke_at, AtPlace, at-place, IsTurned, is-turned, quad_turned, after_path_step, from_vertex, PathStep, Turn, ◌≡◌, ◌≢◌, ◌⊎◌, inl, inr, ℕ, suc, ◌+◌, ◌*◌, ◌-◌, ◌<◌, ◌≤◌, Bool, true, false, not, List, [], ◌∷◌, ◌++◌, length, take, get_or, refl, ap, sym, ◌∙◌, subst, arith, length-append, take-append_seam, cases_Bool, eq-eqb, ne_eqb, get_or-append-add, get_or_append_left, All-cons, All, if◌then◌else◌, ◌==◌, IsWalk, darts, after_dart, SplitView, in_cotree, is_left}
 use Rattle.polygon_cut.proofs.ShortFrontLemmas.{short_behind, short_behind_one, short_behind_two}
 use Rattle.std.proofs.Common.{Some}
 use Rattle.move_lifting.proofs.ContractLemmas.{front_below}
@@ -14,13 +14,7 @@ step_no_longer places step path next e = omega (arith, step_long places step pat
 
 -- a dart has two spokes or none, so a walk has no more than two for each dart
 dart_two : (s : OrientedMesh) (polygon : PolygonView) (d : ℕ) (path : List ℕ) → HasFreeSpokes s polygon d path → length path ≤ 2
-dart_two s polygon d path h = elim (cases_eq d (last_side polygon)) [
-  | inl own ↦ omega (arith, ap (λ (l : List ℕ). length l) (h.last own))
-  | inr other ↦ elim (h.other other) [
-    | inl both ↦ omega (arith, ap (λ (l : List ℕ). length l) both)
-    | inr none ↦ omega (arith, ap (λ (l : List ℕ). length l) none.0)
-  ]
-]
+dart_two s polygon d path h = grind arith
 
 way_spokes : (s : OrientedMesh) → IsOrientedSurface s → (polygon : PolygonView) (spokes : ℕ → ℕ → List ℕ) → HaveFreeSpokes s polygon spokes
     → (u v : ℕ) (rest : List ℕ) → IsWay s.mesh u v rest → length (spokes_along spokes (u ∷ rest)) ≤ 2 * length rest
@@ -53,16 +47,10 @@ halves (i ∷ path) = elim (halves path) [
 ]
 
 even_half : (path : List ℕ) → comes_back path ≡ true → HasHalf path 0
-even_half path is = elim (halves path) [
-  | inl even ↦ even.1
-  | inr odd ↦ absurd (let both : true ≡ false = sym is ∙ odd.0 in cc)
-]
+even_half path is = grind (arith, halves)
 
 odd_half : (path : List ℕ) → comes_back path ≡ false → HasHalf path 1
-odd_half path is = elim (halves path) [
-  | inl even ↦ absurd (let both : true ≡ false = sym even.0 ∙ is in cc)
-  | inr odd ↦ odd.1
-]
+odd_half path is = grind (arith, halves)
 
 -- parts of a list of numbers that are all below a bound
 first_below : (n : ℕ) (xs ys : List ℕ) → All (λ i. i < n) (xs ++ ys) → All (λ i. i < n) xs

@@ -1,5 +1,5 @@
 -- A walk without spurs is the shortest of those that are equal to it up to spurs.
-use Rattle.move_lifting.proofs.Common.{last_entry, last_of, ◌≡◌, ◌≢◌, inr, inl, ℕ, ◌+◌, ◌-◌, ◌<◌, ◌≤◌, List, [], ◌∷◌, ◌++◌, length, take, get_or, refl, ap, sym, ◌∙◌, subst, arith, append_assoc, length-append, cases_lt, cases_eq, append-nil, get_or_append_left, length-take-le, spur_list_same, FaceList, AreFreelyEqual, HasNoSpur}
+use Rattle.move_lifting.proofs.Common.{last_entry, last_of, ◌≡◌, ◌≢◌, inr, inl, ℕ, ◌+◌, ◌-◌, ◌<◌, ◌≤◌, List, [], ◌∷◌, ◌++◌, length, take, get_or, ap, sym, ◌∙◌, subst, arith, append_assoc, length-append, cases_lt, cases_eq, common_steps, get_or_append_left, length-take-le, spur_list_same, FaceList, AreFreelyEqual, HasNoSpur}
 use Rattle.surf_model.proofs.StackLemmas.{AreSame, same_after, same_before, spur_same, same_equal}
 use Rattle.move_lifting.proofs.ListLemmas.{front_and_last, no_spur_front, no_spur_on, one_no_spur}
 
@@ -19,13 +19,7 @@ record HasReduced (walk : List ℕ) : Type 0 where
 
 -- one vertex more behind a walk without spurs
 grows : (laid : List ℕ) (v : ℕ) → HasNoSpur laid → ((k : ℕ) → k + 2 ≡ length laid → get_or laid k 0 ≢ v) → HasReduced (laid ++ v ∷ [])
-grows laid v clean other = record {
-  reduced = laid ++ v ∷ [];
-  some = omega (arith, length-append laid (v ∷ []));
-  no_spur = no_spur_on laid v clean other;
-  long = omega arith;
-  same = λ stack k. refl;
-}
+grows laid v clean other = grind (arith, common_steps, no_spur_on)
 
 shrinks : (laid : List ℕ) (v k : ℕ) → HasNoSpur laid → k + 2 ≡ length laid → get_or laid k 0 ≡ v → HasReduced (laid ++ v ∷ [])
 shrinks laid v k clean at came =
@@ -69,13 +63,7 @@ one_more laid v clean = elim (cases_lt (length laid) 2) [
 ]
 
 lay_all : (rest laid : List ℕ) → 0 < length laid → HasNoSpur laid → HasReduced (laid ++ rest)
-lay_all [] laid some clean = record {
-  reduced = laid;
-  some = some;
-  no_spur = clean;
-  long = omega (arith, length-append laid []);
-  same = subst (λ (l : List ℕ). AreSame l laid) (sym (append-nil laid)) (λ stack k. refl);
-}
+lay_all [] laid some clean = grind (arith, common_steps)
 lay_all (v ∷ rest) laid some clean =
     let one : HasReduced (laid ++ v ∷ []) = one_more laid v clean in
     let all : HasReduced (one.reduced ++ rest) = lay_all rest one.reduced one.some one.no_spur in

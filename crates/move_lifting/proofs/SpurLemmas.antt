@@ -1,5 +1,5 @@
 -- Walks from which spurs are taken out as they are laid, up to spurs.
-use Rattle.move_lifting.proofs.Common.{spur_goes, last_entry, LeadsAtPeak, IsRemoval, MoreRemove, TrackView, GoesOn, GrowsOrShrinks, last_of, free_equality, ◌≡◌, inl, inr, ℕ, ◌+◌, ◌-◌, ◌<◌, ◌≤◌, max, List, [], ◌∷◌, ◌++◌, length, take, drop, get_or, refl, ap, sym, ◌∙◌, subst, arith, append_assoc, append-nil, drop_all, take_all, take_more, drop_more, length-take-le, length-drop, All-nil, All-cons, FaceList, IsSpurMove, AreFreelyEqual, HasNoSpur, PeakedMoves, darts, Move, Remove}
+use Rattle.move_lifting.proofs.Common.{spur_goes, last_entry, LeadsAtPeak, IsRemoval, MoreRemove, TrackView, GoesOn, GrowsOrShrinks, last_of, free_equality, ◌≡◌, inl, inr, ℕ, ◌+◌, ◌-◌, ◌<◌, ◌≤◌, max, List, [], ◌∷◌, ◌++◌, length, take, drop, get_or, refl, ap, sym, ◌∙◌, subst, arith, append_assoc, common_steps, append-nil, drop_all, take_all, take_more, length-take-le, length-drop, All-nil, All-cons, FaceList, IsSpurMove, AreFreelyEqual, HasNoSpur, PeakedMoves, darts, Move, Remove}
 use Rattle.move_lifting.proofs.ListLemmas.{read_on, one_no_spur}
 use Rattle.move_lifting.proofs.LedLemmas.{goes_behind}
 use Rattle.move_lifting.proofs.LeavingLemmas.{more_on, none_more}
@@ -7,8 +7,7 @@ use Rattle.move_lifting.proofs.LeavingLemmas.{more_on, none_more}
 -- one entry more, and its spur if it makes one taken out
 pub put_freely : (mesh : FaceList) (old new : List ℕ) (next : ℕ) → GrowsOrShrinks old new next → 0 < length new → last_of new ≡ next
     → AreFreelyEqual mesh (old ++ next ∷ []) new
-put_freely mesh old new next (inl grows) some last =
-    subst (AreFreelyEqual mesh (old ++ next ∷ [])) (sym grows) ((free_equality mesh).itself (old ++ next ∷ []))
+put_freely mesh old new next (inl grows) some last = grind (arith, free_equality)
 put_freely mesh old new next (inr shrinks) some last =
     let front : List ℕ = take (length new - 1) new in
     let via : ℕ = shrinks.0 in
@@ -44,20 +43,7 @@ pub record IsReducedSoFar (behind : ℕ) (walk : List ℕ) (begun : PeakedMoves)
 
 pub reduced_first : (behind : ℕ) (walk : List ℕ) (begun : PeakedMoves) (track : TrackView) (v spare : ℕ) → 0 < length walk
     → get_or walk 0 0 ≡ v → track ≡ record { walk = v ∷ []; list = begun; spare = spare } → IsReducedSoFar behind walk begun track 1
-reduced_first behind walk begun track v spare some is start =
-    let whole : walk ≡ v ∷ [] ++ drop 1 walk = drop_more walk 0 0 some ∙ ap (λ (x : ℕ). x ∷ drop 1 walk) is in
-    let one : v ∷ [] ≡ take 1 walk = sym (take_more walk 0 0 some ∙ ap (λ (x : ℕ). x ∷ []) is) in
-    subst (λ (t : TrackView). IsReducedSoFar behind walk begun t 1) (sym start)
-    (record {
-      some = omega arith;
-      no_spur = one_no_spur v;
-      long = omega arith;
-      last = sym is;
-      freely = λ mesh. subst (λ (l : List ℕ). AreFreelyEqual mesh l (v ∷ [])) one ((free_equality mesh).itself (v ∷ []));
-      goes = λ mesh first rest l h. subst (λ (w : List ℕ). LeadsAtPeak mesh first begun (w ++ rest)) whole h;
-      peak = omega arith;
-      removals = none_more IsRemoval begun.moves;
-    })
+reduced_first behind walk begun track v spare some is start = grind (arith, common_steps, one_no_spur, free_equality, none_more)
 
 pub reduced_more : {behind : ℕ} {walk : List ℕ} {begun : PeakedMoves} {track : TrackView} {n : ℕ} (new : TrackView) (v after : ℕ)
     → IsReducedSoFar behind walk begun track n

@@ -25,8 +25,7 @@ module _ {s : OrientedMesh} {split : SplitView} {polygon : PolygonView} (is_cut 
       → Leads s.mesh (closed ++ tail) moves (walk ++ tail) → All (LeavesCotree s split) moves → IsOffCotree s split walk → 0 < length closed
       → 0 < length walk → last_of walk ≡ last_of closed → slice_index walk 0 ≡ last_of walk
       → IsFreelyPath s split polygon (spokes_along spokes closed) walk
-  starts_freely spokes free [] walk tail moves w leads keeps off closed_some walk_some ends home root ways h =
-      absurd (omega arith)
+  starts_freely spokes free [] walk tail moves w leads keeps off closed_some walk_some ends home root ways h = grind arith
   starts_freely spokes free (u ∷ rest) [] tail moves w leads keeps off closed_some walk_some ends home root ways
       h = absurd (omega arith)
   starts_freely spokes free (u ∷ rest) (v ∷ others) tail moves w leads keeps off closed_some walk_some ends home

@@ -1,5 +1,5 @@
 -- Walks that lie one after another, and marks for their numbers.
-use Rattle.move_lifting.proofs.Common.{◌≡◌, ℕ, ◌+◌, ◌-◌, ◌≤◌, List, [], ◌∷◌, ◌++◌, length, take, drop, refl, ap, ◌∙◌, arith, drop-append-le, drop_all, length-drop, map-append, take-append-le, take_all, All-head, All-tail, numbers, VertexName}
+use Rattle.move_lifting.proofs.Common.{◌≡◌, ℕ, ◌+◌, ◌-◌, ◌≤◌, List, [], ◌∷◌, ◌++◌, length, refl, ap, ◌∙◌, arith, common_steps, All-head, All-tail, numbers, VertexName}
 use Rattle.move_lifting.specs.StoredWalks.{AreWithin, stored_walks, walk_at}
 use Rattle.move_lifting.specs.declared.spoke_walks.Place.{Place}
 
@@ -10,10 +10,7 @@ IsWithin vertices place = (place.start ≤ place.end) × (place.end ≤ length v
 -- vertices behind a walk leave it
 walk_at-append : (vertices more : List VertexName) (place : Place) → IsWithin vertices place
     → walk_at (vertices ++ more) place ≡ walk_at vertices place
-walk_at-append vertices more place within =
-    ap (λ (l : List VertexName). numbers (take (place.end - place.start) l)) (drop-append-le place.start vertices more (omega arith))
-    ∙ ap numbers
-    (take-append-le (place.end - place.start) (drop place.start vertices) more (omega (arith, length-drop place.start vertices)))
+walk_at-append vertices more place within = grind (arith, common_steps)
 
 stored-append : (places : List Place) (vertices more : List VertexName) → AreWithin places vertices
     → stored_walks places (vertices ++ more) ≡ stored_walks places vertices
@@ -28,13 +25,4 @@ stored-append (place ∷ places) vertices more within =
 pub stored-push : (places : List Place) (vertices walk : List VertexName) (place : Place) → AreWithin places vertices
     → place.start ≡ length vertices → place.end ≡ length vertices + length walk
     → stored_walks (places ++ place ∷ []) (vertices ++ walk) ≡ stored_walks places vertices ++ numbers walk ∷ []
-stored-push places vertices walk place within start end =
-    let behind : drop place.start (vertices ++ walk) ≡ walk =
-    drop-append-le place.start vertices walk (omega (arith, start))
-    ∙ ap (λ (l : List VertexName). l ++ walk) (drop_all place.start vertices (omega (arith, start))) in
-    let own : walk_at (vertices ++ walk) place ≡ numbers walk =
-    ap (λ (l : List VertexName). numbers (take (place.end - place.start) l)) behind
-    ∙ ap numbers (take_all (place.end - place.start) walk (omega (arith, start, end))) in
-    map-append (walk_at (vertices ++ walk)) places (place ∷ [])
-    ∙ ap (λ (l : List (List ℕ)). l ++ walk_at (vertices ++ walk) place ∷ []) (stored-append places vertices walk within)
-    ∙ ap (λ (w : List ℕ). stored_walks places vertices ++ w ∷ []) own
+stored-push places vertices walk place within start end = grind (arith, common_steps, stored-append)

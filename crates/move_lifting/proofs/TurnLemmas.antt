@@ -1,5 +1,5 @@
 -- A turn put into a walk: there, round, back, and on.
-use Rattle.move_lifting.proofs.Common.{spliced, last_entry, LeadsAtPeak, TrackView, GoesOn, last_of, home_and_there, backward_is, free_equality, IsWay, back, backward, put_behind, ◌≡◌, ℕ, ◌+◌, ◌-◌, ◌<◌, ◌≤◌, max, true, List, [], ◌∷◌, ◌++◌, length, take, drop, get_or, ap, sym, ◌∙◌, subst, arith, append_assoc, length-append, take_rest, drop-map, take-append-drop, take_more, drop_more, length-take-le, length-drop, get_or-take, FaceList, is_edge, AreFreelyEqual, PeakedMoves, all_raised, numbers, IsWalk, Insert, VertexName}
+use Rattle.move_lifting.proofs.Common.{spliced, last_entry, LeadsAtPeak, TrackView, GoesOn, last_of, home_and_there, backward_is, free_equality, IsWay, back, backward, put_behind, ◌≡◌, ℕ, ◌+◌, ◌-◌, ◌<◌, ◌≤◌, max, true, List, [], ◌∷◌, ◌++◌, length, take, drop, get_or, ap, sym, ◌∙◌, subst, arith, append_assoc, length-append, common_steps, take_rest, drop-map, take-append-drop, take_more, drop_more, length-take-le, length-drop, get_or-take, FaceList, is_edge, AreFreelyEqual, PeakedMoves, all_raised, numbers, IsWalk, Insert, VertexName}
 use Rattle.move_lifting.proofs.ExpandLemmas.{length-numbers}
 use Rattle.move_lifting.proofs.BackLemmas.{back_more, length-backward, last_joined, last_back, backward-append, way_apart, way_of}
 use Rattle.move_lifting.proofs.InsertLemmas.{spur_in_last, leads_further_on}
@@ -228,29 +228,9 @@ spliced_whole approach there back turn walk n a there_is back_is =
 -- how long the way back is
 pub back_long : (approach back : List VertexName) (n : ℕ)
     → numbers back ≡ backward (last_of (take n (numbers approach))) (drop n (numbers approach)) → length back ≡ length approach - n
-back_long approach back n is =
-    omega (
-      arith,
-      length-numbers back,
-      length-numbers approach,
-      ap (λ (l : List ℕ). length l) is,
-      length-backward (last_of (take n (numbers approach))) (drop n (numbers approach)),
-      length-drop n (numbers approach),
-    )
+back_long approach back n is = grind (arith, common_steps, length-numbers, back, length-backward)
 
 -- how long the whole is
 pub length-turned_whole : (approach turn walk : List ℕ) (n : ℕ) → 0 < length turn
     → length (turned_whole approach turn walk n) + 1 ≡ length approach + (length turn + ((length approach - n) + (length walk - n)))
-length-turned_whole approach turn walk n some =
-    let home : List ℕ = backward (last_of (take n approach)) (drop n approach) in
-    omega (
-      arith,
-      some,
-      length-append approach (drop 1 turn ++ (home ++ drop n walk)),
-      length-append (drop 1 turn) (home ++ drop n walk),
-      length-append home (drop n walk),
-      length-backward (last_of (take n approach)) (drop n approach),
-      length-drop n approach,
-      length-drop 1 turn,
-      length-drop n walk,
-    )
+length-turned_whole approach turn walk n some = grind (arith, common_steps, length-backward)

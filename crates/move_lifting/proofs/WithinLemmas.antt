@@ -1,5 +1,5 @@
 -- What a walk weighs on the way off the cotree, and how great the peaks of its moves are.
-use Rattle.move_lifting.proofs.Common.{OrientedMesh, load_of, StaysWithin, TrackView, GrowsOrShrinks, ◌≡◌, inl, inr, ℕ, suc, ◌+◌, ◌*◌, ◌<◌, ◌≤◌, max, List, [], ◌∷◌, ◌++◌, length, ap, ◌∙◌, arith, length-append, SplitView}
+use Rattle.move_lifting.proofs.Common.{OrientedMesh, load_of, StaysWithin, TrackView, GrowsOrShrinks, ◌≡◌, ℕ, suc, ◌+◌, ◌*◌, ◌<◌, ◌≤◌, max, List, [], ◌∷◌, ◌++◌, length, arith, common_steps, SplitView}
 
 -- what walks weigh that are put together
 pub load-joined : (weight : ℕ → ℕ → ℕ) (front rest : List ℕ) (v : ℕ)
@@ -39,35 +39,4 @@ pub within_put : (s : OrientedMesh) (split : SplitView) (behind v : ℕ) (old ne
     → 0 < length new.walk → length new.list.moves + length new.walk ≤ length old.list.moves + length old.walk + 1
     → new.list.peak ≤ max old.list.peak (length old.walk + behind)
     → StaysWithin s split behind (old.walk ++ v ∷ []) old.list new.walk new.list
-within_put s split behind v old new shape some count peak weight are = (
-  elim shape [
-    | inl grown ↦ omega (arith, ap (load_of weight) grown)
-    | inr shrunk ↦ omega (
-      arith,
-      ap (load_of weight) shrunk.1,
-      load_longer weight new.walk (shrunk.0 ∷ []),
-      load_longer weight old.walk (v ∷ []),
-    )
-  ],
-  omega (arith, peak, darts_weigh weight are.some (old.walk ++ v ∷ []), length-append old.walk (v ∷ [])),
-  elim shape [
-    | inl grown ↦ omega (
-      arith,
-      count,
-      ap (load_of weight) grown,
-      ap (λ (l : List ℕ). length l) grown,
-      length-append old.walk (v ∷ []),
-    )
-    | inr shrunk ↦
-        let long : length old.walk ≡ length new.walk + 1 =
-        ap (λ (l : List ℕ). length l) shrunk.1 ∙ length-append new.walk (shrunk.0 ∷ []) in
-        omega (
-          arith,
-          count,
-          long,
-          ap (load_of weight) shrunk.1,
-          load_grows weight are.some new.walk shrunk.0 some,
-          load_grows weight are.some old.walk v (omega (arith, long)),
-        )
-  ],
-)
+within_put s split behind v old new shape some count peak weight are = grind (arith, common_steps, load_longer, darts_weigh, load_grows)

@@ -1,6 +1,6 @@
 -- What a step on a path of spokes does to the loop of the path, up to spurs: nothing, but a turn across the quad of the last side puts the
 -- loop of that side in.
-use Rattle.move_lifting.proofs.Common.{rotation_system, OrientedMesh, IsOrientedSurface, rotations_of, IsCutSurface, spokes_in_front, signed_loop, IsFreelyPath, HasLoopIn, before, behind, Loops, spoke, root_is, up_is, backward_is, path_list, last_loop_as, last_loops, last_list, SameFreely, free_equality, free_group, IsGroup, sides_cross, loop_in, loop_out, free_spur, tree_ways, IsWay, back, loop_mul, loop_inv, loop_one, PolygonView, place_of, across, AreWaysUp, backward, by_loop, path_loop, put_behind, last_side_loop, IsQuadWheel, upper_side, lower_side, loop_of_path, front_of_last, front_of_across, DownWorth, down_worth, polygon_wheel, spoke_at, AtPlace, at-place, old_way, new_way, IsTurned, is-turned, spur-is, upper_way, lower_way, quad_turned, from_spoke, from_vertex, ◌≡◌, ◌≢◌, ◌⊎◌, inl, inr, ℕ, suc, ◌+◌, ◌-◌, ◌<◌, Bool, true, false, not, List, [], ◌∷◌, ◌++◌, length, take, refl, ap, sym, ◌∙◌, subst, arith, ap₂, take-append_seam, eq-eqb, ne_eqb, if◌then◌else◌, ◌==◌, slice_index, All, is_used, AreFreelyEqual, IsWalk, after_dart, SplitView, IsSplit, in_cotree, is_left}
+use Rattle.move_lifting.proofs.Common.{rotation_system, OrientedMesh, IsOrientedSurface, rotations_of, IsCutSurface, spokes_in_front, signed_loop, IsFreelyPath, HasLoopIn, before, behind, Loops, spoke, root_is, up_is, backward_is, path_list, last_loop_as, last_loops, last_list, SameFreely, free_equality, free_group, IsGroup, sides_cross, loop_in, loop_out, free_spur, tree_ways, IsWay, back, loop_mul, loop_inv, loop_one, PolygonView, place_of, across, AreWaysUp, backward, by_loop, path_loop, put_behind, IsQuadWheel, upper_side, lower_side, loop_of_path, front_of_last, front_of_across, DownWorth, down_worth, polygon_wheel, spoke_at, AtPlace, at-place, old_way, new_way, IsTurned, is-turned, spur-is, quad_turned, from_spoke, from_vertex, ◌≡◌, ◌≢◌, ◌⊎◌, inl, inr, ℕ, suc, ◌+◌, ◌-◌, ◌<◌, Bool, true, false, not, List, [], ◌∷◌, ◌++◌, length, take, refl, ap, sym, ◌∙◌, subst, arith, take-append_seam, eq-eqb, ne_eqb, if◌then◌else◌, ◌==◌, slice_index, All, is_used, AreFreelyEqual, IsWalk, after_dart, SplitView, IsSplit, in_cotree, is_left}
 use Rattle.polygon_cut.proofs.FreeQuadLemmas.{last_loop}
 use Rattle.quad_system.proofs.PushWorthLemmas.{signed_loop as own_loop}
 use Rattle.spoke_paths.specs.PathSteps.{spur_goes}
@@ -11,18 +11,14 @@ use Rattle.move_lifting.proofs.PathLemmas.{ends_at, quad_partner}
 old_is : (rises : Bool) (d n : ℕ) (partner : ℕ → ℕ) (at_vertex : Bool) (a c : ℕ) (before after : List ℕ) → d ≡ n → c ≡ partner a
     → before ++ (old_way rises d at_vertex a c ++ after)
     ≡ (if rises then before ++ lower_side n partner at_vertex a after else before ++ upper_side n partner at_vertex a after)
-old_is true d n partner at_vertex a c before after same e =
-    ap₂ (λ m x. before ++ (lower_way m at_vertex a x ++ after)) same e
-old_is false d n partner at_vertex a c before after same e =
-    ap₂ (λ m x. before ++ (upper_way m at_vertex a x ++ after)) same e
+old_is true d n partner at_vertex a c before after same e = grind (arith, before)
+old_is false d n partner at_vertex a c before after same e = grind (arith, before)
 
 new_is : (rises : Bool) (d n : ℕ) (partner : ℕ → ℕ) (at_vertex : Bool) (a c : ℕ) (before after : List ℕ) → d ≡ n → c ≡ partner a
     → before ++ (new_way rises d at_vertex a c ++ after)
     ≡ (if rises then before ++ upper_side n partner at_vertex a after else before ++ lower_side n partner at_vertex a after)
-new_is true d n partner at_vertex a c before after same e =
-    ap₂ (λ m x. before ++ (upper_way m at_vertex a x ++ after)) same e
-new_is false d n partner at_vertex a c before after same e =
-    ap₂ (λ m x. before ++ (lower_way m at_vertex a x ++ after)) same e
+new_is true d n partner at_vertex a c before after same e = grind (arith, before)
+new_is false d n partner at_vertex a c before after same e = grind (arith, before)
 
 -- the spokes of a way that the loop goes in behind
 own_front : (last a c k : ℕ) (at_vertex : Bool) → a ≡ last → c ≡ k
@@ -34,8 +30,7 @@ own_front last a c k false own other = rw (eq-eqb a last own) (ap (λ n. n ∷ [
 other_front : (last a c k : ℕ) (at_vertex : Bool) → a ≢ last → a ≡ k
     → (if a == last then (if at_vertex then [] else (c + 1) ∷ []) else (if at_vertex then a ∷ (a + 1) ∷ [] else last ∷ []))
     ≡ front_of_across last k at_vertex
-other_front last a c k true apart other =
-    rw (ne_eqb a last apart) (ap (λ n. n ∷ (n + 1) ∷ []) other ∙ ap (λ n. k ∷ n ∷ []) (let e : k + 1 ≡ suc k = omega arith in e))
+other_front last a c k true apart other = grind arith
 other_front last a c k false apart other = rw (ne_eqb a last apart) refl
 
 -- what a turn does to the loop of the spokes
@@ -225,9 +220,7 @@ module _ {s : OrientedMesh} {split : SplitView} {polygon : PolygonView} (is_cut 
   other_list : (rises : Bool) (ways : ℕ → List ℕ) → AreWaysUp s split t.parents.root ways
       → (other_loop rises).rest ≡ signed_loop s polygon t.parents.root ways rises
   unfolding other_loop
-  other_list true ways h =
-      ap (back t.parents.root) (last_list s split o t polygon cut some ways h)
-      ∙ sym (backward_is t.parents.root (last_side_loop s polygon t.parents.root ways))
+  other_list true ways h = grind (arith, back, last_list, backward_is)
   other_list false ways h = last_list s split o t polygon cut some ways h
 
   pub loop_lists : (rises : Bool) (path front next : List ℕ)

@@ -79,10 +79,7 @@ pub follow-requires-clause-looping : goal.follow-requires-clause-looping
 follow-requires-clause-looping c = record { cut = c.requires.cut; behind = c.requires.behind }
 
 pub follow-requires-clause-few : goal.follow-requires-clause-few
-follow-requires-clause-few c =
-    omega (arith, c.requires.few, c.loop-step.invariant.few, ap (λ (l : List ℕ). length l) c.deref.ensures.value)
+follow-requires-clause-few c = grind arith
 
 pub returns-then-is_one_vertex-clause-nothing : goal.returns-then-is_one_vertex-clause-nothing
-returns-then-is_one_vertex-clause-nothing c =
-    one_left c.loop-step.track.walk c.args.track.walk (c.is_one_vertex.ensures.0 c.if-is_one_vertex.true)
-    c.loop-step.invariant.so_far.starts
+returns-then-is_one_vertex-clause-nothing c = grind (arith, one_left)

@@ -1,6 +1,6 @@
-use Rattle.move_lifting.proofs.Common.{spokes_in_front, IsFreelyPath, HasLoopIn, TrackView, MOST_LIFTED_DARTS, AreShortAround, some-turn, after_path_step, PathStep, ◌≡◌, ◌⊎◌, inl, inr, ℕ, ◌+◌, ◌-◌, ◌*◌, ◌<◌, ◌≤◌, List, length, ap, sym, ◌∙◌, subst, arith, IfOk-weaker, All, slice_index, IsQuad}
+use Rattle.move_lifting.proofs.Common.{spokes_in_front, IsFreelyPath, HasLoopIn, TrackView, MOST_LIFTED_DARTS, AreShortAround, some-turn, after_path_step, PathStep, ◌≡◌, ◌⊎◌, ℕ, ◌+◌, ◌-◌, ◌*◌, ◌<◌, ◌≤◌, List, length, ap, sym, ◌∙◌, subst, arith, IfOk-weaker, All, slice_index, IsQuad}
 use Rattle.std.proofs.Common.{Some}
-use Rattle.move_lifting.proofs.ContractLemmas.{spur_follows, turn_follows, loop_starts, loop_follows, quad_below, front_below, both_ok}
+use Rattle.move_lifting.proofs.ContractLemmas.{spur_follows, turn_follows, loop_starts, loop_follows, front_below, both_ok}
 use Rattle.move_lifting.proofs.ShortStepLemmas.{front_short}
 use Rattle.move_lifting.proofs.contracting.follow.Goals as goal
 use Rattle.move_lifting.proofs.contracting.follow.Goals.{In-Turn, After-deref}
@@ -35,8 +35,7 @@ turn c =
 
 below : (c : In-Turn) → (c.in-Turn.side < c.args.looping.now.cut.now.polygon.now.degree)
     × (c.in-Turn.partner < c.args.looping.now.cut.now.polygon.now.degree)
-below c =
-    quad_below c.requires.looping.cut.surface (turn c).1
+below c = grind (arith, turn)
 
 pub front_of_loop-requires-clause-within : goal.front_of_loop-requires-clause-within
 front_of_loop-requires-clause-within c = omega (arith, (turn (goal.at.front_of_loop-requires-clause-within c).In-Turn).0)
@@ -53,17 +52,13 @@ front_of_loop-requires-clause-partner c =
 front_is : (c : After-deref)
     → c.deref.result.now ≡ spokes_in_front (c.args.looping.now.cut.now.polygon.now.degree - 1) c.args.path.now c.in-Turn.at c.in-Turn.side
     c.in-Turn.partner
-front_is c =
-    c.deref.ensures.value ∙ c.in_ok-front.ensures
-    ∙ ap (λ n. spokes_in_front (n - 1) c.args.path.now c.in-Turn.at c.in-Turn.side c.in-Turn.partner) c.degree-last.ensures.degree
+front_is c = grind arith
 
 -- the quad is at the last side
 which : (c : After-deref)
     → (c.in-Turn.side ≡ c.args.looping.now.cut.now.polygon.now.degree - 1)
     ⊎ (c.in-Turn.partner ≡ c.args.looping.now.cut.now.polygon.now.degree - 1)
-which c =
-    let last_is = ap (λ n. n - 1) c.degree-last.ensures.degree in
-    elim c.else-side-last.either [ inl other ↦ inr (other.1 ∙ last_is) | inr own ↦ inl (own ∙ last_is) ]
+which c = grind arith
 
 -- the ways round them are short
 around : (c : After-deref) (pairs : ℕ) → length c.args.path.now ≤ 2 * pairs

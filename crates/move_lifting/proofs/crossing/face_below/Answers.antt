@@ -1,4 +1,4 @@
-use Rattle.move_lifting.proofs.Common.{edge_of, rotations_of, IsDartFrom, GoesAlong, IsFaceBelow, FaceStep, ◌≡◌, ℕ, false, sym, ap, ◌∙◌, subst, Option, option_map, MatchOption, Some, None, IsSide, side_number, FaceName, below_edge, in_cotree}
+use Rattle.move_lifting.proofs.Common.{edge_of, rotations_of, IsDartFrom, GoesAlong, IsFaceBelow, FaceStep, arith, ◌≡◌, ℕ, false, sym, ap, ◌∙◌, subst, Option, option_map, MatchOption, Some, None, IsSide, side_number, FaceName, below_edge, in_cotree}
 use Rattle.move_lifting.proofs.CrossingLemmas.{below_step, not_below}
 use Rattle.move_lifting.proofs.crossing.face_below.Goals as goal
 use Rattle.move_lifting.proofs.crossing.face_below.Goals.{After-unwrap-dart}
@@ -6,8 +6,7 @@ use Rattle.move_lifting.proofs.crossing.face_below.Goals.{After-unwrap-dart}
 -- the dart that is found leads from the one vertex to the other
 from : (c : After-unwrap-dart)
     → IsDartFrom (rotations_of c.args.surface.now) c.args.from.0 c.args.to.0 c.unwrap-dart.result.0
-from c =
-    rw c.unwrap-dart.ensures at c.dart_between.ensures.leads
+from c = grind arith
 
 pub returns-in_err-face : goal.returns-in_err-face
 returns-in_err-face c =

@@ -14,8 +14,7 @@ led c =
     c.in_ok-track.ensures.led.goes
 
 pub returns-clause-leads : goal.returns-clause-leads
-returns-clause-leads c =
-    IfOk-weaker c.finish.result _ _ (λ (x : Lifted) e. rw e (led (goal.at.returns-clause-leads c).In_ok-track)) c.finish.ensures
+returns-clause-leads c = grind (arith, led)
 
 pub returns-clause-off_cotree : goal.returns-clause-off_cotree
 returns-clause-off_cotree c =
@@ -37,9 +36,7 @@ short c =
     c.in_ok-track.ensures.led)
 
 pub returns-clause-long : goal.returns-clause-long
-returns-clause-long c =
-    IfOk-weaker c.finish.result _ _
-    (λ (x : Lifted) e. rw e (omega (arith, (short (goal.at.returns-clause-long c).In_ok-track).long))) c.finish.ensures
+returns-clause-long c = grind (arith, short)
 
 pub returns-clause-low : goal.returns-clause-low
 returns-clause-low c =

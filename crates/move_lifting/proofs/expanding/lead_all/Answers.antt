@@ -1,4 +1,4 @@
-use Rattle.move_lifting.proofs.Common.{TrackView, IsOffCotree, ◌≡◌, ℕ, ◌+◌, ◌-◌, ◌<◌, List, length, get_or, ap, sym, ◌∙◌, subst, arith, get_or-map, is_edge, numbers, VertexName}
+use Rattle.move_lifting.proofs.Common.{TrackView, IsOffCotree, ◌≡◌, ℕ, ◌+◌, ◌-◌, ◌<◌, List, length, ap, sym, subst, arith, common_steps, get_or-map, numbers, VertexName}
 use Rattle.move_lifting.proofs.ExpandLemmas.{edge_to, led_first, led_more, led_all, length-numbers}
 use Rattle.move_lifting.proofs.expanding.lead_all.Goals as goal
 
@@ -17,12 +17,7 @@ loop-place-init c =
     }
 
 pub lead_on-requires-clause-edge : goal.lead_on-requires-clause-edge
-lead_on-requires-clause-edge c =
-    let none : VertexName = record { 0 = 0 } in
-    ap (λ (x : ℕ). is_edge c.args.on.now.surface.now.mesh x (get_or c.args.walk.now c.loop-place.place none).0)
-    c.loop-place.invariant.led.last
-    ∙ edge_to c.args.on.now.surface.now.mesh c.args.walk.now c.requires.walk c.loop-place.place (omega (arith, c.loop-place.auto.place))
-    (omega (arith, c.loop-place-test.true)) none
+lead_on-requires-clause-edge c = grind (arith, edge_to)
 
 pub loop-place-preserved : goal.loop-place-preserved
 loop-place-preserved c =
@@ -41,6 +36,4 @@ loop-place-preserved c =
     }
 
 pub returns-clause-led : goal.returns-clause-led
-returns-clause-led c =
-    led_all c.loop-place.invariant.led
-    (omega (arith, c.loop-place-test.false, c.loop-place.auto.place-end, length-numbers c.args.walk.now, c.requires.walk.starts))
+returns-clause-led c = grind (arith, common_steps, led_all, length-numbers)

@@ -1,4 +1,4 @@
-use Rattle.move_lifting.proofs.Common.{darts_of, edge_of, rotations_of, IsDartFrom, IsFaceBelow, IsCrossed, TrackView, last_of, ◌≡◌, ℕ, ◌+◌, ◌≤◌, false, List, [], ◌∷◌, ◌++◌, length, sym, ap, ◌∙◌, subst, arith, nil_from_length, FaceList, face_at, is_edge, numbers, VertexName, in_cotree}
+use Rattle.move_lifting.proofs.Common.{darts_of, edge_of, rotations_of, IsDartFrom, IsFaceBelow, IsCrossed, TrackView, last_of, ◌≡◌, ℕ, ◌+◌, ◌≤◌, false, List, [], ◌∷◌, ◌++◌, length, sym, ap, ◌∙◌, subst, arith, common_steps, nil_from_length, FaceList, face_at, numbers, VertexName, in_cotree}
 use Rattle.move_lifting.proofs.ExpandLemmas.{under_way, all_come, one_pending, length-numbers, room_along, room_across, put_on_way, cross_on_way, all_led, rest_turned_to}
 use Rattle.move_lifting.proofs.expanding.lead_on.Goals as goal
 use Rattle.move_lifting.proofs.expanding.lead_on.Goals.{in-Some-face_below+in_ok-cross-in-Some-face_below, in-None+in_ok-put-in-None, In_default, After-len}
@@ -31,18 +31,13 @@ pub returns-in_default-clause-off_cotree : goal.returns-in_default-clause-off_co
 returns-in_default-clause-off_cotree c = c.loop-step.invariant.under.off_cotree
 
 pub returns-in_default-clause-long : goal.returns-in_default-clause-long
-returns-in_default-clause-long c =
-    omega (arith, c.loop-step.invariant.under.long, c.darts-step-end.ensures.count, c.loop-step-test.true)
+returns-in_default-clause-long c = grind arith
 
 pub returns-in_default-clause-led : goal.returns-in_default-clause-led
-returns-in_default-clause-led c =
-    all_led c.loop-step.invariant.under (ap numbers (none (goal.at.returns-in_default-clause-led c).In_default))
+returns-in_default-clause-led c = grind (arith, common_steps, all_led, none)
 
 pub face_below-requires-clause-edge : goal.face_below-requires-clause-edge
-face_below-requires-clause-edge c =
-    let popped = one_pending c.loop-step.pending.items c.pop.new.self.items c.in-Some.next c.in-Some.ensures.items in
-    ap (λ (x : ℕ). is_edge c.args.on.now.surface.now.mesh x c.in-Some.next.0) c.last.ensures.vertex
-    ∙ (rest_turned_to (numbers c.pop.new.self.items) c.in-Some.next.0 c.loop-step.invariant.under popped).0.0
+face_below-requires-clause-edge c = grind (arith, common_steps, one_pending, rest_turned_to)
 
 pub cross-requires-clause-room : goal.cross-requires-clause-room
 cross-requires-clause-room c =

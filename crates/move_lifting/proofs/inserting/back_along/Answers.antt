@@ -1,4 +1,4 @@
-use Rattle.move_lifting.proofs.Common.{backward, ◌-◌, List, length, drop, get_or, sym, ◌∙◌, arith, get_or-map, take_all, length-drop, numbers, VertexName}
+use Rattle.move_lifting.proofs.Common.{◌-◌, List, length, sym, arith, common_steps, get_or-map, VertexName}
 use Rattle.move_lifting.proofs.BackLemmas.{back_so_far, one_longer, length-backward}
 use Rattle.move_lifting.proofs.ExpandLemmas.{length-numbers}
 use Rattle.move_lifting.proofs.inserting.back_along.Goals as goal
@@ -17,16 +17,4 @@ loop-done-preserved c =
     }
 
 pub returns : goal.returns
-returns c =
-    let walk : List _ = numbers c.args.walk.now in
-    let back : List _ = backward (get_or walk 0 0) (drop 1 walk) in
-    c.loop-done.invariant.so_far
-    ∙ take_all (length c.loop-done.back.items) back
-    (omega (
-      arith,
-      length-backward (get_or walk 0 0) (drop 1 walk),
-      length-drop 1 walk,
-      length-numbers c.args.walk.now,
-      c.loop-done.invariant.long,
-      c.loop-done-test.false,
-    ))
+returns c = grind (arith, common_steps, length-backward, length-numbers)

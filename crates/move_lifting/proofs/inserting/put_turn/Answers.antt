@@ -1,4 +1,4 @@
-use Rattle.move_lifting.proofs.Common.{spliced, LeadsAtPeak, Pooled, last_of, refl, ◌<◌, ◌≡◌, ◌≢◌, ℕ, ◌+◌, ◌-◌, ◌++◌, List, length, drop, take, get_or, ap, sym, ◌∙◌, subst, arith, IfOk-weaker, PeakedMoves, all_raised, numbers}
+use Rattle.move_lifting.proofs.Common.{LeadsAtPeak, Pooled, last_of, ◌<◌, ◌≡◌, ◌≢◌, ℕ, ◌+◌, ◌-◌, ◌++◌, List, length, take, get_or, ap, sym, ◌∙◌, subst, arith, IfOk-weaker, PeakedMoves, all_raised, numbers}
 use Rattle.move_lifting.proofs.ExpandLemmas.{length-numbers}
 use Rattle.move_lifting.proofs.BackPeakLemmas.{turn_rises}
 use Rattle.move_lifting.proofs.TurnLemmas.{BeginAlike, turned_whole, spliced_whole, back_long, length-turned_whole, turn_goes, turn_freely, turn_last}
@@ -46,32 +46,17 @@ put_in-requires-clause-spare c =
 
 -- the walk before is that of the track
 was : (c : After-put_in) → c.reserve.new.self.walk ≡ c.args.track.walk
-was c =
-    ap (λ (p : Pooled). p.walk) c.in_ok-reserve.ensures
-    ∙ ap (λ (p : Pooled). p.walk) (c.common_start-common.ensures.kept ∙ c.into_laid-laid.ensures.walk)
+was c = grind arith
 
 -- the approach and the walk begin alike
 alike : (c : After-put_in) → BeginAlike (numbers c.args.approach.now) c.args.track.walk c.common_start-common.result
-alike c = record {
-  some = c.common_start-common.ensures.some;
-  in_approach = omega (arith, c.common_start-common.ensures.in_approach, length-numbers c.args.approach.now);
-  in_walk = omega (arith, c.common_start-common.ensures.in_walk, ap (λ (p : Pooled). length p.walk) c.into_laid-laid.ensures.walk);
-  same = c.common_start-common.ensures.same
-      ∙ ap (λ (p : Pooled). take c.common_start-common.result p.walk) c.into_laid-laid.ensures.walk;
-}
+alike c = grind (arith, length-numbers)
 
 -- the whole goes there, round, back, and on
 is_whole : (c : After-put_in)
     → c.put_in.new.self.walk
     ≡ turned_whole (numbers c.args.approach.now) c.args.turn.now.walk c.args.track.walk c.common_start-common.result
-is_whole c =
-    let approach = c.args.approach.now in
-    let n : ℕ = c.common_start-common.result in
-    let there = take (length approach - n) (drop n approach) in
-    c.put_in.ensures.walk
-    ∙ ap (λ (l : List ℕ). spliced l n (numbers there ++ (drop 1 c.args.turn.now.walk ++ numbers c.deref.result.now))) (was c)
-    ∙ spliced_whole approach there c.deref.result.now c.args.turn.now.walk c.args.track.walk n (alike c) refl
-    (ap numbers c.deref.ensures.value ∙ c.in_ok-back.ensures)
+is_whole c = grind (arith, was, spliced_whole, alike)
 
 -- it has room
 roomy : (c : After-put_in) → length c.put_in.new.self.walk + c.args.behind < 2147483648
@@ -138,9 +123,7 @@ returns-clause-last c =
     c.reduced.ensures.last
 
 pub returns-clause-few : goal.returns-clause-few
-returns-clause-few c =
-    IfOk-weaker c.reduced.result _ _
-    (λ track few. omega (arith, few, roomy (goal.at.returns-clause-few c).After-put_in)) c.reduced.ensures.few
+returns-clause-few c = grind (arith, roomy)
 
 pub returns-clause-peak : goal.returns-clause-peak
 returns-clause-peak c =

@@ -1,4 +1,4 @@
-use Rattle.move_lifting.proofs.Common.{darts_of, origin_of, IsStepOf, LeadsAtPeak, IsLedOn, IsLastLoop, Lifted, side_at, last_side, ◌≡◌, ℕ, ◌-◌, ◌<◌, ◌∷◌, ◌++◌, [], List, length, not, get_or, refl, sym, ap, ◌∙◌, subst, arith, append-nil, IfOk-weaker, FaceList, face_at, PeakedMoves, apply, numbers, darts, Move, Across, VertexName}
+use Rattle.move_lifting.proofs.Common.{darts_of, origin_of, LeadsAtPeak, IsLedOn, IsLastLoop, Lifted, side_at, last_side, ◌≡◌, ℕ, ◌-◌, ◌<◌, ◌∷◌, ◌++◌, [], List, length, not, refl, sym, ap, ◌∙◌, subst, arith, common_steps, append-nil, IfOk-weaker, PeakedMoves, apply, numbers, darts, Move, Across, VertexName}
 use Rattle.move_lifting.specs.declared.cut.Cut.{Cut}
 use Rattle.move_lifting.proofs.BoundLemmas.{IsShort, short_within}
 use Rattle.move_lifting.proofs.ExpandLemmas.{length-numbers}
@@ -12,23 +12,13 @@ last_is : (cut : Cut) (side count : ℕ) → side ≡ side_at cut.polygon.now (c
 last_is cut side count e f = e ∙ ap (λ (n : ℕ). side_at cut.polygon.now (n - 1)) f
 
 below : (c : After-origin) → c.side-dart.result.0 < darts_of c.args.cut.now.on.surface.now
-below c =
-    let cut : Cut = c.args.cut.now in
-    subst (λ (x : ℕ). x < darts_of cut.on.surface.now)
-    (sym (last_is cut c.side-dart.result.0 c.degree.result c.side-dart.ensures c.degree.ensures.degree))
-    (last_below cut.on.surface.now cut.on.split.now cut.polygon.now c.requires.surface.cut c.requires.surface.some)
+below c = grind (arith, last_is, last_below)
 
 pub all_round-requires-clause-step : goal.all_round-requires-clause-step
-all_round-requires-clause-step c =
-    subst (λ (m : FaceList). IsStepOf m c.step_from-step.result) (sym c.faces.ensures.mesh)
-    (step_within (below c) c.step_from-step.ensures.step)
+all_round-requires-clause-step c = grind (arith, step_within, below)
 
 pub all_round-requires-clause-start : goal.all_round-requires-clause-start
-all_round-requires-clause-start c =
-    let step = c.step_from-step.result in
-    subst (λ (m : FaceList). c.origin.result.0 ≡ get_or (face_at m step.face.0) step.corner 0) (sym c.faces.ensures.mesh)
-    (c.origin.ensures
-    ∙ step_starts (below c) c.step_from-step.ensures.step)
+all_round-requires-clause-start c = grind (arith, step_starts, below)
 
 -- the walk goes all round the root face
 all_round : (c : In_ok-around)
@@ -46,13 +36,10 @@ overflow_cast-len c =
     omega (arith, round.long, round.is_walk.starts, length-numbers c.in_ok-around.around.items, c.len.ensures, c.requires.on.sides)
 
 pub overflow_sub-len : goal.overflow_sub-len
-overflow_sub-len c =
-    let round = all_round (goal.at.overflow_sub-len c).In_ok-around in
-    omega (arith, round.long, round.is_walk.starts, length-numbers c.in_ok-around.around.items, c.len.ensures, c.requires.on.sides)
+overflow_sub-len c = grind (arith, common_steps, all_round, length-numbers)
 
 pub lead_all-requires-clause-walk : goal.lead_all-requires-clause-walk
-lead_all-requires-clause-walk c =
-    rw c.deref.ensures.value (all_round (goal.at.lead_all-requires-clause-walk c).In_ok-around).is_walk
+lead_all-requires-clause-walk c = grind (arith, all_round)
 
 pub lead_all-requires-clause-few : goal.lead_all-requires-clause-few
 lead_all-requires-clause-few c =

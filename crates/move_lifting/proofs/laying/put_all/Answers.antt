@@ -1,13 +1,9 @@
-use Rattle.move_lifting.proofs.Common.{◌++◌, subst, List, arith, take_all, AreFreelyEqual, numbers, VertexName}
+use Rattle.move_lifting.proofs.Common.{◌++◌, subst, List, arith, common_steps, take_all, AreFreelyEqual, numbers, VertexName}
 use Rattle.move_lifting.proofs.LayLemmas.{laid_more, laid_none}
 use Rattle.move_lifting.proofs.laying.put_all.Goals as goal
 
 pub loop-vertex-init : goal.loop-vertex-init
-loop-vertex-init c = record {
-  some = c.requires.some;
-  no_spur = c.requires.no_spur;
-  freely = λ mesh. laid_none mesh c.args.walk.now.items c.args.vertices.now;
-}
+loop-vertex-init c = grind (arith, common_steps, laid_none)
 
 pub loop-vertex-preserved : goal.loop-vertex-preserved
 loop-vertex-preserved c = record {

@@ -1,4 +1,4 @@
-use Rattle.move_lifting.proofs.Common.{LeadsAtPeak, IsRemoval, Lifted, ◌≡◌, List, [], ◌++◌, length, ℕ, sym, ap, ◌∙◌, subst, arith, IfOk-weaker, All, list_keeps_ends, FaceList, PeakedMoves, numbers}
+use Rattle.move_lifting.proofs.Common.{LeadsAtPeak, IsRemoval, Lifted, ◌≡◌, [], ℕ, ap, ◌∙◌, subst, arith, IfOk-weaker, All, list_keeps_ends, FaceList, numbers}
 use Rattle.move_lifting.proofs.MoveLemmas.{removals_peak}
 use Rattle.move_lifting.proofs.lifted.reduce_free.Goals as goal
 use Rattle.move_lifting.proofs.lifted.reduce_free.Goals.{In_ok-track}
@@ -13,27 +13,17 @@ leads c mesh =
     (c.in_ok-track.ensures.leads mesh)
 
 removals : (c : In_ok-track) → All IsRemoval c.in_ok-track.track.list.moves
-removals c =
-    let more = c.in_ok-track.ensures.removals in
-    subst (All IsRemoval) (sym (more.1 ∙ ap (λ (l : PeakedMoves). l.moves ++ more.0) c.new-moves.ensures)) more.2
+removals c = grind arith
 
 pub reduce_all-requires-clause-room : goal.reduce_all-requires-clause-room
-reduce_all-requires-clause-room c =
-    omega (
-      arith,
-      length-numbers c.deref.result.now,
-      ap (λ (l : List ℕ). length l) (ap numbers c.deref.ensures.value ∙ c.in_ok-vertices.ensures),
-      c.darts.ensures.count,
-      c.darts.ensures.few,
-    )
+reduce_all-requires-clause-room c = grind (arith, length-numbers)
 
 pub returns-clause-leads : goal.returns-clause-leads
 returns-clause-leads c =
     IfOk-weaker c.finish.result _ _ (λ (x : Lifted) e. rw e (leads (goal.at.returns-clause-leads c).In_ok-track)) c.finish.ensures
 
 pub returns-clause-removals : goal.returns-clause-removals
-returns-clause-removals c =
-    IfOk-weaker c.finish.result _ _ (λ (x : Lifted) e. rw e (removals (goal.at.returns-clause-removals c).In_ok-track)) c.finish.ensures
+returns-clause-removals c = grind (arith, removals)
 
 pub returns-clause-peak : goal.returns-clause-peak
 returns-clause-peak c =

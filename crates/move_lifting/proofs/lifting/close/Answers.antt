@@ -1,4 +1,4 @@
-use Rattle.move_lifting.proofs.Common.{LeadsAtPeak, ◌++◌, ℕ, List, length, ap, drop, sym, ◌∙◌, subst, arith, length-drop, IfOk-weaker, PeakedMoves, numbers, VertexName}
+use Rattle.move_lifting.proofs.Common.{LeadsAtPeak, ◌++◌, List, drop, sym, ◌∙◌, subst, arith, length-drop, IfOk-weaker, numbers, VertexName}
 use Rattle.move_lifting.proofs.ContractLemmas.{both_ok}
 use Rattle.move_lifting.proofs.ExpandLemmas.{length-numbers}
 use Rattle.move_lifting.proofs.LiftLemmas.{closed_from}
@@ -17,50 +17,10 @@ returns-clause-leads c =
     c.reduce_all.ensures.leads
 
 pub returns-clause-long : goal.returns-clause-long
-returns-clause-long c =
-    IfOk-weaker c.reduce_all.result _ _
-    (λ track few. omega (
-      arith,
-      few,
-      ap (λ (l : List VertexName). length l) c.deref.ensures.value,
-      c.in_ok-append_back.ensures.long,
-      length-numbers c.in_ok-closed.closed.items,
-      ap (λ (l : List ℕ). length l) c.in_ok-closed.ensures,
-      c.darts.ensures.starts,
-    )) c.reduce_all.ensures.few
+returns-clause-long c = grind (arith, length-numbers)
 
 pub returns-clause-peak : goal.returns-clause-peak
-returns-clause-peak c =
-    IfOk-weaker c.reduce_all.result _ _
-    (λ track low. omega (
-      arith,
-      low,
-      c.in_ok-append_back.ensures.peak,
-      ap (λ (l : PeakedMoves). l.peak) c.new-moves.ensures,
-      c.darts.ensures.count,
-      c.darts-behind.ensures.count,
-      ap (λ (l : List VertexName). length l) c.deref.ensures.value,
-      c.in_ok-append_back.ensures.long,
-      length-numbers c.deref.result.now,
-      length-numbers c.in_ok-closed.closed.items,
-      ap (λ (l : List ℕ). length l) c.in_ok-closed.ensures,
-      c.darts.ensures.starts,
-    )) c.reduce_all.ensures.peak
+returns-clause-peak c = grind (arith, length-numbers)
 
 pub returns-clause-count : goal.returns-clause-count
-returns-clause-count c =
-    both_ok c.reduce_all.result _ _ _
-    (λ track count some. omega (
-      arith,
-      count,
-      some,
-      c.in_ok-append_back.ensures.count,
-      ap (λ (l : PeakedMoves). length l.moves) c.new-moves.ensures,
-      c.darts.ensures.count,
-      c.darts-behind.ensures.count,
-      ap (λ (l : List VertexName). length l) c.deref.ensures.value,
-      c.in_ok-append_back.ensures.long,
-      length-numbers c.in_ok-closed.closed.items,
-      ap (λ (l : List ℕ). length l) c.in_ok-closed.ensures,
-      c.darts.ensures.starts,
-    )) c.reduce_all.ensures.count c.reduce_all.ensures.some
+returns-clause-count c = grind (arith, both_ok, length-numbers)

@@ -1,4 +1,4 @@
-use Rattle.move_lifting.proofs.Common.{places_within, HaveFewerDarts, fewer_darts, left_together, left_apart, left_leads, darts_of, HasLowPeak, IsShortList, LeadsAtPeak, MOST_LIFTED_DARTS, ◌≡◌, ℕ, ◌+◌, ◌*◌, ◌≤◌, length, sym, ap, subst, arith, mul-le-mul_right, length-map, FaceList, Homotopic, PeakedMoves, raised, darts, AreWalkPair}
+use Rattle.move_lifting.proofs.Common.{places_within, HaveFewerDarts, fewer_darts, left_together, left_apart, left_leads, darts_of, HasLowPeak, IsShortList, LeadsAtPeak, ◌≡◌, ℕ, ◌+◌, ◌*◌, ◌≤◌, length, sym, ap, subst, arith, mul-le-mul_right, common_steps, length-map, FaceList, Homotopic, PeakedMoves, raised, darts, AreWalkPair}
 use Rattle.move_lifting.proofs.BoundLemmas.{three_darts, low_around, low_most}
 use Rattle.move_lifting.proofs.lifting.lift.Goals as goal
 use Rattle.move_lifting.proofs.lifting.lift.Goals.{In_ok-second, In-Some}
@@ -12,10 +12,7 @@ together c =
 
 fewer : (c : In_ok-second)
     → HaveFewerDarts c.args.first.now c.args.second.now c.in_ok-first.first c.in_ok-second.second c.of-common.result
-fewer c =
-    fewer_darts c.args.first.now c.args.second.now c.in_ok-first.first c.in_ok-second.second c.of-common.result
-    c.requires.first.starts c.requires.second.starts c.of-common.ensures
-    (record { near_is = c.in_ok-first.ensures; far_is = c.in_ok-second.ensures })
+fewer c = grind (arith, common_steps, fewer_darts)
 
 pub lift_between-requires-clause-walks : goal.lift_between-requires-clause-walks
 lift_between-requires-clause-walks c = together (goal.at.lift_between-requires-clause-walks c).In_ok-second
@@ -23,13 +20,11 @@ lift_between-requires-clause-walks c = together (goal.at.lift_between-requires-c
 -- the list between leads from the one to the other, and its peak is low
 leads : (c : In-Some)
     → LeadsAtPeak c.args.surface.now.mesh c.in_ok-first.first c.in-Some.list c.in_ok-second.second
-leads c =
-    rw c.in-Some.is at c.in_ok-list.ensures.list
+leads c = grind arith
 
 low : (c : In-Some)
     → HasLowPeak (darts_of c.args.surface.now) (darts c.in_ok-first.first + darts c.in_ok-second.second) c.in-Some.list
-low c =
-    rw c.in-Some.is at c.in_ok-list.ensures.low
+low c = grind arith
 
 pub put_back-requires-clause-places : goal.put_back-requires-clause-places
 put_back-requires-clause-places c =
@@ -40,13 +35,7 @@ put_back-requires-clause-places c =
 
 -- the peak of the list between is low, and few darts stand around
 pub put_back-requires-clause-room : goal.put_back-requires-clause-room
-put_back-requires-clause-room c =
-    let n : ℕ = darts_of c.args.surface.now in
-    let near : ℕ = darts c.in_ok-first.first + darts c.in_ok-second.second in
-    let at = goal.at.put_back-requires-clause-room c in
-    let fewer = fewer at.In_ok-second in
-    let few : near ≤ MOST_LIFTED_DARTS = omega (arith, fewer.in_near, fewer.in_far, c.requires.few) in
-    omega (arith, low_most n near c.in-Some.list.peak c.requires.sides few (low at.In-Some), fewer.in_near, c.requires.few)
+put_back-requires-clause-room c = grind (arith, fewer, low_most, low)
 
 pub returns-in-Some-clause-list : goal.returns-in-Some-clause-list
 returns-in-Some-clause-list c =
@@ -99,5 +88,4 @@ returns-in-Some-clause-short c sphere =
     )
 
 pub returns-clause-short : goal.returns-clause-short
-returns-clause-short c sphere =
-    rw c.in-None.is at (c.in_ok-list.ensures.short sphere)
+returns-clause-short c sphere = grind arith

@@ -1,4 +1,4 @@
-use Rattle.move_lifting.proofs.Common.{darts_of, IsLedFrom, IsCutSurface, HasLowPeak, IsLedOn, GoesOn, TrackView, spokes_along, PathLeads, ◌≡◌, ℕ, ◌+◌, ◌*◌, ◌≤◌, true, List, [], length, drop, sym, ap, ◌∙◌, subst, arith, both_ways, length-drop, PeakedMoves, numbers, darts}
+use Rattle.move_lifting.proofs.Common.{darts_of, IsLedFrom, IsCutSurface, HasLowPeak, IsLedOn, GoesOn, TrackView, spokes_along, PathLeads, ◌≡◌, ℕ, ◌+◌, ◌*◌, ◌≤◌, true, List, [], length, drop, sym, ap, ◌∙◌, subst, arith, both_ways, common_steps, length-drop, PeakedMoves, numbers, darts}
 use Rattle.move_lifting.proofs.BoundLemmas.{IsShort, short_walk, three_darts, is_few, is_low}
 use Rattle.move_lifting.proofs.ExpandLemmas.{length-numbers}
 use Rattle.move_lifting.proofs.LiftLemmas.{IsClosed, closed_is, IsLedOff, off_cotree, second_left, second_stays, second_there, homotopic_leaves_nothing, steps_to_nothing, begun_freely}
@@ -33,10 +33,7 @@ pub lead_in_passes-requires-clause-led : goal.lead_in_passes-requires-clause-led
 lead_in_passes-requires-clause-led c = led (goal.at.lead_in_passes-requires-clause-led c).In_ok-closed
 
 pub returns-then-len-eq1-clause-list : goal.returns-then-len-eq1-clause-list
-returns-then-len-eq1-clause-list c =
-    second_there (numbers c.in_ok-closed.closed.items) (closed (goal.at.returns-then-len-eq1-clause-list c).In_ok-closed)
-    (omega (arith, length-numbers c.in_ok-closed.closed.items, c.len.ensures, c.if-len-eq1.true, c.in_ok-closed.closed.ok.0))
-    c.requires.walks.second_walk.starts
+returns-then-len-eq1-clause-list c = grind (arith, second_there, closed, length-numbers)
 
 pub of-requires-clause-walk : goal.of-requires-clause-walk
 of-requires-clause-walk c =
@@ -60,20 +57,13 @@ returns-then-degree-eq0-clause-list c =
 
 -- the polygon is cut from the surface, and has sides
 is_cut : (c : In_ok-reduction) → IsCutSurface c.args.on.now.surface.now c.args.on.now.split.now c.args.polygon.now
-is_cut c = record {
-  valid = c.requires.valid;
-  tree = c.requires.on.split;
-  cut = c.requires.cut;
-  some = omega (arith, c.degree.ensures.degree, c.if-degree-eq0.false);
-}
+is_cut c = grind arith
 
 -- the steps of the reduction go round the wheel that it has
 round_wheel : (c : In_ok-reduction)
     → PathLeads c.in_ok-reduction.reduction.wheel c.in_ok-reduction.reduction.spokes.items c.in_ok-reduction.reduction.steps.items
     c.in_ok-reduction.ensures.reduction.end
-round_wheel c =
-    let red = c.in_ok-reduction.ensures.reduction in
-    rw red.wheel red.leads
+round_wheel c = grind arith
 
 -- it begins with at most two spokes for each dart
 few_spokes : (c : In_ok-reduction)
@@ -110,9 +100,7 @@ contract-requires-clause-reduction c =
     c.in_ok-reduction.reduction red (ap numbers c.deref.ensures.value) (closed at.In_ok-closed).walk none
 
 pub contract-requires-clause-few : goal.contract-requires-clause-few
-contract-requires-clause-few c =
-    let at = goal.at.contract-requires-clause-few c in
-    omega (arith, c.requires.few, few_darts at.In_ok-closed, few_spokes at.In_ok-reduction (closed at.In_ok-closed))
+contract-requires-clause-few c = grind (arith, few_darts, few_spokes, closed)
 
 pub contract-requires-clause-behind : goal.contract-requires-clause-behind
 contract-requires-clause-behind c = omega (arith, c.requires.few, c.darts-behind.ensures.count)
@@ -126,14 +114,10 @@ led_off c k =
     off_cotree c.in_ok-begun.begun c.darts-behind.result c.requires.walks k c.darts-behind.ensures.count c.in_ok-begun.ensures.led
 
 pub contract-requires-clause-led : goal.contract-requires-clause-led
-contract-requires-clause-led c =
-    let at = goal.at.contract-requires-clause-led c in
-    rw c.darts-behind.ensures.count (led_off at.In_ok-begun (closed at.In_ok-closed)).begun.led
+contract-requires-clause-led c = grind (arith, led_off, closed)
 
 pub contract-requires-clause-closed : goal.contract-requires-clause-closed
-contract-requires-clause-closed c =
-    let at = goal.at.contract-requires-clause-closed c in
-    (led_off at.In_ok-begun (closed at.In_ok-closed)).begun.home
+contract-requires-clause-closed c = grind (arith, led_off, closed)
 
 pub contract-requires-clause-spokes : goal.contract-requires-clause-spokes
 contract-requires-clause-spokes c =
@@ -156,10 +140,7 @@ returns-clause-list c =
 
 -- the peak is low
 pub returns-then-len-eq1-clause-low : goal.returns-then-len-eq1-clause-low
-returns-then-len-eq1-clause-low c =
-    let s = c.args.on.now.surface.now in
-    is_low (darts_of s) (darts c.args.first.now + darts c.args.second.now) 0 c.in_ok-closed.moves.peak (three_darts s c.requires.valid)
-    (omega arith) (omega (arith, c.in_ok-joined.ensures.peak, ap (λ (l : PeakedMoves). l.peak) c.in_ok-closed.ensures.moves))
+returns-then-len-eq1-clause-low c = grind (arith, is_low, three_darts)
 
 -- what is left of the closed walk off the cotree is short
 left_short : (c : In_ok-closed) (track : TrackView)
@@ -187,9 +168,7 @@ left_low c track led =
     ))
 
 pub returns-then-degree-eq0-clause-low : goal.returns-then-degree-eq0-clause-low
-returns-then-degree-eq0-clause-low c =
-    let at = (goal.at.returns-then-degree-eq0-clause-low c).In_ok-closed in
-    omega (arith, left_low at c.in_ok-tree.tree c.in_ok-tree.ensures.led, ap (λ (l : PeakedMoves). l.peak) c.into_moves.ensures)
+returns-then-degree-eq0-clause-low c = grind (arith, left_low)
 
 pub returns-clause-low : goal.returns-clause-low
 returns-clause-low c =
@@ -209,12 +188,7 @@ returns-clause-low c =
 
 -- on a sphere the list is short
 pub returns-then-len-eq1-clause-short : goal.returns-then-len-eq1-clause-short
-returns-then-len-eq1-clause-short c sphere =
-    let s = c.args.on.now.surface.now in
-    is_few (darts_of s) (darts c.args.first.now + darts c.args.second.now) (darts c.args.second.now) 0
-    (length c.in_ok-closed.moves.moves) (length c.in_ok-closed.moves.moves)
-    (omega (arith, three_darts s c.requires.valid)) (omega arith) (omega arith)
-    (omega (arith, c.in_ok-joined.ensures.count, ap (λ (l : PeakedMoves). length l.moves) c.in_ok-closed.ensures.moves)) (omega arith)
+returns-then-len-eq1-clause-short c sphere = grind (arith, common_steps, is_few, three_darts)
 
 pub returns-then-degree-eq0-clause-short : goal.returns-then-degree-eq0-clause-short
 returns-then-degree-eq0-clause-short c sphere =

@@ -1,22 +1,14 @@
-use Rattle.move_lifting.proofs.Common.{walks_loop, ℕ, ◌++◌, true, List, length, get_or, ap, subst, arith, take_all, AreFreelyEqual, numbers}
+use Rattle.move_lifting.proofs.Common.{walks_loop, ℕ, ◌++◌, true, List, subst, arith, take_all, AreFreelyEqual, numbers}
 use Rattle.move_lifting.proofs.ApproachLemmas.{walk_within}
 use Rattle.move_lifting.proofs.ExpandLemmas.{length-numbers}
 use Rattle.move_lifting.proofs.FrontLemmas.{turned_more, walked_more}
 use Rattle.move_lifting.proofs.looping.put_spokes.Goals as goal
 
 pub get-requires : goal.get-requires
-get-requires c =
-    walk_within c.args.spokes.now (get_or c.args.front.now c.loop-spoke.spoke-index 0)
-    (c.requires.front c.loop-spoke.spoke-index 0 c.loop-spoke-test.true)
+get-requires c = grind (arith, walk_within)
 
 pub put_spoke-requires-clause-spoke : goal.put_spoke-requires-clause-spoke
-put_spoke-requires-clause-spoke c =
-    omega (
-      arith,
-      c.requires.front c.loop-spoke.spoke-index 0 c.loop-spoke-test.true,
-      ap (λ (l : List ℕ). length l) c.get.ensures,
-      length-numbers c.get.result.now,
-    )
+put_spoke-requires-clause-spoke c = grind (arith, length-numbers)
 
 pub loop-spoke-preserved : goal.loop-spoke-preserved
 loop-spoke-preserved c =

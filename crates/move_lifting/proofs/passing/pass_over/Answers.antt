@@ -1,14 +1,10 @@
-use Rattle.move_lifting.proofs.Common.{OrientedMesh, IsLedOn, TrackView, ◌≡◌, ℕ, List, length, ap, sym, subst, arith, numbers, VertexName, SplitView}
+use Rattle.move_lifting.proofs.Common.{OrientedMesh, IsLedOn, TrackView, ◌≡◌, ℕ, List, length, ap, sym, subst, arith, common_steps, numbers, VertexName, SplitView}
 use Rattle.move_lifting.proofs.ExpandLemmas.{length-numbers}
 use Rattle.move_lifting.proofs.LedLemmas.{led_after, led_from, led_itself, led_walk}
 use Rattle.move_lifting.proofs.passing.pass_over.Goals as goal
 
 pub loop-pass-init : goal.loop-pass-init
-loop-pass-init c = record {
-  led = led_itself c.args.behind (numbers c.args.walk.items) c.args.moves c.requires.led.some;
-  few = c.requires.few;
-  looked_at = omega arith;
-}
+loop-pass-init c = grind (arith, common_steps, led_itself)
 
 pub least_depth-depth-requires-clause-walk : goal.least_depth-depth-requires-clause-walk
 least_depth-depth-requires-clause-walk c =

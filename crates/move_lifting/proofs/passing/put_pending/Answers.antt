@@ -1,22 +1,11 @@
-use Rattle.move_lifting.proofs.Common.{IsLedOn, ◌≡◌, ℕ, ◌+◌, ◌++◌, List, length, subst, arith, length-append, refl, append-nil, nil_from_length, reverse, numbers, VertexName}
+use Rattle.move_lifting.proofs.Common.{IsLedOn, ◌≡◌, ℕ, ◌+◌, ◌++◌, List, length, subst, arith, common_steps, append-nil, nil_from_length, reverse, numbers, VertexName}
 use Rattle.move_lifting.proofs.PassLemmas.{put_more}
 use Rattle.move_lifting.proofs.LedLemmas.{led_itself, led_put}
 use Rattle.move_lifting.proofs.ExpandLemmas.{length-numbers}
 use Rattle.move_lifting.proofs.passing.put_pending.Goals as goal
 
 pub loop-next-init : goal.loop-next-init
-loop-next-init c =
-    let were : List ℕ = reverse (numbers c.args.pending.now.items) in
-    record {
-      so_far = record {
-        some = c.requires.some;
-        no_spur = c.requires.no_spur;
-        long = omega (arith, length-numbers c.args.pending.now.items);
-        led = λ s split. led_itself c.args.behind (c.args.track.now.walk ++ were) c.args.track.now.list
-            (omega (arith, c.requires.some, length-append c.args.track.now.walk were));
-      };
-      cells = refl;
-    }
+loop-next-init c = grind (arith, common_steps, length-numbers, led_itself)
 
 pub loop-next-preserved : goal.loop-next-preserved
 loop-next-preserved c =

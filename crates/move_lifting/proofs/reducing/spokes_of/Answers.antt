@@ -1,4 +1,4 @@
-use Rattle.move_lifting.proofs.Common.{◌≡◌, ℕ, ◌+◌, ◌-◌, ◌<◌, true, List, length, get_or, ap, sym, ◌∙◌, subst, arith, get_or-map, is_edge, numbers, VertexName}
+use Rattle.move_lifting.proofs.Common.{◌≡◌, ℕ, ◌+◌, ◌-◌, ◌<◌, true, List, length, get_or, ap, sym, ◌∙◌, subst, arith, common_steps, get_or-map, is_edge, numbers, VertexName}
 use Rattle.move_lifting.proofs.ExpandLemmas.{length-numbers}
 use Rattle.move_lifting.proofs.ReductionLemmas.{more_so_far, all_spokes}
 use Rattle.move_lifting.proofs.reducing.spokes_of.Goals as goal
@@ -23,17 +23,7 @@ push_spokes-requires-clause-edge c =
     ∙ ap (is_edge c.args.surface.now.mesh (get_or walk (n - 1) 0)) (sym there) ∙ edge
 
 pub loop-place-preserved : goal.loop-place-preserved
-loop-place-preserved c =
-    let walk : List ℕ = numbers c.args.walk.now in
-    let n : ℕ = c.loop-place.place in
-    let none : VertexName = record { 0 = 0 } in
-    let long : length walk ≡ length c.args.walk.now = length-numbers c.args.walk.now in
-    let within : n < length c.args.walk.now = omega (arith, c.loop-place-test.true) in
-    more_so_far c.args.surface.now c.args.polygon.now c.requires.valid walk n (get_or c.args.walk.now (n - 1) none).0
-    (get_or c.args.walk.now n none).0
-    c.loop-place.spokes.items c.push_spokes.new.spokes.items c.loop-place.auto.place (omega arith)
-    (get_or-map (λ (x : VertexName). x.0) c.args.walk.now (n - 1) none 0 (omega (arith, c.loop-place.auto.place)))
-    (get_or-map (λ (x : VertexName). x.0) c.args.walk.now n none 0 within) c.loop-place.invariant c.in_ok-push_spokes.ensures
+loop-place-preserved c = grind (arith, common_steps, length-numbers, more_so_far)
 
 pub returns-clause-spokes : goal.returns-clause-spokes
 returns-clause-spokes c =

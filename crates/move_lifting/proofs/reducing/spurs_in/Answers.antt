@@ -1,13 +1,10 @@
-use Rattle.move_lifting.proofs.Common.{spurs_of, PathStep, Spur, ◌≡◌, ℕ, suc, ◌+◌, List, [], ◌∷◌, length, take, ap, ◌∙◌, arith, length-take-le}
+use Rattle.move_lifting.proofs.Common.{spurs_of, PathStep, Spur, ◌≡◌, ℕ, suc, ◌+◌, List, [], ◌∷◌, take, ap, ◌∙◌, arith, common_steps}
 use Rattle.move_lifting.proofs.ReductionLemmas.{few_spurs, spurs_next}
 use Rattle.move_lifting.proofs.reducing.spurs_in.Goals as goal
 use Rattle.move_lifting.proofs.reducing.spurs_in.Goals.{in-Spur, in_default}
 
 pub overflow_add-spurs : goal.overflow_add-spurs
-overflow_add-spurs c =
-    let few : length (take c.loop-step.step-index c.args.steps.now) ≡ c.loop-step.step-index =
-    length-take-le c.loop-step.step-index c.args.steps.now c.loop-step.auto.step-index-end in
-    omega (arith, c.loop-step.invariant, few_spurs (take c.loop-step.step-index c.args.steps.now), few, c.loop-step-test.true)
+overflow_add-spurs c = grind (arith, common_steps, few_spurs)
 
 pub loop-step-preserved : goal.loop-step-preserved
 loop-step-preserved c =

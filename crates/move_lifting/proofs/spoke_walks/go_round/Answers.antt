@@ -5,14 +5,10 @@ use Rattle.move_lifting.proofs.TreeUpLemmas.{origin_used}
 use Rattle.move_lifting.proofs.spoke_walks.go_round.Goals as goal
 
 pub put_over-requires-clause-to : goal.put_over-requires-clause-to
-put_over-requires-clause-to c =
-    origin_used c.args.cut.now.on.surface.now c.requires.cut.surface.valid c.args.dart.0 c.origin-tail.result.0 c.requires.dart
-    c.origin-tail.ensures
+put_over-requires-clause-to c = grind (arith, origin_used)
 
 pub put_over-requires-2-clause-from : goal.put_over-requires-2-clause-from
-put_over-requires-2-clause-from c =
-    origin_used c.args.cut.now.on.surface.now c.requires.cut.surface.valid c.twin.result.0 c.origin-head.result.0 c.twin.ensures.within
-    c.origin-head.ensures
+put_over-requires-2-clause-from c = grind (arith, origin_used)
 
 pub returns-clause-freely : goal.returns-clause-freely
 returns-clause-freely c =

@@ -16,12 +16,10 @@ back_along-requires c =
     (way_some c.args.on.now.surface.now c.args.on.now.split.now c.requires.split c.args.to.0 c.in_ok-way.way.items c.in_ok-way.ensures)
 
 pub slice_bounds-put_all-count : goal.slice_bounds-put_all-count
-slice_bounds-put_all-count c =
-    omega (arith, some (goal.at.slice_bounds-put_all-count c).In_ok-up, ap (λ (l : List VertexName). length l) c.deref-2.ensures.value)
+slice_bounds-put_all-count c = grind (arith, some)
 
 pub slice_bounds-put_all-start : goal.slice_bounds-put_all-start
-slice_bounds-put_all-start c =
-    omega (arith, some (goal.at.slice_bounds-put_all-start c).In_ok-up, ap (λ (l : List VertexName). length l) c.deref-2.ensures.value)
+slice_bounds-put_all-start c = grind (arith, some)
 
 pub returns-clause-freely : goal.returns-clause-freely
 returns-clause-freely c =

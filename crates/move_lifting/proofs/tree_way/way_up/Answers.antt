@@ -1,19 +1,14 @@
-use Rattle.move_lifting.proofs.Common.{origin_of, twin_of, ◌≡◌, ℕ, ◌++◌, ◌∷◌, List, length, ap, sym, ◌∙◌, subst, arith, true, FaceList, is_used, numbers, VertexName}
+use Rattle.move_lifting.proofs.Common.{origin_of, twin_of, ◌≡◌, ℕ, ◌++◌, ◌∷◌, List, ap, sym, ◌∙◌, subst, arith, true, FaceList, is_used, numbers}
 use Rattle.move_lifting.proofs.BackLemmas.{one_longer}
 use Rattle.move_lifting.proofs.ExpandLemmas.{one_pending, length-numbers}
 use Rattle.move_lifting.proofs.TreeUpLemmas.{used_below, used_parent, ends_up, one_up_more, way_ends}
 use Rattle.move_lifting.proofs.tree_way.way_up.Goals as goal
 
 pub loop-step-init : goal.loop-step-init
-loop-step-init c = record {
-  used = c.requires.used;
-  long = ap (λ (l : List VertexName). length l) c.new-way.ensures.items;
-  so_far = λ root ways h. ap (λ (l : List VertexName). numbers l ++ (c.args.start.0 ∷ ways c.args.start.0)) (sym c.new-way.ensures.items);
-}
+loop-step-init c = grind arith
 
 pub parent-requires : goal.parent-requires
-parent-requires c =
-    used_below c.faces.ensures.valid c.requires.split c.loop-step.last.0 c.loop-step.invariant.used
+parent-requires c = grind (arith, used_below)
 
 pub loop-step-preserved : goal.loop-step-preserved
 loop-step-preserved c =

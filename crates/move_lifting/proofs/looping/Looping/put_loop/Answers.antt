@@ -1,4 +1,4 @@
-use Rattle.move_lifting.proofs.Common.{places_below, darts_of, origin_of, OrientedMesh, IsLastLoop, IsLooping, last_of, MOST_LIFTED_DARTS, side_at, PolygonView, last_side, ◌≡◌, ℕ, ◌-◌, ◌<◌, ◌∷◌, [], true, List, get_or, ap, sym, ◌∙◌, subst, arith, is_used, HasNoSpur, numbers, SplitView}
+use Rattle.move_lifting.proofs.Common.{places_below, darts_of, origin_of, OrientedMesh, IsLastLoop, IsLooping, last_of, MOST_LIFTED_DARTS, side_at, PolygonView, last_side, ◌≡◌, ℕ, ◌-◌, ◌∷◌, [], true, List, get_or, ap, sym, ◌∙◌, arith, common_steps, is_used, HasNoSpur, numbers, SplitView}
 use Rattle.move_lifting.specs.declared.looping.Looping.{Looping}
 use Rattle.move_lifting.proofs.ApproachLemmas.{goes_end, goes_start, goes_some, goes_walk}
 use Rattle.move_lifting.proofs.ExpandLemmas.{length-numbers}
@@ -25,20 +25,13 @@ last_is l side count e f = e ∙ ap (λ (n : ℕ). side_at (polygon_of l) (n - 1
 
 end_used : (l : Looping) → IsLooping l → (side end : ℕ) → side ≡ last_side (polygon_of l) → end ≡ origin_of (surface_of l) side
     → is_used (surface_of l).mesh end ≡ true
-end_used l r side end last starts =
-    origin_used (surface_of l) r.cut.surface.valid side end
-    (subst (λ (x : ℕ). x < darts_of (surface_of l)) (sym last)
-    (last_below (surface_of l) (split_of l) (polygon_of l) r.cut.surface.cut r.cut.surface.some)) starts
+end_used l r side end last starts = grind (arith, origin_used, last_below)
 
 pub approach_of-requires-clause-end : goal.approach_of-requires-clause-end
-approach_of-requires-clause-end c =
-    let l : Looping = c.args.self.now in
-    end_used l c.requires.looping c.side.result.0 c.origin-end.result.0
-    (last_is l c.side.result.0 c.degree.result c.side.ensures c.degree.ensures.degree) c.origin-end.ensures
+approach_of-requires-clause-end c = grind (arith, end_used, last_is)
 
 pub approach_of-requires-clause-front : goal.approach_of-requires-clause-front
-approach_of-requires-clause-front c =
-    rw c.take_turns.ensures.kept c.in_ok-make.ensures.made
+approach_of-requires-clause-front c = grind (arith, common_steps)
 
 -- the turn is the loop of the last side, or the way back along it
 turn : (c : After-turn)
@@ -64,8 +57,7 @@ by_tree c =
     }
 
 no_spur : (c : After-turn) → HasNoSpur (numbers c.deref.result.now)
-no_spur c =
-    rw c.deref.ensures.value c.in_ok-approach.ensures.no_spur
+no_spur c = grind (arith, common_steps)
 
 -- the approach and the turn are ready to be put in
 ready : (c : After-turn)

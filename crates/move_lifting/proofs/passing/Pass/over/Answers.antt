@@ -1,4 +1,4 @@
-use Rattle.move_lifting.proofs.Common.{TrackView, ◌≡◌, ℕ, ◌+◌, ◌-◌, ◌<◌, List, length, get_or, ap, ◌∙◌, arith, get_or-map, is_edge, numbers, VertexName}
+use Rattle.move_lifting.proofs.Common.{TrackView, ◌≡◌, ℕ, ◌+◌, ◌-◌, ◌<◌, List, length, ap, arith, common_steps, get_or-map, numbers, VertexName}
 use Rattle.move_lifting.proofs.ExpandLemmas.{edge_to, led_first, led_more, led_all, length-numbers}
 use Rattle.move_lifting.proofs.passing.Pass.over.Goals as goal
 
@@ -16,12 +16,7 @@ loop-place-init c =
     }
 
 pub step-requires-clause-edge : goal.step-requires-clause-edge
-step-requires-clause-edge c =
-    let none : VertexName = record { 0 = 0 } in
-    ap (λ (x : ℕ). is_edge c.args.self.now.on.now.surface.now.mesh x (get_or c.args.walk.now c.loop-place.place none).0)
-    c.loop-place.invariant.led.last
-    ∙ edge_to c.args.self.now.on.now.surface.now.mesh c.args.walk.now c.requires.walk c.loop-place.place
-    (omega (arith, c.loop-place.auto.place)) (omega (arith, c.loop-place-test.true)) none
+step-requires-clause-edge c = grind (arith, edge_to)
 
 pub loop-place-preserved : goal.loop-place-preserved
 loop-place-preserved c =
@@ -40,6 +35,4 @@ loop-place-preserved c =
     }
 
 pub returns-clause-led : goal.returns-clause-led
-returns-clause-led c =
-    led_all c.loop-place.invariant.led
-    (omega (arith, c.loop-place-test.false, c.loop-place.auto.place-end, length-numbers c.args.walk.now, c.requires.walk.starts))
+returns-clause-led c = grind (arith, common_steps, led_all, length-numbers)

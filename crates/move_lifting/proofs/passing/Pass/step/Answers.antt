@@ -1,4 +1,4 @@
-use Rattle.move_lifting.proofs.Common.{IsFaceBelow, IsCrossed, beyond, IsLedOn, TrackView, last_of, MOST_PASSED_ENTRIES, ◌≡◌, ℕ, ◌+◌, ◌≤◌, List, ◌∷◌, [], ◌++◌, length, ap, subst, arith, length-append, on_ok_weaker, reverse, Result, Ok, Err, OnOk, FaceList, face_at, numbers, VertexName}
+use Rattle.move_lifting.proofs.Common.{IsFaceBelow, IsCrossed, IsLedOn, last_of, MOST_PASSED_ENTRIES, ◌≡◌, ◌+◌, ◌≤◌, List, ◌∷◌, [], ◌++◌, length, subst, arith, on_ok_weaker, reverse, Result, Ok, Err, OnOk, face_at, numbers, VertexName}
 use Rattle.move_lifting.proofs.ExpandLemmas.{length-numbers, crossed_led, rest_of_step}
 use Rattle.move_lifting.proofs.PassLemmas.{crossed_on}
 use Rattle.move_lifting.proofs.passing.Pass.step.Goals as goal
@@ -9,18 +9,13 @@ use Rattle.move_lifting.proofs.LedLemmas.{led_after, led_put}
 crossed : (c : In_ok-cross-in-Some)
     → IsCrossed c.args.self.now.on.now.surface.now.mesh c.in-Some.step (c.args.left + c.args.self.now.behind) c.args.track.now
     (numbers c.args.pending.now.items) c.cross.new.track (numbers c.cross.new.pending.items)
-crossed c =
-    crossed_on c.args.self.now.on.now.surface.now.mesh c.faces-faces.result.now c.in-Some.step (c.args.left + c.args.self.now.behind) _
-    c.args.track.now c.reserve.new.self c.cross.new.track (numbers c.args.pending.now.items) (numbers c.cross.new.pending.items)
-    c.faces-faces.ensures.mesh c.in_ok-reserve-in-Some.ensures c.in_ok-cross-in-Some.ensures.crossed
+crossed c = grind (arith, crossed_on)
 
 -- below the edge that the step goes along
 under : (c : In_ok-cross-in-Some)
     → IsFaceBelow c.args.self.now.on.now.surface.now c.args.self.now.on.now.split.now (last_of c.args.track.now.walk) c.args.to.0
     c.in-Some.step
-under c =
-    subst (λ (x : ℕ). IsFaceBelow c.args.self.now.on.now.surface.now c.args.self.now.on.now.split.now x c.args.to.0 c.in-Some.step)
-    c.last.ensures.vertex c.in-Some.ensures.below
+under c = grind arith
 
 -- so the walk is led on
 led : (c : In_ok-cross-in-Some)
@@ -36,40 +31,16 @@ led c =
 -- so many vertices are pending
 come : (c : In_ok-cross-in-Some)
     → length c.cross.new.pending.items + 1 ≡ length (face_at c.args.self.now.on.now.surface.now.mesh c.in-Some.step.face.0)
-come c =
-    omega (
-      arith,
-      (rest_of_step c.faces-faces.ensures.valid.faces (under c)).long,
-      ap (λ (l : List ℕ). length l) (crossed c).comes,
-      length-append (numbers c.args.pending.now.items) (beyond c.args.self.now.on.now.surface.now.mesh c.in-Some.step),
-      ap (λ (l : List VertexName). length (numbers l)) c.requires.pending,
-      length-numbers c.cross.new.pending.items,
-    )
+come c = grind (arith, rest_of_step, under, crossed, length-numbers)
 
 -- with what is pending, and what is left of the walk, there are few entries
 few : (c : In_ok-cross-in-Some)
     → length c.cross.new.track.walk + length c.cross.new.pending.items + c.args.left ≤ MOST_PASSED_ENTRIES
-few c =
-    omega (
-      arith,
-      ap (λ (l : List ℕ). length l) (crossed c).walk,
-      come c,
-      c.in-Some.ensures.room,
-      c.place.ensures,
-      c.requires.some,
-    )
+few c = grind (arith, crossed, come)
 
 -- and a cell for each of them
 spared : (c : In_ok-cross-in-Some) → c.args.left + length c.cross.new.pending.items ≤ c.cross.new.track.spare
-spared c =
-    omega (
-      arith,
-      come c,
-      c.in_ok-cross-in-Some.ensures.spare,
-      ap (λ (t : TrackView). t.spare) c.in_ok-reserve-in-Some.ensures,
-      c.sides.ensures,
-      ap (λ (m : FaceList). length (face_at m c.in-Some.step.face.0)) c.faces-faces.ensures.mesh,
-    )
+spared c = grind (arith, come)
 
 pub put_pending-requires-clause-room : goal.put_pending-requires-clause-room
 put_pending-requires-clause-room c =

@@ -1,35 +1,16 @@
-use Rattle.move_lifting.proofs.Common.{spliced, Pooled, IsPushed, ℕ, ◌++◌, List, length, drop, ap, ◌∙◌, ◌+◌, arith, length-drop, length-map, numbers, VertexName}
+use Rattle.move_lifting.proofs.Common.{Pooled, IsPushed, ℕ, ◌++◌, List, length, drop, ap, ◌+◌, arith, common_steps, numbers}
 use Rattle.move_lifting.proofs.ChainLemmas.{IsPutIn, put_in, pushed_both}
 use Rattle.move_lifting.proofs.pooled_walk.PooledWalk.put_in.Goals as goal
 use Rattle.move_lifting.proofs.pooled_walk.PooledWalk.put_in.Goals.{After-splice}
 
 pub start_chain-piece-requires : goal.start_chain-piece-requires
-start_chain-piece-requires c =
-    omega (arith, c.requires.spare, c.requires.turn, ap (λ (p : Pooled). p.spare) c.self.view_is)
+start_chain-piece-requires c = grind arith
 
 pub push_all-requires-clause-spare : goal.push_all-requires-clause-spare
-push_all-requires-clause-spare c =
-    omega (
-      arith,
-      c.requires.spare,
-      c.requires.turn,
-      ap (λ (p : Pooled). p.spare) c.self.view_is,
-      c.start_chain-piece.ensures.spare,
-    )
+push_all-requires-clause-spare c = grind arith
 
 pub push_all-requires-2-clause-spare : goal.push_all-requires-2-clause-spare
-push_all-requires-2-clause-spare c =
-    omega (
-      arith,
-      c.requires.spare,
-      c.requires.turn,
-      ap (λ (p : Pooled). p.spare) c.self.view_is,
-      c.start_chain-piece.ensures.spare,
-      c.push_all.ensures.spare,
-      c.push_turn.ensures.spare,
-      length-map c.args.there.now (λ (v : VertexName). v.0),
-      length-drop 1 c.args.turn.now,
-    )
+push_all-requires-2-clause-spare c = grind (arith, common_steps)
 
 -- what is moved in
 abbrev piece_of : After-splice → List ℕ
@@ -54,10 +35,7 @@ pub invariant_of-self : goal.invariant_of-self
 invariant_of-self c = (put (goal.at.invariant_of-self c).After-splice).alone
 
 pub returns-clause-walk : goal.returns-clause-walk
-returns-clause-walk c =
-    (put (goal.at.returns-clause-walk c).After-splice).walk
-    ∙ ap (λ (p : Pooled). spliced p.walk c.args.place (piece_of (goal.at.returns-clause-walk c).After-splice)) c.self.view_is
+returns-clause-walk c = grind (arith, put)
 
 pub returns-clause-cells : goal.returns-clause-cells
-returns-clause-cells c =
-    (put (goal.at.returns-clause-cells c).After-splice).cells ∙ ap (λ (p : Pooled). length p.walk + p.spare) c.self.view_is
+returns-clause-cells c = grind (arith, put)

@@ -1,4 +1,4 @@
-use Rattle.move_lifting.proofs.Common.{origin_of, OrientedMesh, PolygonView, side_at, last_side, ◌≡◌, inl, inr, ℕ, ◌-◌, ◌∷◌, [], ◌++◌, false, List, get_or, refl, ap, ◌∙◌, arith, both_ways, cases_lt, get_or_past, is_used, numbers, VertexName}
+use Rattle.move_lifting.proofs.Common.{origin_of, OrientedMesh, PolygonView, side_at, last_side, ◌≡◌, ℕ, ◌-◌, ◌∷◌, [], ◌++◌, false, List, get_or, refl, ap, ◌∙◌, arith, common_steps, is_used, numbers, VertexName}
 use Rattle.std.proofs.Common.{if◌then◌else◌}
 use Rattle.move_lifting.proofs.ApproachLemmas.{first_spoke, made_more, none_made, last_used, spoke_some}
 use Rattle.move_lifting.proofs.ExpandLemmas.{length-numbers}
@@ -7,8 +7,7 @@ use Rattle.move_lifting.proofs.spoke_walks.SpokeWalks.of.Goals as goal
 -- where the walks start
 start_is : (s : OrientedMesh) (polygon : PolygonView) (start side count : ℕ) → start ≡ origin_of s side
     → side ≡ side_at polygon (count - 1) → count ≡ polygon.degree → start ≡ origin_of s (last_side polygon)
-start_is s polygon start side count starts last all =
-    starts ∙ ap (origin_of s) (last ∙ ap (λ (n : ℕ). side_at polygon (n - 1)) all)
+start_is s polygon start side count starts last all = grind (arith, side_at)
 
 pub loop-spoke-init : goal.loop-spoke-init
 loop-spoke-init c =
@@ -57,12 +56,4 @@ loop-spoke-preserved c =
     c.in_ok-go_round.ensures.freely
 
 pub returns-clause-made : goal.returns-clause-made
-returns-clause-made c spoke marked =
-    elim (cases_lt spoke c.loop-spoke.spoke) [
-      | inl below ↦ c.loop-spoke.invariant.made spoke below marked
-      | inr above ↦
-          let none : get_or c.args.named.now spoke false ≡ false =
-          get_or_past c.args.named.now spoke false
-          (omega (arith, above, c.loop-spoke-test.false, c.requires.named, c.degree-degree.ensures.degree)) in
-          absurd (both_ways (get_or c.args.named.now spoke false) none marked)
-    ]
+returns-clause-made c spoke marked = grind (arith, common_steps)

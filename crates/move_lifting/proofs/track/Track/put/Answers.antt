@@ -1,4 +1,4 @@
-use Rattle.move_lifting.proofs.Common.{on_ok_weaker}
+use Rattle.move_lifting.proofs.Common.{arith, on_ok_weaker}
 use Rattle.move_lifting.proofs.MoveLemmas.{step_back_goes, step_back_no_spur, step_back_some}
 use Rattle.move_lifting.proofs.track.Track.put.Goals as goal
 
@@ -10,11 +10,7 @@ returns-then-came_from-clause-leads c =
     c.step_back.ensures.back
 
 pub returns-then-came_from-clause-no_spur : goal.returns-then-came_from-clause-no_spur
-returns-then-came_from-clause-no_spur c =
-    on_ok_weaker c.step_back.result (step_back_no_spur c.requires.no_spur)
-    c.step_back.ensures.back
+returns-then-came_from-clause-no_spur c = grind (arith, step_back_no_spur)
 
 pub returns-then-came_from-clause-some : goal.returns-then-came_from-clause-some
-returns-then-came_from-clause-some c =
-    let came = c.came_from.ensures.0 c.if-came_from.true in
-    on_ok_weaker c.step_back.result (step_back_some came.0) c.step_back.ensures.back
+returns-then-came_from-clause-some c = grind (arith, step_back_some)

@@ -10,21 +10,10 @@ pub put_next-requires-clause-some : goal.put_next-requires-clause-some
 put_next-requires-clause-some c = c.loop-read.invariant.some
 
 pub put_next-requires-clause-next : goal.put_next-requires-clause-next
-put_next-requires-clause-next c =
-    omega (
-      arith,
-      in_place_next c.loop-read.invariant (omega (arith, c.loop-read-test.true, c.len-entries.ensures.count)),
-      c.loop-read-test.true,
-      c.len-entries.ensures.count,
-    )
+put_next-requires-clause-next c = grind (arith, in_place_next)
 
 pub put_next-requires-clause-room : goal.put_next-requires-clause-room
-put_next-requires-clause-room c =
-    omega (
-      arith,
-      in_place_short c.loop-read.invariant (omega (arith, c.loop-read-test.true, c.len-entries.ensures.count)),
-      c.requires.room,
-    )
+put_next-requires-clause-room c = grind (arith, in_place_short)
 
 pub put_next-requires-clause-no_spur : goal.put_next-requires-clause-no_spur
 put_next-requires-clause-no_spur c = c.loop-read.invariant.so_far.no_spur
