@@ -57,12 +57,8 @@ module _ (number : ℕ → ℕ → ℤ) (ring : List ℕ) where
   -- from a corner on, to one that is not yet round
   pub up : (c k : ℕ) → c < length ring → c + k ≤ length ring
       → along number (corners_from ring true c k) ≡ first_sides (c + k) -ℤ first_sides c
-  up c zero l h =
-      let same : first_sides (c + 0) ≡ first_sides c = at_place (c + 0) c (omega arith) in
-      omega (arith, ints, same)
-  up c (suc zero) l h =
-      let same : first_sides (c + 1) ≡ first_sides (suc c) = at_place (c + 1) (suc c) (omega arith) in
-      omega (arith, ints, same, more_sides c)
+  up c zero l h = grind arith
+  up c (suc zero) l h = grind arith
   up c (suc (suc k)) l h =
       let next : next_corner true (length ring) c ≡ suc c = grind (arith, nat_tests) in
       let more : along number (corners_from ring true (suc c) (suc k)) ≡ first_sides (suc c + suc k) -ℤ first_sides (suc c) =
@@ -105,15 +101,12 @@ module _ (number : ℕ → ℕ → ℤ) (ring : List ℕ) where
     -- the dart back along a side
     back : (c d : ℕ) → next_corner true (length ring) d ≡ c
         → number (get_or ring c 0) (get_or ring d 0) ≡ neg_ℤ (side_number_at d)
-    back c d e = opposite.back (get_or ring d 0) (get_or ring c 0)
-        ∙ ap (λ t. neg_ℤ (number (get_or ring d 0) (get_or ring t 0))) (sym e)
+    back c d e = grind arith
 
     -- the other way round, to a corner before the first, or to one past it
     pub down : (c k : ℕ) → c < length ring → k ≤ c
         → along number (corners_from ring false c k) ≡ first_sides (c - k) -ℤ first_sides c
-    down c zero l h =
-        let same : first_sides (c - 0) ≡ first_sides c = at_place (c - 0) c (omega arith) in
-        omega (arith, ints, same)
+    down c zero l h = grind arith
     down zero (suc k) l h = absurd (omega arith)
     down (suc c) (suc k) l h =
         let next : next_corner false (length ring) (suc c) ≡ c = grind (arith, nat_tests) in
@@ -123,8 +116,7 @@ module _ (number : ℕ → ℕ → ℤ) (ring : List ℕ) where
         let here = step (get_or ring (suc c) 0) (next_corner false (length ring) (suc c)) k false in
         let there : number (get_or ring (suc c) 0) (get_or ring (next_corner false (length ring) (suc c)) 0)
         +ℤ along number (corners_from ring false (next_corner false (length ring) (suc c)) k)
-        ≡ number (get_or ring (suc c) 0) (get_or ring c 0) +ℤ along number (corners_from ring false c k) =
-        ap (λ t. number (get_or ring (suc c) 0) (get_or ring t 0) +ℤ along number (corners_from ring false t k)) next in
+        ≡ number (get_or ring (suc c) 0) (get_or ring c 0) +ℤ along number (corners_from ring false c k) = grind (arith, along) in
         let same : first_sides (suc c - suc k) ≡ first_sides (c - k) = at_place (suc c - suc k) (c - k) (omega arith) in
         here ∙ there ∙ omega (arith, ints, more, same, back (suc c) c again, more_sides c)
 
@@ -133,15 +125,13 @@ module _ (number : ℕ → ℕ → ℤ) (ring : List ℕ) where
     down_past c zero l h past = absurd (omega arith)
     down_past zero (suc k) l h past =
         let last : ℕ = length ring - 1 in
-        let next : next_corner false (length ring) 0 ≡ last = grind (arith, nat_tests) in
         let again : next_corner true (length ring) last ≡ 0 = grind (arith, nat_tests) in
         let more : along number (corners_from ring false last k) ≡ first_sides (last - k) -ℤ first_sides last =
         down last k (omega arith) (omega arith) in
         let here = step (get_or ring 0 0) (next_corner false (length ring) 0) k false in
         let there : number (get_or ring 0 0) (get_or ring (next_corner false (length ring) 0) 0)
         +ℤ along number (corners_from ring false (next_corner false (length ring) 0) k)
-        ≡ number (get_or ring 0 0) (get_or ring last 0) +ℤ along number (corners_from ring false last k) =
-        ap (λ t. number (get_or ring 0 0) (get_or ring t 0) +ℤ along number (corners_from ring false t k)) next in
+        ≡ number (get_or ring 0 0) (get_or ring last 0) +ℤ along number (corners_from ring false last k) = grind (arith, along) in
         let same : first_sides (last - k) ≡ first_sides (0 + length ring - suc k) =
         at_place (last - k) (0 + length ring - suc k) (omega arith) in
         let all : first_sides (suc last) ≡ first_sides (length ring) = at_place (suc last) (length ring) (omega arith) in
@@ -167,8 +157,7 @@ module _ (number : ℕ → ℕ → ℤ) (ring : List ℕ) where
         ≡ first_sides (length ring)
     two_ways c k l h = elim (cases_lt (c + k) (length ring)) [
       | inl within ↦
-          let same : first_sides (c + length ring - (length ring - k)) ≡ first_sides (c + k) =
-          at_place (c + length ring - (length ring - k)) (c + k) (omega arith) in
+          let same : first_sides (c + length ring - (length ring - k)) ≡ first_sides (c + k) = grind arith in
           omega (arith, ints, same, up c k l (omega arith), down_past c (length ring - k) l (omega arith) (omega arith))
       | inr past ↦
           let same : first_sides (c - (length ring - k)) ≡ first_sides (c + k - length ring) =
@@ -182,7 +171,5 @@ module _ (number : ℕ → ℕ → ℤ) (ring : List ℕ) where
     | inl some ↦
         let same : first_sides (0 + length ring) ≡ first_sides (length ring) = at_place (0 + length ring) (length ring) (omega arith) in
         omega (arith, ints, same, up 0 (length ring) some (omega arith))
-    | inr none ↦
-        let empty : length ring ≡ 0 = omega arith in
-        ap (λ n. along number (corners_from ring true 0 n)) empty ∙ sym (ap first_sides empty)
+    | inr none ↦ grind (arith, along)
   ]

@@ -1,6 +1,5 @@
 -- Sums over all sides of a mesh, face by face: the boundary of numbered faces.
-use Rattle.homology.proofs.Common.{boundary, total, along, round, share, ◌≡◌, inl, inr, ℕ, zero, suc, ◌+◌, ◌<◌, List, [], ◌∷◌, ◌++◌, length, get_or, refl, ap, ap₂, sym, ◌∙◌, arith, ℤ, pos, ◌+ℤ◌, *ℤ-zero, zero-*ℤ, cases_Bool, nat_tests, ints, enumerate_from, range_with_len, ◌*ℤ◌, neg_ℤ, map, flat_map, nat_eq, ◌==◌, if◌then◌else◌, face_side, FaceList, FaceSide, all_sides, sides_of_face, face_at}
-use Rattle.std.specs.Prelude.{◌&&◌}
+use Rattle.homology.proofs.Common.{boundary, total, along, round, share, ◌≡◌, ℕ, zero, suc, ◌+◌, ◌<◌, List, [], ◌∷◌, ◌++◌, length, get_or, refl, ap, ap₂, sym, ◌∙◌, arith, ℤ, pos, ◌+ℤ◌, *ℤ-zero, nat_tests, common_steps, ints, enumerate_from, range_with_len, ◌*ℤ◌, map, flat_map, ◌==◌, if◌then◌else◌, face_side, FaceList, FaceSide, all_sides, sides_of_face, face_at}
 use Rattle.homology.proofs.RingLemmas.{times-sum, sum-times, times-one, times-minus}
 use Rattle.homology.proofs.AlongLemmas.{IsOpposite, first_sides, side_number_at, round-sides}
 
@@ -30,8 +29,7 @@ part_sum-sum one other number (side ∷ sides) =
 pub part_sum-none : (number : ℕ → ℕ → ℤ) (sides : List FaceSide) → part_sum (λ f. pos 0) number sides ≡ pos 0
 part_sum-none number [] = refl
 part_sum-none number (side ∷ sides) =
-    let more = part_sum-none number sides in
-    omega (arith, ints, more, zero-*ℤ (number side.tail side.head))
+    let more = part_sum-none number sides in grind arith
 
 -- a number times the sum of the first sides
 times_at : (a : ℤ) (number : ℕ → ℕ → ℤ) (face : List ℕ) (s t : ℕ) → s ≡ t
@@ -42,10 +40,7 @@ times_at a number face s t e = ap (λ n. a *ℤ first_sides number face n) e
 sides_from : (of_face : ℕ → ℤ) (number : ℕ → ℕ → ℤ) (f : ℕ) (face : List ℕ) (t k : ℕ)
     → of_face f *ℤ first_sides number face t +ℤ part_sum of_face number (map (face_side f face) (range_with_len t k))
     ≡ of_face f *ℤ first_sides number face (t + k)
-sides_from of_face number f face t zero =
-    let same : of_face f *ℤ first_sides number face t ≡ of_face f *ℤ first_sides number face (t + 0) =
-    times_at (of_face f) number face t (t + 0) (omega arith) in
-    omega (arith, ints, same)
+sides_from of_face number f face t zero = grind (arith, first_sides, times_at)
 sides_from of_face number f face t (suc k) =
     let more = sides_from of_face number f face (t + 1) k in
     let next : of_face f *ℤ first_sides number face (t + 1)
@@ -63,8 +58,7 @@ face_part of_face number f face =
     let none : of_face f *ℤ first_sides number face 0 ≡ pos 0 = *ℤ-zero (of_face f) in
     let same : of_face f *ℤ first_sides number face (0 + length face) ≡ of_face f *ℤ along number (round face) =
     times_at (of_face f) number face (0 + length face) (length face) (omega arith)
-    ∙ ap (λ z. of_face f *ℤ z) (sym (round-sides number face)) in
-    omega (arith, ints, all, none, same)
+    ∙ ap (λ z. of_face f *ℤ z) (sym (round-sides number face)) in grind arith
 
 -- the sum over faces that are numbered from n on
 abbrev pub face_parts : (ℕ → ℤ) → (ℕ → ℕ → ℤ) → ℕ → List (List ℕ) → ℤ
@@ -91,8 +85,7 @@ closed_from : (of_face : ℕ → ℤ) (number : ℕ → ℕ → ℤ) (n : ℕ) (
 closed_from of_face number n [] h = refl
 closed_from of_face number n (face ∷ faces) h =
     let here : of_face n *ℤ along number (round face) ≡ pos 0 = ap (λ z. of_face n *ℤ z) (h 0 (omega arith)) ∙ *ℤ-zero (of_face n) in
-    let more = closed_from of_face number (n + 1) faces (λ k l. h (suc k) (omega arith)) in
-    omega (arith, ints, here, more)
+    let more = closed_from of_face number (n + 1) faces (λ k l. h (suc k) (omega arith)) in grind arith
 
 pub closed_mesh : (of_face : ℕ → ℤ) (number : ℕ → ℕ → ℤ) (mesh : FaceList)
     → ((f : ℕ) → f < length mesh.faces → along number (round (face_at mesh f)) ≡ pos 0)
@@ -114,44 +107,26 @@ past_it : (g : ℕ) (amount : ℤ) (number : ℕ → ℕ → ℤ) (n : ℕ) (fac
 past_it g amount number n [] h = refl
 past_it g amount number n (face ∷ faces) h =
     let more = past_it g amount number (n + 1) faces (omega arith) in
-    let here : only_at g amount n *ℤ along number (round face) ≡ pos 0 =
-    ap (λ z. z *ℤ along number (round face)) (only_at-other g n amount (λ e. omega (arith, e))) ∙ zero-*ℤ (along number (round face)) in
-    omega (arith, ints, here, more)
+    let here : only_at g amount n *ℤ along number (round face) ≡ pos 0 = grind (arith, along, round, only_at-other) in grind arith
 
 one_of : (k n : ℕ) (amount : ℤ) (number : ℕ → ℕ → ℤ) (faces : List (List ℕ)) → k < length faces
     → face_parts (only_at (n + k) amount) number n faces ≡ amount *ℤ along number (round (get_or faces k []))
 one_of k n amount number [] h = absurd (omega arith)
-one_of zero n amount number (face ∷ faces) h =
-    let more = past_it (n + 0) amount number (n + 1) faces (omega arith) in
-    let here : only_at (n + 0) amount n *ℤ along number (round face) ≡ amount *ℤ along number (round face) =
-    ap (λ z. z *ℤ along number (round face)) (only_at-same (n + 0) n amount (omega arith)) in
-    omega (arith, ints, here, more)
+one_of zero n amount number (face ∷ faces) h = grind (arith, past_it, along, round, only_at-same)
 one_of (suc k) n amount number (face ∷ faces) h =
     let more = one_of k (n + 1) amount number faces (omega arith) in
     let same : face_parts (only_at (n + 1 + k) amount) number (n + 1) faces
-    ≡ face_parts (only_at (n + suc k) amount) number (n + 1) faces =
-    ap (λ g. face_parts (only_at g amount) number (n + 1) faces) (omega arith) in
-    let here : only_at (n + suc k) amount n *ℤ along number (round face) ≡ pos 0 =
-    ap (λ z. z *ℤ along number (round face)) (only_at-other (n + suc k) n amount (λ e. omega (arith, e)))
-    ∙ zero-*ℤ (along number (round face)) in
+    ≡ face_parts (only_at (n + suc k) amount) number (n + 1) faces = grind arith in
+    let here : only_at (n + suc k) amount n *ℤ along number (round face) ≡ pos 0 = grind (arith, along, round, only_at-other) in
     omega (arith, ints, here, more, same)
 
 pub one_face : (g : ℕ) (amount : ℤ) (number : ℕ → ℕ → ℤ) (mesh : FaceList) → g < length mesh.faces
     → part_sum (only_at g amount) number (all_sides mesh) ≡ amount *ℤ along number (round (face_at mesh g))
-one_face g amount number mesh h =
-    by_faces (only_at g amount) number mesh
-    ∙ ap (λ n. face_parts (only_at n amount) number 0 mesh.faces) (omega arith)
-    ∙ one_of g 0 amount number mesh.faces h
+one_face g amount number mesh h = grind (arith, common_steps, by_faces, one_of)
 
 -- a share is the amount times the share of 1
 pub share-times : (amount : ℤ) (low high u v : ℕ) → share amount low high u v ≡ amount *ℤ share (pos 1) low high u v
-share-times amount low high u v = elim (cases_Bool (nat_eq u low && nat_eq v high)) [
-  | inl along_it ↦ rw along_it (sym (times-one amount))
-  | inr off ↦ elim (cases_Bool (nat_eq u high && nat_eq v low)) [
-    | inl against ↦ rw (off, against) (sym (times-minus amount))
-    | inr neither ↦ rw (off, neither) (sym (*ℤ-zero amount))
-  ]
-]
+share-times amount low high u v = grind (arith, times-one, times-minus)
 
 shares : (of_face : ℕ → ℤ) (low high : ℕ) (sides : List FaceSide)
     → total (map (λ (side : FaceSide). share (of_face side.face) low high side.tail side.head) sides)
@@ -165,7 +140,4 @@ pub boundary_is : (mesh : FaceList) (of_face : ℕ → ℤ) (low high : ℕ)
 boundary_is mesh of_face low high = shares of_face low high (all_sides mesh)
 
 pub share-opposite : (amount : ℤ) (low high : ℕ) → low < high → IsOpposite (share amount low high)
-share-opposite amount low high up = record { back = λ u v. turned u v }
-  where
-    turned : (u v : ℕ) → share amount low high v u ≡ neg_ℤ (share amount low high u v)
-    turned u v = grind (arith, nat_tests, ints)
+share-opposite amount low high up = grind arith

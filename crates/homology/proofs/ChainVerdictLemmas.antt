@@ -1,33 +1,20 @@
 -- The verdict on a chain, from what is left at each edge.
-use Rattle.homology.proofs.Common.{IsChain, boundary, count_difference, total, along, share, number_at, GrewBy, AreWithin, AreNumbersOf, IsLeft, IsBalancedAt, IsLeastUnbalanced, ◌≡◌, ◌≢◌, ℕ, zero, suc, ◌<◌, ◌≤◌, List, [], ◌∷◌, length, refl, ap, ap₂, sym, ◌∙◌, subst, arith, ℤ, pos, negsuc, ◌+ℤ◌, nat_tests, ints, map, IsTrue, neg_ℤ, unsigned_abs, replicate, IsEdgeBetween, edge_between, same_pair, table_pair, place_before, Edge, IsTableOf, IsPairBefore, edge_in, FaceList, FaceSide, all_sides, is_edge}
+use Rattle.homology.proofs.Common.{IsChain, boundary, count_difference, along, share, number_at, GrewBy, AreWithin, AreNumbersOf, IsLeft, IsBalancedAt, IsLeastUnbalanced, ◌≡◌, ◌≢◌, ℕ, zero, suc, ◌<◌, ◌≤◌, List, [], ◌∷◌, length, refl, sym, subst, arith, ℤ, pos, negsuc, nat_tests, ints, IsTrue, neg_ℤ, unsigned_abs, replicate, IsEdgeBetween, edge_between, same_pair, table_pair, place_before, Edge, IsTableOf, IsPairBefore, edge_in, FaceList, is_edge}
 
 -- faces with the same numbers have the same boundary
 pub boundary_agrees : (mesh : FaceList) (one other : ℕ → ℤ) (low high : ℕ) → ((f : ℕ) → one f ≡ other f)
     → boundary mesh one low high ≡ boundary mesh other low high
-boundary_agrees mesh one other low high same = along_sides (all_sides mesh)
-  where
-    along_sides : (sides : List FaceSide)
-        → total (map (λ (side : FaceSide). share (one side.face) low high side.tail side.head) sides)
-        ≡ total (map (λ (side : FaceSide). share (other side.face) low high side.tail side.head) sides)
-    along_sides [] = refl
-    along_sides (side ∷ sides) =
-        ap₂ (λ x y. x +ℤ y) (ap (λ z. share z low high side.tail side.head) (same side.face)) (along_sides sides)
+boundary_agrees mesh one other low high same = grind arith
 
 module _ (mesh : FaceList) (table : List Edge) (of_face listed : ℕ → ℤ) (first second : List ℕ) (rest : List ℤ)
     (h : IsTableOf mesh table) (same : (f : ℕ) → of_face f ≡ listed f) (left : IsLeft mesh table of_face first second rest) where
   nothing_left : (k : ℕ) → k < length table → number_at rest k ≡ pos 0
       → IsBalancedAt mesh listed first second (edge_in table k).low (edge_in table k).high
-  nothing_left k l none =
-      let is = left.each k l in
-      let agrees = boundary_agrees mesh of_face listed (edge_in table k).low (edge_in table k).high same in
-      omega (arith, ints, is, agrees, none)
+  nothing_left k l none = grind (arith, boundary_agrees)
 
   something_left : (k : ℕ) → k < length table → number_at rest k ≢ pos 0
       → IsBalancedAt mesh listed first second (edge_in table k).low (edge_in table k).high → ⊥
-  something_left k l some even =
-      let is = left.each k l in
-      let agrees = boundary_agrees mesh of_face listed (edge_in table k).low (edge_in table k).high same in
-      some (omega (arith, ints, is, agrees, even))
+  something_left k l some even = grind (arith, boundary_agrees)
 
   -- an edge of the mesh stands in the table
   at_edge : (a b : ℕ) → a < b → IsTrue (is_edge mesh a b)
@@ -36,10 +23,7 @@ module _ (mesh : FaceList) (table : List Edge) (of_face listed : ℕ → ℤ) (f
   at_edge a b up edge none =
       let found : IsEdgeBetween table a b = edge_between mesh table a b h edge in
       let e : Edge = edge_in table found.edge in
-      let ends = same_pair a b e.low e.high up (h.edges found.edge _ found.in_table).ordered found.ends in
-      subst (λ x. IsBalancedAt mesh listed first second x b) ends.0
-      (subst (λ x. IsBalancedAt mesh listed first second e.low x) ends.1
-      (nothing_left found.edge found.in_table (none found.edge found.in_table ends.0 ends.1)))
+      let ends = same_pair a b e.low e.high up (h.edges found.edge _ found.in_table).ordered found.ends in grind arith
 
   pub chain_holds : ((k : ℕ) → k < length table → number_at rest k ≡ pos 0) → IsChain mesh listed first second
   chain_holds none = record { balanced = λ low high up edge. at_edge low high up edge (λ k l p q. none k l) }
@@ -75,27 +59,13 @@ pub given_walks : (table : List Edge) (first second : List ℕ) (old one two : L
     → GrewBy table (λ low high. along (share (pos 1) low high) first) old one
     → GrewBy table (λ low high. along (share (negsuc 0) low high) second) one two
     → AreNumbersOf table two (count_difference first second)
-given_walks table first second old one two long none given back = record {
-  long = back.long ∙ given.long ∙ long;
-  each = λ k l.
-      let zero_there = none k in
-      let a = given.each k l in
-      let b = back.each k l in
-      let turn = along-back second (edge_in table k).low (edge_in table k).high in
-      omega (arith, ints, zero_there, a, b, turn);
-}
+given_walks table first second old one two long none given back = grind (arith, along-back)
 
 -- and the faces taken
 pub left_over : (mesh : FaceList) (table : List Edge) (of_face : ℕ → ℤ) (first second : List ℕ) (counts rest : List ℤ)
     → AreNumbersOf table counts (count_difference first second)
     → GrewBy table (λ low high. neg_ℤ (boundary mesh of_face low high)) counts rest → IsLeft mesh table of_face first second rest
-left_over mesh table of_face first second counts rest are taken = record {
-  long = taken.long ∙ are.long;
-  each = λ k l.
-      let c = taken.each k l in
-      let n = are.each k l in
-      omega (arith, ints, c, n);
-}
+left_over mesh table of_face first second counts rest are taken = grind arith
 
 pub zeros_within : (numbers : List ℤ) → ((k : ℕ) → number_at numbers k ≡ pos 0) → AreWithin 0 numbers
 zeros_within numbers h = record { each = λ k. subst (λ z. unsigned_abs z ≤ 0) (sym (h k)) (omega arith) }

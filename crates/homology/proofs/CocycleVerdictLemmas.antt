@@ -1,5 +1,5 @@
 -- The sums of a cocycle, dart by dart, and what a test of one says.
-use Rattle.homology.proofs.Common.{dart_number, along, number_at, turned, AreNumbersOf, MOST_NUMBER, ◌≡◌, inl, inr, ℕ, suc, ◌+◌, ◌*◌, ◌^◌, ◌<◌, ◌≤◌, List, [], ◌∷◌, length, get_or, take, refl, ap, sym, ◌∙◌, subst, arith, ℤ, pos, ◌+ℤ◌, to_z, of_z, w64, nat_tests, fits_signed_from_abs, neg_ℤ, unsigned_abs, Contains, FitsSigned, head_of, Edge, IsTableOf, HasEnds, edge_in, FaceList, face_at, Side}
+use Rattle.homology.proofs.Common.{dart_number, along, number_at, turned, AreNumbersOf, MOST_NUMBER, ◌≡◌, inl, inr, ℕ, suc, ◌+◌, ◌*◌, ◌^◌, ◌<◌, ◌≤◌, List, [], ◌∷◌, length, get_or, take, refl, ap, sym, ◌∙◌, subst, arith, ℤ, pos, ◌+ℤ◌, to_z, of_z, w64, fits_signed_from_abs, unsigned_abs, Contains, FitsSigned, head_of, Edge, IsTableOf, HasEnds, edge_in, FaceList, face_at, Side}
 use Rattle.homology.proofs.SizeLemmas.{size-sum, sent}
 use Rattle.homology.proofs.AlongLemmas.{first_sides}
 use Rattle.homology.proofs.TallyLemmas.{along-next, ends_of_side}
@@ -14,33 +14,22 @@ small_sent r h = sent r (omega (arith, h))
 -- a sum as the program forms it
 pub added : (s r : ℤ) (k : ℕ) → unsigned_abs s ≤ MOST_NUMBER * k → unsigned_abs r ≤ MOST_NUMBER → k < 2 ^ 32
     → to_z w64 (of_z w64 (s +ℤ to_z w64 (of_z w64 r))) ≡ s +ℤ r
-added s r k h l few =
-    ap (λ z. to_z w64 (of_z w64 (s +ℤ z))) (small_sent r l) ∙ sent (s +ℤ r) (omega (arith, added_size s r k h l))
+added s r k h l few = grind (arith, small_sent, sent, added_size)
 
 pub added_fits : (s r : ℤ) (k : ℕ) → unsigned_abs s ≤ MOST_NUMBER * k → unsigned_abs r ≤ MOST_NUMBER → k < 2 ^ 32
     → FitsSigned w64 (s +ℤ to_z w64 (of_z w64 r))
-added_fits s r k h l few =
-    subst (λ z. FitsSigned w64 (s +ℤ z)) (sym (small_sent r l))
-    (fits_signed_from_abs w64 (s +ℤ r) (omega (arith, added_size s r k h l)))
+added_fits s r k h l few = grind (arith, small_sent, fits_signed_from_abs, added_size)
 
 turned-dart : (of_edge : ℕ → ℕ → ℤ) (edge : Edge) (u v : ℕ) → edge.low < edge.high → HasEnds u v edge
     → turned (of_edge edge.low edge.high) edge u ≡ dart_number of_edge u v
-turned-dart of_edge edge u v up (inl e) =
-    let same : turned (of_edge edge.low edge.high) edge u ≡ of_edge edge.low edge.high = grind (arith, nat_tests) in
-    let there : dart_number of_edge u v ≡ of_edge u v = grind (arith, nat_tests) in
-    same ∙ ap (λ x. of_edge x edge.high) e.0 ∙ ap (of_edge u) e.1 ∙ sym there
-turned-dart of_edge edge u v up (inr e) =
-    let same : turned (of_edge edge.low edge.high) edge u ≡ neg_ℤ (of_edge edge.low edge.high) = grind (arith, nat_tests) in
-    let there : dart_number of_edge u v ≡ neg_ℤ (of_edge v u) = grind (arith, nat_tests) in
-    same ∙ ap (λ x. neg_ℤ (of_edge x edge.high)) e.0 ∙ ap (λ x. neg_ℤ (of_edge v x)) e.1 ∙ sym there
+turned-dart of_edge edge u v up (inl e) = grind (arith, turned)
+turned-dart of_edge edge u v up (inr e) = grind (arith, turned)
 
 -- the number of a dart along an edge of the table
 pub dart_is : (mesh : FaceList) (table : List Edge) (numbers : List ℤ) (of_edge : ℕ → ℕ → ℤ) (e u v : ℕ) (r : ℤ)
     → IsTableOf mesh table → AreNumbersOf table numbers of_edge → e < length table → HasEnds u v (edge_in table e)
     → r ≡ turned (number_at numbers e) (edge_in table e) u → r ≡ dart_number of_edge u v
-dart_is mesh table numbers of_edge e u v r h are l ends is =
-    is ∙ ap (λ z. turned z (edge_in table e) u) (are.each e l)
-    ∙ turned-dart of_edge (edge_in table e) u v (h.edges e _ l).ordered ends
+dart_is mesh table numbers of_edge e u v r h are l ends is = grind (arith, turned, turned-dart)
 
 pub round_step : (mesh : FaceList) (table : List Edge) (numbers : List ℤ) (of_edge : ℕ → ℕ → ℤ) (f t e u : ℕ) (s r : ℤ)
     → IsTableOf mesh table → AreNumbersOf table numbers of_edge → e < length table

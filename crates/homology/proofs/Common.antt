@@ -8,19 +8,17 @@ pub use Rattle.homology.specs.Tallies.{AreNumbersOf, AreWithin, GrewBy, IsLeft, 
 pub use Rattle.homology.specs.Verdicts.{HasEdge, HasFace, IsBalancedAt, IsChainVerdict, IsCocycleVerdict, IsFirstAgainst, IsLeastOpen, IsLeastUnbalanced, IsVerdict}
 pub use Rattle.homology.specs.declared.certificate.EdgeNumber.{EdgeNumber}
 pub use Rattle.homology.specs.declared.certificate.FaceNumber.{FaceNumber}
-pub use Rattle.homology.specs.declared.certificate.HomologyCert.{HomologyCert}
-pub use Rattle.homology.specs.declared.certificate.HomologyCert.TheVariants.{Chain, Cocycle}
 pub use Rattle.homology.specs.declared.certificate.TheConstants.{MOST_NUMBER}
 pub use Rattle.homology.specs.declared.verdict.HomologyVerdict.{HomologyVerdict}
 pub use Rattle.homology.specs.declared.verdict.HomologyVerdict.TheVariants.{Accepted, Face, Sum, Zero}
-pub use Rattle.std.proofs.Common.{Bool, List, ap, ap₂, arith, drop, false, get_or, inl, inr, length, length-append, negsuc, not, of_z, pos, refl, rules, set, subst, suc, sym, take, to_z, true, w64, zero, ℕ, ℤ, [], ◌&&◌, ◌*◌, ◌++◌, ◌+ℤ◌, ◌+◌, ◌-ℤ◌, ◌-◌, ◌<◌, ◌^◌, ◌||◌, ◌∙◌, ◌∷◌, ◌≡◌, ◌≢◌, ◌≤◌, ◌⊎◌}
+pub use Rattle.std.proofs.Common.{Bool, List, ap, ap₂, arith, drop, false, get_or, inl, inr, length, negsuc, not, of_z, pos, refl, rules, set, subst, suc, sym, take, to_z, true, w64, zero, ℕ, ℤ, [], ◌&&◌, ◌*◌, ◌++◌, ◌+ℤ◌, ◌+◌, ◌-ℤ◌, ◌-◌, ◌<◌, ◌^◌, ◌||◌, ◌∙◌, ◌∷◌, ◌≡◌, ◌≢◌, ◌≤◌, ◌⊎◌}
 pub use Rattle.std.proofs.Math.IntN.{pred_ℤ-*ℤ, pred_ℤ-+ℤ, suc_ℤ-*ℤ, suc_ℤ-+ℤ, zero-*ℤ, *ℤ-negsuc, *ℤ-one, *ℤ-zero, *ℤ_comm}
 unfoldable pub use Rattle.std.proofs.Math.IntN.{one}
-pub use Rattle.std.proofs.Math.Seq.{get_or-take, take-append_seam}
 pub use Rattle.std.proofs.lemmas.Bool.{cases_Bool, cases_eq, cases_lt, cases_order, eqb-false, eqb-true}
 pub use Rattle.std.proofs.lemmas.Bool.Decides.{nat_tests}
+pub use Rattle.std.proofs.lemmas.Grind.{common_steps}
 pub use Rattle.std.proofs.lemmas.Int.{fits_signed_from_abs, ints, to_z-of_z}
-pub use Rattle.std.proofs.lemmas.List.{get_or-append_right, get_or-map, get_or-set_other, get_or-set_same, get_or_append_left, get_or_default, get_or_past, length-map, length-replicate, length-set, take_all, take_more}
+pub use Rattle.std.proofs.lemmas.List.{get_or-map, get_or-set_other, get_or-set_same, get_or_default, get_or_past, length-map, length-replicate, length-set, take_all, take_more}
 pub use Rattle.std.proofs.lemmas.Option.{get_or_from_slice_get}
 pub use Rattle.std.specs.List.{enumerate_from, list_any, range_with_len}
 pub use Rattle.std.specs.Prelude.{All, AllPairs, Any, Contains, Err, FitsSigned, IfOk, IsTrue, Ok, Result, Some, filter, flat_map, if◌then◌else◌, map, nat_eq, neg_ℤ, replicate, slice_get, unsigned_abs, ◌*ℤ◌, ◌==◌, ◌↔◌, ◌≤ℤ◌}

@@ -1,5 +1,5 @@
 -- The sum over all edges, of the number of an edge times what a walk counts there, is the sum along the walk.
-use Rattle.homology.proofs.Common.{count_of, count_difference, dart_number, separation, edge_sum, total, along, share, ◌≡◌, ◌≢◌, inl, inr, ℕ, zero, suc, ◌<◌, List, [], ◌∷◌, length, get_or, refl, ap, sym, ◌∙◌, arith, ℤ, pos, negsuc, ◌+ℤ◌, ◌-ℤ◌, *ℤ-zero, nat_tests, ints, ◌*ℤ◌, neg_ℤ, map, Linked, links, IsEdgeBetween, edge_between, Edge, IsTableOf, HasEnds, edge_in, FaceList, IsWalk}
+use Rattle.homology.proofs.Common.{count_of, count_difference, dart_number, separation, edge_sum, total, along, share, ◌≡◌, ◌≢◌, inl, inr, ℕ, zero, suc, ◌<◌, List, [], ◌∷◌, length, get_or, refl, ap, sym, ◌∙◌, arith, ℤ, pos, ◌+ℤ◌, ◌-ℤ◌, *ℤ-zero, ints, ◌*ℤ◌, neg_ℤ, map, Linked, links, IsEdgeBetween, edge_between, Edge, IsTableOf, HasEnds, edge_in, FaceList, IsWalk}
 use Rattle.homology.proofs.RingLemmas.{times-sum, times-one, times-minus, times-opposite}
 use Rattle.homology.proofs.TallyLemmas.{apart, other-share}
 
@@ -10,15 +10,13 @@ pub total_none : {X : Type 0} (g : X → ℤ) (xs : List X) (x : X) → ((k : �
 total_none g [] x h = refl
 total_none g (y ∷ xs) x h =
     let here = h 0 (omega arith) in
-    let more = total_none g xs x (λ k l. h (suc k) (omega arith)) in
-    omega (arith, ints, here, more)
+    let more = total_none g xs x (λ k l. h (suc k) (omega arith)) in grind arith
 
 pub total_one : {X : Type 0} (g : X → ℤ) (xs : List X) (x : X) (i : ℕ) → i < length xs
     → ((k : ℕ) → k < length xs → k ≢ i → g (get_or xs k x) ≡ pos 0) → total (map g xs) ≡ g (get_or xs i x)
 total_one g [] x i l h = absurd (omega arith)
 total_one g (y ∷ xs) x zero l h =
-    let more = total_none g xs x (λ k lk. h (suc k) (omega arith) (λ e. omega (arith, e))) in
-    omega (arith, ints, more)
+    let more = total_none g xs x (λ k lk. h (suc k) (omega arith) (λ e. omega (arith, e))) in grind arith
 total_one g (y ∷ xs) x (suc i) l h =
     let here = h 0 (omega arith) (λ e. omega (arith, e)) in
     let more = total_one g xs x i (omega arith) (λ k lk other. h (suc k) (omega arith) (λ e. other (omega (arith, e)))) in
@@ -34,9 +32,7 @@ total-sum one other (x ∷ xs) =
 total-same : {X : Type 0} (one other : X → ℤ) (xs : List X) → ((x : X) → one x ≡ other x) → total (map one xs) ≡ total (map other xs)
 total-same one other [] h = refl
 total-same one other (x ∷ xs) h =
-    let here = h x in
-    let more = total-same one other xs h in
-    omega (arith, ints, here, more)
+    let more = total-same one other xs h in grind arith
 
 -- ---- one dart, and the others of a walk
 
@@ -49,14 +45,8 @@ module _ (mesh : FaceList) (table : List Edge) (of_edge : ℕ → ℕ → ℤ) (
   term u v edge = of_edge edge.low edge.high *ℤ share (pos 1) edge.low edge.high u v
 
   own_term : (u v : ℕ) (edge : Edge) → edge.low < edge.high → HasEnds u v edge → term u v edge ≡ dart_number of_edge u v
-  own_term u v edge up (inl e) =
-      let one : share (pos 1) edge.low edge.high u v ≡ pos 1 = grind (arith, nat_tests) in
-      let is : dart_number of_edge u v ≡ of_edge edge.low edge.high = grind (arith, nat_tests) in
-      ap (λ z. of_edge edge.low edge.high *ℤ z) one ∙ times-one (of_edge edge.low edge.high) ∙ sym is
-  own_term u v edge up (inr e) =
-      let one : share (pos 1) edge.low edge.high u v ≡ negsuc 0 = grind (arith, nat_tests) in
-      let is : dart_number of_edge u v ≡ neg_ℤ (of_edge edge.low edge.high) = grind (arith, nat_tests) in
-      ap (λ z. of_edge edge.low edge.high *ℤ z) one ∙ times-minus (of_edge edge.low edge.high) ∙ sym is
+  own_term u v edge up (inl e) = grind (arith, times-one)
+  own_term u v edge up (inr e) = grind (arith, times-minus)
 
   one_dart : (u v : ℕ) → IsEdgeBetween table u v → total (map (term u v) table) ≡ dart_number of_edge u v
   one_dart u v found =
@@ -88,8 +78,7 @@ module _ (mesh : FaceList) (table : List Edge) (of_edge : ℕ → ℕ → ℤ) (
       total-same (λ (edge : Edge). of_edge edge.low edge.high *ℤ count_of (u ∷ v ∷ walk) edge.low edge.high)
       (λ (edge : Edge). term u v edge +ℤ of_edge edge.low edge.high *ℤ count_of (v ∷ walk) edge.low edge.high) table
       (λ edge. times-sum (of_edge edge.low edge.high) (share (pos 1) edge.low edge.high u v) (count_of (v ∷ walk) edge.low edge.high))
-      ∙ total-sum (term u v) (λ (edge : Edge). of_edge edge.low edge.high *ℤ count_of (v ∷ walk) edge.low edge.high) table in
-      omega (arith, ints, here, more, apart_is)
+      ∙ total-sum (term u v) (λ (edge : Edge). of_edge edge.low edge.high *ℤ count_of (v ∷ walk) edge.low edge.high) table in grind arith
 
   pub sum_over_edges : (first second : List ℕ) → IsWalk mesh first → IsWalk mesh second
       → edge_sum table of_edge first second ≡ separation of_edge first second
@@ -111,9 +100,7 @@ module _ (mesh : FaceList) (table : List Edge) (of_edge : ℕ → ℕ → ℤ) (
       omega (arith, ints, one, two, minus, parts)
     where
       times-sum-back : (c a b : ℤ) → c *ℤ (a -ℤ b) ≡ c *ℤ a +ℤ c *ℤ neg_ℤ b
-      times-sum-back c a b =
-          let same : a -ℤ b ≡ a +ℤ neg_ℤ b = omega (arith, ints) in
-          ap (λ z. c *ℤ z) same ∙ times-sum c a (neg_ℤ b)
+      times-sum-back c a b = grind (arith, times-sum)
 
       total-back : (edges : List Edge)
           → total (map (λ (edge : Edge). of_edge edge.low edge.high *ℤ neg_ℤ (count_of second edge.low edge.high)) edges)

@@ -1,5 +1,5 @@
 -- Homotopic walks are homologous: what a move changes is the boundary of the face that it crosses.
-use Rattle.homology.proofs.Common.{IsChain, crossing, net_crossings, along, round, share, ◌≡◌, ℕ, ◌-◌, ◌<◌, true, false, List, [], ◌∷◌, ◌++◌, length, ap, sym, ◌∙◌, arith, ℤ, pos, negsuc, ◌-ℤ◌, ints, Some, alike, FaceList, face_at, corners_from, all_sides}
+use Rattle.homology.proofs.Common.{IsChain, crossing, net_crossings, along, round, ◌≡◌, ℕ, ◌-◌, ◌<◌, true, false, List, [], ◌∷◌, length, ap, ◌∙◌, arith, ℤ, pos, negsuc, ◌-ℤ◌, ints, Some, alike, FaceList, face_at, corners_from, all_sides}
 use Rattle.surf_model.proofs.ContextLemmas.{first_answer, stays_walk}
 use Rattle.surf_model.proofs.ReplacementLemmas.{by_replacing}
 use Rattle.surf_model.specs.Moves.{apply, apply_all}
@@ -12,9 +12,7 @@ use Rattle.homology.proofs.BoundaryLemmas.{part_sum, part_sum-sum, part_sum-none
 
 -- a spur adds up to nothing
 spur : (number : ℕ → ℕ → ℤ) (a v : ℕ) → IsOpposite number → along number (a ∷ v ∷ a ∷ []) ≡ pos 0
-spur number a v opposite =
-    let back = opposite.back a v in
-    omega (arith, ints, back)
+spur number a v opposite = grind arith
 
 -- the two parts of a move differ by the boundary of the face that it crosses
 parts_differ : (mesh : FaceList) (number : ℕ → ℕ → ℤ) (move : Move) (part other : List ℕ) → IsOpposite number
@@ -22,9 +20,7 @@ parts_differ : (mesh : FaceList) (number : ℕ → ℕ → ℤ) (move : Move) (p
     → along number part -ℤ along number other ≡ part_sum (crossing move) number (all_sides mesh)
 parts_differ mesh number (Insert at via) part other opposite h =
     let none = part_sum-none number (all_sides mesh) in
-    let one : along number part ≡ pos 0 = ap (along number) h.2 in
-    let two : along number other ≡ pos 0 = ap (along number) h.3 ∙ spur number h.0 via.0 opposite in
-    omega (arith, ints, none, one, two)
+    let two : along number other ≡ pos 0 = ap (along number) h.3 ∙ spur number h.0 via.0 opposite in grind arith
 parts_differ mesh number (Remove at via) part other opposite h =
     let none = part_sum-none number (all_sides mesh) in
     let one : along number part ≡ pos 0 = ap (along number) h.1 ∙ spur number h.0 via.0 opposite in
@@ -52,11 +48,8 @@ one_move : (mesh : FaceList) (number : ℕ → ℕ → ℤ) (walk next : List �
     → along number walk -ℤ along number next ≡ part_sum (crossing move) number (all_sides mesh)
 one_move mesh number walk next move opposite start e =
     let r = (by_replacing mesh walk next move start).0 e in
-    let one : along number walk ≡ along number (r.before ++ r.part ++ r.after) = ap (along number) r.walk_is in
-    let two : along number next ≡ along number (r.before ++ r.other ++ r.after) = ap (along number) r.next_is in
     let parts = along-part number r.before r.part r.other r.after (alike mesh move r.part r.other r.replaces) in
-    let differ = parts_differ mesh number move r.part r.other opposite r.replaces in
-    omega (arith, ints, one, two, parts, differ)
+    let differ = parts_differ mesh number move r.part r.other opposite r.replaces in grind arith
 
 -- along two walks that moves join, the sums differ by the boundary of the faces crossed
 pub moves_differ : (mesh : FaceList) (number : ℕ → ℕ → ℤ) (moves : List Move) (first second : List ℕ) → IsOpposite number
@@ -75,8 +68,4 @@ moves_differ mesh number (move ∷ moves) first second opposite start e =
 
 pub chain_of_moves : (mesh : FaceList) (first second : List ℕ) (moves : List Move) → 0 < length first
     → apply_all mesh first moves ≡ Some second → IsChain mesh (net_crossings moves) first second
-chain_of_moves mesh first second moves start e = record {
-  balanced = λ low high up edge.
-      moves_differ mesh (share (pos 1) low high) moves first second (share-opposite (pos 1) low high up) start e
-      ∙ sym (boundary_is mesh (net_crossings moves) low high);
-}
+chain_of_moves mesh first second moves start e = grind (arith, moves_differ, share-opposite, boundary_is)

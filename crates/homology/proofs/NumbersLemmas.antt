@@ -1,16 +1,12 @@
 -- The numbers of a certificate, written into an array line by line.
-use Rattle.homology.proofs.Common.{listed_number, face_number, edge_number, AreFaceNumbers, AreEdgeNumbers, number_at, AreWithin, AreNumbersOf, EdgeNumber, FaceNumber, MOST_NUMBER, ◌≡◌, ◌≢◌, ◌⊎◌, inl, inr, ℕ, suc, ◌+◌, ◌<◌, ◌≤◌, Bool, true, false, ◌&&◌, List, [], ◌∷◌, ◌++◌, length, get_or, set, take, refl, ap, sym, ◌∙◌, subst, arith, ℤ, pos, get_or-take, cases_Bool, cases_eq, cases_lt, nat_tests, get_or-set_same, get_or-set_other, take_more, get_or_past, get_or_from_slice_get, All, Some, slice_get, unsigned_abs, if◌then◌else◌, ◌==◌, same_pair, Edge, IsTableOf, IsPairBefore, HasEnds, edge_in, FaceList}
+use Rattle.homology.proofs.Common.{listed_number, face_number, edge_number, AreFaceNumbers, AreEdgeNumbers, number_at, AreWithin, AreNumbersOf, EdgeNumber, FaceNumber, MOST_NUMBER, ◌≡◌, ◌≢◌, ◌⊎◌, inl, inr, ℕ, suc, ◌+◌, ◌<◌, ◌≤◌, Bool, true, false, ◌&&◌, List, [], ◌∷◌, ◌++◌, length, get_or, set, take, refl, ap, sym, ◌∙◌, subst, arith, ℤ, pos, cases_Bool, cases_eq, nat_tests, common_steps, get_or-set_same, get_or-set_other, take_more, get_or_from_slice_get, All, Some, slice_get, unsigned_abs, if◌then◌else◌, ◌==◌, same_pair, Edge, IsTableOf, IsPairBefore, HasEnds, edge_in, FaceList}
+use Rattle.std.proofs.Math.Seq.{get_or-take}
 use Rattle.homology.proofs.TallyLemmas.{few_taken, apart}
 
 -- what holds of the elements so far, and of the next
 pub all_more : {X : Type 0} (P : X → Type 0) (xs : List X) (k : ℕ) (x : X) → ((j : ℕ) (d : X) → j < k → P (get_or xs j d))
     → slice_get xs k ≡ Some x → P x → (j : ℕ) (d : X) → j < k + 1 → P (get_or xs j d)
-all_more P xs k x h here holds j d l = elim (cases_lt j k) [
-  | inl less ↦ h j d less
-  | inr last ↦
-      let same : j ≡ k = omega arith in
-      subst P (sym (ap (λ n. get_or xs n d) same ∙ get_or_from_slice_get xs k x d here)) holds
-]
+all_more P xs k x h here holds j d l = grind (arith, get_or_from_slice_get)
 
 -- one more line: it is the one that counts where it passes, and else those before it
 pub listed_more : {X : Type 0} (test : X → Bool) (number : X → ℤ) (xs : List X) (x : X)
@@ -85,18 +81,13 @@ face_written lines k f line old new valid l here room is was =
     written (λ n (x : FaceNumber). x.face.0 == n) (λ (x : FaceNumber). x.number) lines k line.face.0 f line old new l here room
     (own_face line) (λ off. other_face line f off)
     (λ j d less.
-    let before : (get_or lines j d).face.0 < line.face.0 =
-    subst (λ (x : FaceNumber). (get_or lines j d).face.0 < x.face.0) (get_or_from_slice_get lines k line d here)
-    (valid.rising j k d less l) in
+    let before : (get_or lines j d).face.0 < line.face.0 = grind (arith, get_or_from_slice_get) in
     other_face (get_or lines j d) line.face.0 (λ e. omega (arith, before, e)))
     is was
 
 pub faces_small : (lines : List FaceNumber) (numbers : List ℤ) → AreFaceNumbers lines
     → ((f : ℕ) → number_at numbers f ≡ face_number lines f) → AreWithin MOST_NUMBER numbers
-faces_small lines numbers valid h = record {
-  each = λ f. subst (λ z. unsigned_abs z ≤ MOST_NUMBER) (sym (h f))
-      (listed_small (λ (x : FaceNumber). x.face.0 == f) (λ (x : FaceNumber). x.number) MOST_NUMBER lines valid.small);
-}
+faces_small lines numbers valid h = grind (arith, listed_small)
 
 -- whether a line is that of an edge
 abbrev is_line_of : List Edge → ℕ → EdgeNumber → Bool
@@ -126,9 +117,7 @@ edge_written mesh table lines k e f line old new h valid l here le lf ends long 
     (apart mesh table e f h le lf (λ e_is. off (sym e_is))))
     (λ j d less.
     let other : EdgeNumber = get_or lines j d in
-    let before : IsPairBefore other.low.0 other.high.0 line.low.0 line.high.0 =
-    subst (λ (x : EdgeNumber). IsPairBefore other.low.0 other.high.0 x.low.0 x.high.0) (get_or_from_slice_get lines k line d here)
-    (valid.rising j k d less l) in
+    let before : IsPairBefore other.low.0 other.high.0 line.low.0 line.high.0 = grind (arith, get_or_from_slice_get) in
     other_edge table e other other.low.0 other.high.0 refl refl
     (inl (subst (λ a. IsPairBefore other.low.0 other.high.0 a (edge_in table e).high) (sym same.0)
     (subst (λ b. IsPairBefore other.low.0 other.high.0 line.low.0 b) (sym same.1) before))))
@@ -136,12 +125,4 @@ edge_written mesh table lines k e f line old new h valid l here le lf ends long 
 
 pub edges_small : (table : List Edge) (lines : List EdgeNumber) (numbers : List ℤ) → AreEdgeNumbers lines
     → AreNumbersOf table numbers (edge_number lines) → AreWithin MOST_NUMBER numbers
-edges_small table lines numbers valid h = record {
-  each = λ k. elim (cases_lt k (length table)) [
-    | inl l ↦ subst (λ z. unsigned_abs z ≤ MOST_NUMBER) (sym (h.each k l))
-        (listed_small (is_line_of table k) (λ (x : EdgeNumber). x.number) MOST_NUMBER lines valid.small)
-    | inr past ↦
-        let none : number_at numbers k ≡ pos 0 = get_or_past numbers k (pos 0) (omega (arith, h.long, past)) in
-        subst (λ z. unsigned_abs z ≤ MOST_NUMBER) (sym none) (omega arith)
-  ];
-}
+edges_small table lines numbers valid h = grind (arith, common_steps, listed_small, number_at)

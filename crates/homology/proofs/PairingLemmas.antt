@@ -1,6 +1,6 @@
 -- Darts with weights: where they balance at every edge, the numbers of a cocycle add up to nothing on them. So a cocycle excludes every
 -- chain.
-use Rattle.homology.proofs.Common.{IsChain, count_of, IsCocycle, Separates, dart_number, along, share, ◌≡◌, ◌⊎◌, inl, inr, ℕ, zero, suc, ◌<◌, ◌≤◌, Bool, true, false, not, ◌&&◌, ◌||◌, List, [], ◌∷◌, ◌++◌, length, refl, ap, ap₂, sym, ◌∙◌, arith, ℤ, pos, negsuc, ◌+ℤ◌, ◌-ℤ◌, *ℤ-zero, *ℤ_comm, cases_order, cases_Bool, nat_tests, ints, list_any, ◌*ℤ◌, neg_ℤ, map, filter, nat_eq, Linked, links, FaceList, FaceSide, all_sides, joins, is_edge, IsWalk}
+use Rattle.homology.proofs.Common.{IsChain, count_of, IsCocycle, Separates, dart_number, along, share, ◌≡◌, ◌⊎◌, inl, inr, ℕ, zero, suc, ◌<◌, ◌≤◌, Bool, true, false, not, ◌&&◌, ◌||◌, List, [], ◌∷◌, ◌++◌, length, refl, ap, sym, ◌∙◌, arith, ℤ, pos, negsuc, ◌+ℤ◌, ◌-ℤ◌, *ℤ-zero, cases_order, cases_Bool, nat_tests, ints, list_any, ◌*ℤ◌, neg_ℤ, map, filter, nat_eq, Linked, links, FaceList, FaceSide, all_sides, joins, is_edge, IsWalk}
 use Rattle.surf_model.proofs.EdgeLemmas.{edge_swap}
 use Rattle.homology.proofs.RingLemmas.{times-sum, times-one, one-times, times-minus, minus-times, times-opposite, opposite-times}
 use Rattle.homology.proofs.AlongLemmas.{IsOpposite}
@@ -45,17 +45,7 @@ share-off a b d h = grind (arith, nat_tests)
 
 on_term : (number : ℕ → ℕ → ℤ) (a b : ℕ) (d : Weighted) → IsOpposite number → a < b → on_pair a b d ≡ true
     → d.weight *ℤ number d.from d.to ≡ number a b *ℤ (d.weight *ℤ share (pos 1) a b d.from d.to)
-on_term number a b d opposite up on = elim (on_cases a b d on) [
-  | inl e ↦
-      ap₂ (λ u v. d.weight *ℤ number u v) e.0 e.1 ∙ *ℤ_comm d.weight (number a b)
-      ∙ ap (λ z. number a b *ℤ z) (sym (times-one d.weight))
-      ∙ ap (λ z. number a b *ℤ (d.weight *ℤ z)) (sym (share-forward a b d.from d.to e.0 e.1))
-  | inr e ↦
-      ap₂ (λ u v. d.weight *ℤ number u v) e.0 e.1 ∙ ap (λ z. d.weight *ℤ z) (opposite.back a b)
-      ∙ times-opposite d.weight (number a b) ∙ ap neg_ℤ (*ℤ_comm d.weight (number a b)) ∙ sym (times-opposite (number a b) d.weight)
-      ∙ ap (λ z. number a b *ℤ z) (sym (times-minus d.weight))
-      ∙ ap (λ z. number a b *ℤ (d.weight *ℤ z)) (sym (share-back a b d.from d.to up e.0 e.1))
-]
+on_term number a b d opposite up on = grind (arith, on_cases, times-one, share-forward, times-opposite, times-minus, share-back)
 
 -- the darts along one pair, and the others
 pub split : (number : ℕ → ℕ → ℤ) (a b : ℕ) (ds : List Weighted) → IsOpposite number → a < b
@@ -69,9 +59,7 @@ split number a b (d ∷ ds) opposite up = elim (cases_Bool (on_pair a b d)) [
       rw on (omega (arith, ints, more, here, apart))
   | inr off ↦
       let more = split number a b ds opposite up in
-      let none : number a b *ℤ (d.weight *ℤ share (pos 1) a b d.from d.to) ≡ pos 0 =
-      ap (λ z. number a b *ℤ (d.weight *ℤ z)) (share-off a b d off) ∙ ap (λ z. number a b *ℤ z) (*ℤ-zero d.weight)
-      ∙ *ℤ-zero (number a b) in
+      let none : number a b *ℤ (d.weight *ℤ share (pos 1) a b d.from d.to) ≡ pos 0 = grind (arith, share-off) in
       let apart = times-sum (number a b) (d.weight *ℤ share (pos 1) a b d.from d.to) (value (share (pos 1) a b) ds) in
       rw off (omega (arith, ints, more, none, apart))
 ]
@@ -97,9 +85,7 @@ IsBalanced ds = (low high : ℕ) → low < high → value (share (pos 1) low hig
 balanced_others : (a b : ℕ) (ds : List Weighted) → a < b → IsBalanced ds → IsBalanced (others a b ds)
 balanced_others a b ds up h low high rise =
     let apart = split (share (pos 1) low high) a b ds (share-opposite (pos 1) low high rise) up in
-    let none : share (pos 1) low high a b *ℤ value (share (pos 1) a b) ds ≡ pos 0 =
-    ap (λ z. share (pos 1) low high a b *ℤ z) (h a b up) ∙ *ℤ-zero (share (pos 1) low high a b) in
-    omega (arith, ints, apart, none, h low high rise)
+    let none : share (pos 1) low high a b *ℤ value (share (pos 1) a b) ds ≡ pos 0 = grind arith in grind arith
 
 share-loop : (low high u v : ℕ) → low < high → u ≡ v → share (pos 1) low high u v ≡ pos 0
 share-loop low high u v up e = grind (arith, nat_tests)
@@ -117,8 +103,7 @@ taken_out : (number : ℕ → ℕ → ℤ) (d : Weighted) (ds : List Weighted) (
 taken_out number d ds a b n opposite up on few h others_none =
     let rest : value number (others a b (d ∷ ds)) ≡ pos 0 =
     others_none (others a b (d ∷ ds)) (omega (arith, fewer_without a b d ds on)) (balanced_others a b (d ∷ ds) up h) in
-    let none : number a b *ℤ value (share (pos 1) a b) (d ∷ ds) ≡ pos 0 =
-    ap (λ z. number a b *ℤ z) (h a b up) ∙ *ℤ-zero (number a b) in
+    let none : number a b *ℤ value (share (pos 1) a b) (d ∷ ds) ≡ pos 0 = grind arith in
     omega (arith, ints, split number a b (d ∷ ds) opposite up, rest, none)
 
 -- then the numbers add up to nothing
@@ -158,8 +143,7 @@ value-walk number weight [] = sym (*ℤ-zero weight)
 value-walk number weight (u ∷ []) = sym (*ℤ-zero weight)
 value-walk number weight (u ∷ v ∷ walk) =
     let more = value-walk number weight (v ∷ walk) in
-    let apart = times-sum weight (number u v) (along number (v ∷ walk)) in
-    omega (arith, ints, more, apart)
+    let apart = times-sum weight (number u v) (along number (v ∷ walk)) in grind arith
 
 -- the sides, with the opposites of the numbers of their faces
 abbrev pub side_darts : (ℕ → ℤ) → List FaceSide → List Weighted
@@ -181,46 +165,19 @@ difference mesh of_face first second =
 value-difference : (mesh : FaceList) (of_face : ℕ → ℤ) (first second : List ℕ) (number : ℕ → ℕ → ℤ)
     → value number (difference mesh of_face first second)
     ≡ along number first -ℤ along number second -ℤ part_sum of_face number (all_sides mesh)
-value-difference mesh of_face first second number =
-    let one = value-append number (walk_darts (pos 1) first ++ walk_darts (negsuc 0) second) (side_darts of_face (all_sides mesh)) in
-    let two = value-append number (walk_darts (pos 1) first) (walk_darts (negsuc 0) second) in
-    omega (
-      arith,
-      ints,
-      one,
-      two,
-      value-walk number (pos 1) first,
-      value-walk number (negsuc 0) second,
-      one-times (along number first),
-      minus-times (along number second),
-      value-sides number of_face (all_sides mesh),
-    )
+value-difference mesh of_face first second number = grind (arith, value-append, value-walk, one-times, along, minus-times, value-sides)
 
 -- where two vertices form no edge, no walk has a dart, and no face a side
 no_share : (mesh : FaceList) (low high u v : ℕ) → is_edge mesh low high ≡ false → is_edge mesh u v ≡ true
     → share (pos 1) low high u v ≡ pos 0
-no_share mesh low high u v off on =
-    elim (cases_Bool (on_pair low high (record { weight = pos 0; from = u; to = v }))) [
-      | inl is ↦ elim (on_cases low high (record { weight = pos 0; from = u; to = v }) is) [
-        | inl e ↦
-            let same : is_edge mesh u v ≡ is_edge mesh low high = ap₂ (is_edge mesh) e.0 e.1 in
-            let clash : true ≡ false = sym on ∙ same ∙ off in
-            cc
-        | inr e ↦
-            let same : is_edge mesh u v ≡ is_edge mesh low high = ap₂ (is_edge mesh) e.0 e.1 ∙ edge_swap mesh high low in
-            let clash : true ≡ false = sym on ∙ same ∙ off in
-            cc
-      ]
-      | inr no_pair ↦ share-off low high (record { weight = pos 0; from = u; to = v }) no_pair
-    ]
+no_share mesh low high u v off on = grind (arith, on_cases, edge_swap, share-off)
 
 no_count : (mesh : FaceList) (low high : ℕ) (walk : List ℕ) → is_edge mesh low high ≡ false → Linked mesh walk
     → count_of walk low high ≡ pos 0
 no_count mesh low high [] off h = refl
 no_count mesh low high (u ∷ []) off h = refl
 no_count mesh low high (u ∷ v ∷ walk) off h =
-    let more = no_count mesh low high (v ∷ walk) off h.1 in
-    omega (arith, ints, more, no_share mesh low high u v off h.0)
+    let more = no_count mesh low high (v ∷ walk) off h.1 in grind (arith, no_share)
 
 side_off : (low high : ℕ) (s : FaceSide) → joins low high s ≡ false → share (pos 1) low high s.tail s.head ≡ pos 0
 side_off low high s h = grind (arith, nat_tests)
@@ -229,9 +186,7 @@ no_sides : (of_face : ℕ → ℤ) (low high : ℕ) (sides : List FaceSide) → 
     → part_sum of_face (share (pos 1) low high) sides ≡ pos 0
 no_sides of_face low high [] off = refl
 no_sides of_face low high (s ∷ sides) off = elim (cases_Bool (joins low high s)) [
-  | inl on ↦
-      let clash : true ≡ false = rw on at off in
-      cc
+  | inl on ↦ grind arith
   | inr no_side ↦
       let rest : list_any (joins low high) sides ≡ false = rw no_side at off in
       let more = no_sides of_face low high sides rest in
@@ -247,17 +202,7 @@ no_boundary mesh of_face low high off = no_sides of_face low high (all_sides mes
 
 balanced : (mesh : FaceList) (of_face : ℕ → ℤ) (first second : List ℕ) → Linked mesh first → Linked mesh second
     → IsChain mesh of_face first second → IsBalanced (difference mesh of_face first second)
-balanced mesh of_face first second one two chain low high up =
-    value-difference mesh of_face first second (share (pos 1) low high)
-    ∙ elim (cases_Bool (is_edge mesh low high)) [
-      | inl on ↦
-          let even = chain.balanced low high up on in
-          omega (arith, ints, even, boundary_is mesh of_face low high)
-      | inr off ↦
-          let here = no_count mesh low high first off one in
-          let there = no_count mesh low high second off two in
-          omega (arith, ints, here, there, no_boundary mesh of_face low high off)
-    ]
+balanced mesh of_face first second one two chain low high up = grind (arith, value-difference, boundary_is, no_count, no_boundary)
 
 -- with a chain, the sums of any numbers of darts differ by what the faces add up to
 pub chain_tells : (mesh : FaceList) (of_face : ℕ → ℤ) (first second : List ℕ) (number : ℕ → ℕ → ℤ) → IsOpposite number
@@ -265,14 +210,10 @@ pub chain_tells : (mesh : FaceList) (of_face : ℕ → ℤ) (first second : List
     → along number first -ℤ along number second ≡ part_sum of_face number (all_sides mesh)
 chain_tells mesh of_face first second number opposite one two chain =
     let none = nothing number (difference mesh of_face first second) opposite
-    (balanced mesh of_face first second one two chain) in
-    omega (arith, ints, none, value-difference mesh of_face first second number)
+    (balanced mesh of_face first second one two chain) in grind (arith, value-difference)
 
 pub dart_number-opposite : (of_edge : ℕ → ℕ → ℤ) → IsOpposite (dart_number of_edge)
-dart_number-opposite of_edge = record { back = λ u v. turned u v }
-  where
-    turned : (u v : ℕ) → dart_number of_edge v u ≡ neg_ℤ (dart_number of_edge u v)
-    turned u v = grind (arith, nat_tests, ints)
+dart_number-opposite of_edge = grind arith
 
 pub refuted : (mesh : FaceList) (of_edge : ℕ → ℕ → ℤ) (first second : List ℕ) → IsWalk mesh first → IsWalk mesh second
     → IsCocycle mesh of_edge → Separates of_edge first second → (of_face : ℕ → ℤ) → IsChain mesh of_face first second → ⊥

@@ -1,14 +1,12 @@
 -- Whole numbers: the product and the sum.
-use Rattle.homology.proofs.Common.{◌≡◌, ℕ, zero, suc, ap, ap₂, sym, ◌∙◌, arith, ℤ, pos, negsuc, ◌+ℤ◌, ◌-ℤ◌, one, suc_ℤ-+ℤ, pred_ℤ-+ℤ, suc_ℤ-*ℤ, pred_ℤ-*ℤ, *ℤ_comm, zero-*ℤ, *ℤ-zero, *ℤ-one, *ℤ-negsuc, ints, ◌*ℤ◌, neg_ℤ}
+use Rattle.homology.proofs.Common.{◌≡◌, ℕ, zero, suc, ap, ap₂, ◌∙◌, arith, ℤ, pos, negsuc, ◌+ℤ◌, ◌-ℤ◌, one, suc_ℤ-+ℤ, pred_ℤ-+ℤ, suc_ℤ-*ℤ, pred_ℤ-*ℤ, *ℤ_comm, zero-*ℤ, *ℤ-one, *ℤ-negsuc, ints, ◌*ℤ◌, neg_ℤ}
 
 -- by induction on the first number
 pub sum-times : (a b c : ℤ) → (a +ℤ b) *ℤ c ≡ a *ℤ c +ℤ b *ℤ c
 sum-times (pos n) b c = up n
   where
     up : (n : ℕ) → (pos n +ℤ b) *ℤ c ≡ pos n *ℤ c +ℤ b *ℤ c
-    up zero =
-        let e : pos 0 +ℤ b ≡ b = omega (arith, ints) in
-        ap (λ x. x *ℤ c) e ∙ omega (arith, ints, zero-*ℤ c)
+    up zero = grind arith
     up (suc n) =
         let whole = up n in
         ap (λ x. x *ℤ c) (suc_ℤ-+ℤ (pos n) b) ∙ suc_ℤ-*ℤ (pos n +ℤ b) c ∙ omega (arith, ints, suc_ℤ-*ℤ (pos n) c, whole)
@@ -28,10 +26,7 @@ times-sum a b c = *ℤ_comm a (b +ℤ c) ∙ sum-times b c a ∙ ap₂ (λ x y. 
 
 -- a number and its opposite add up to nothing
 pub times-opposite : (a b : ℤ) → a *ℤ neg_ℤ b ≡ neg_ℤ (a *ℤ b)
-times-opposite a b =
-    let none : b +ℤ neg_ℤ b ≡ pos 0 = omega (arith, ints) in
-    let sum : a *ℤ b +ℤ a *ℤ neg_ℤ b ≡ pos 0 = sym (times-sum a b (neg_ℤ b)) ∙ ap (λ x. a *ℤ x) none ∙ *ℤ-zero a in
-    omega (arith, ints, sum)
+times-opposite a b = grind (arith, times-sum)
 
 pub opposite-times : (a b : ℤ) → neg_ℤ a *ℤ b ≡ neg_ℤ (a *ℤ b)
 opposite-times a b = *ℤ_comm (neg_ℤ a) b ∙ times-opposite b a ∙ ap neg_ℤ (*ℤ_comm b a)

@@ -1,5 +1,5 @@
 -- The numbers of sides, side by side.
-use Rattle.homology.proofs.Common.{side_numbers, dart_number, AreNumbersOf, AreWithin, number_at, turned, ◌≡◌, ◌≢◌, inl, inr, ℕ, zero, suc, ◌+◌, ◌<◌, ◌≤◌, ◌-◌, ◌&&◌, List, [], ◌∷◌, ◌++◌, length, get_or, take, ap, sym, ◌∙◌, subst, arith, ℤ, pos, cases_lt, nat_tests, take_more, get_or-append_right, get_or-map, get_or_append_left, length-map, ◌==◌, if◌then◌else◌, neg_ℤ, unsigned_abs, Contains, AllPairs, face_side, length-all_sides, HasSideEnds, IsSideOfEdge, side_of_edge, table_edge, head_of, tail_of, IsSide, side_number, IsPairBefore, Edge, IsTableOf, HasEnds, edge_in, FaceList, FaceSide, all_sides, face_at, total_sides, Side}
+use Rattle.homology.proofs.Common.{side_numbers, dart_number, AreNumbersOf, AreWithin, number_at, turned, ◌≡◌, ◌≢◌, inl, inr, ℕ, zero, suc, ◌+◌, ◌<◌, ◌≤◌, ◌-◌, ◌&&◌, List, [], ◌∷◌, ◌++◌, length, get_or, take, ap, sym, ◌∙◌, arith, ℤ, pos, nat_tests, common_steps, get_or-map, length-map, ◌==◌, if◌then◌else◌, neg_ℤ, unsigned_abs, Contains, AllPairs, face_side, length-all_sides, HasSideEnds, IsSideOfEdge, side_of_edge, table_edge, head_of, tail_of, IsSide, side_number, IsPairBefore, Edge, IsTableOf, HasEnds, edge_in, FaceList, FaceSide, all_sides, face_at, total_sides, Side}
 use Rattle.surf_model.proofs.SideNumberLemmas.{side_of_number-is}
 use Rattle.surf_model.specs.EdgeDarts.{darts_of}
 use Rattle.homology.proofs.CocycleVerdictLemmas.{dart_is}
@@ -32,8 +32,7 @@ numbered mesh table d e h l has =
 
 -- there is one for each side
 pub length-side_numbers : (mesh : FaceList) (of_edge : ℕ → ℕ → ℤ) → length (side_numbers mesh of_edge) ≡ total_sides mesh
-length-side_numbers mesh of_edge =
-    length-map (all_sides mesh) (λ (s : FaceSide). dart_number of_edge s.tail s.head) ∙ length-all_sides mesh
+length-side_numbers mesh of_edge = grind (arith, common_steps, length-all_sides)
 
 -- the number of a side is that of its dart
 of_side_at : (mesh : FaceList) (of_edge : ℕ → ℕ → ℤ) (d : ℕ) (none : ℤ) (side : Side) → IsSide mesh side → side_number mesh side ≡ d
@@ -56,8 +55,7 @@ side_is mesh table numbers of_edge d e u r h are l el has tail is =
     let side : Side = found.side in
     let in_mesh : IsSide mesh side = found.is_side.side_of in
     let from : u ≡ tail_of mesh side = tail side in_mesh found.number in
-    let ends : HasEnds u (head_of mesh side) (edge_in table e) =
-    subst (λ x. HasEnds x (head_of mesh side) (edge_in table e)) (sym from) (has_ends mesh (edge_in table e) side found.is_side.ends) in
+    let ends : HasEnds u (head_of mesh side) (edge_in table e) = grind (arith, head_of, has_ends) in
     of_side_at mesh of_edge d r side in_mesh found.number l
     ∙ ap (λ x. dart_number of_edge x (head_of mesh side)) (sym from)
     ∙ sym (dart_is mesh table numbers of_edge e u (head_of mesh side) r h are el ends is)
@@ -66,23 +64,12 @@ side_is mesh table numbers of_edge d e u r h are l el has tail is =
 pub side_more : (mesh : FaceList) (of_edge : ℕ → ℕ → ℤ) (old new : List ℤ) (d : ℕ) (r : ℤ) → d < total_sides mesh
     → get_or (side_numbers mesh of_edge) d r ≡ r → new ≡ old ++ r ∷ [] → old ≡ take d (side_numbers mesh of_edge)
     → new ≡ take (d + 1) (side_numbers mesh of_edge)
-side_more mesh of_edge old new d r l last grown was =
-    let few : d < length (side_numbers mesh of_edge) = omega (arith, l, length-side_numbers mesh of_edge) in
-    grown ∙ ap (λ xs. xs ++ r ∷ []) was
-    ∙ sym (take_more (side_numbers mesh of_edge) d r few ∙ ap (λ x. take d (side_numbers mesh of_edge) ++ x ∷ []) last)
+side_more mesh of_edge old new d r l last grown was = grind (arith, common_steps, length-side_numbers)
 
 -- a small number put last
 pub within_pushed : (bound : ℕ) (old new : List ℤ) (r : ℤ) → AreWithin bound old → unsigned_abs r ≤ bound → new ≡ old ++ r ∷ []
     → AreWithin bound new
-within_pushed bound old new r h l is =
-    record { each = λ k. subst (λ (xs : List ℤ). unsigned_abs (number_at xs k) ≤ bound) (sym is) (pushed old k h.each) }
-  where
-    pushed : (xs : List ℤ) (k : ℕ) → ((j : ℕ) → unsigned_abs (number_at xs j) ≤ bound)
-        → unsigned_abs (number_at (xs ++ r ∷ []) k) ≤ bound
-    pushed [] zero small = l
-    pushed [] (suc k) small = omega arith
-    pushed (x ∷ xs) zero small = small 0
-    pushed (x ∷ xs) (suc k) small = pushed xs k (λ j. small (suc j))
+within_pushed bound old new r h l is = grind (arith, common_steps, number_at)
 
 -- ---- from numbers of the sides to those of the edges
 
@@ -119,16 +106,7 @@ pub number_pushed : (table : List Edge) (of_edge : ℕ → ℕ → ℤ) (old new
     → ((k : ℕ) → k < e → number_at old k ≡ of_edge (edge_in table k).low (edge_in table k).high)
     → r ≡ of_edge (edge_in table e).low (edge_in table e).high → (k : ℕ) → k < e + 1
     → number_at new k ≡ of_edge (edge_in table k).low (edge_in table k).high
-number_pushed table of_edge old new e r long is before here k l = elim (cases_lt k e) [
-  | inl less ↦
-      ap (λ (xs : List ℤ). number_at xs k) is ∙ get_or_append_left old (r ∷ []) (pos 0) k (omega (arith, less, long)) ∙ before k less
-  | inr last ↦
-      let same : k ≡ e = omega arith in
-      let first : k - e ≡ 0 = omega arith in
-      ap (λ (xs : List ℤ). number_at xs k) is ∙ get_or-append_right old (r ∷ []) e k (pos 0) long last
-      ∙ ap (λ n. get_or (r ∷ []) n (pos 0)) first ∙ here
-      ∙ ap (λ n. of_edge (edge_in table n).low (edge_in table n).high) (sym same)
-]
+number_pushed table of_edge old new e r long is before here k l = grind (arith, common_steps, number_at)
 
 -- the number of the edge of a table with these ends, and 0 where there is none
 abbrev pub number_in : List Edge → List ℤ → ℕ → ℕ → ℤ
@@ -148,8 +126,7 @@ number_in_at : (table : List Edge) (numbers : List ℤ) (k : ℕ) → AllPairs (
     → number_at numbers k ≡ number_in table numbers (edge_in table k).low (edge_in table k).high
 number_in_at [] numbers k rising long l = absurd (omega arith)
 number_in_at (edge ∷ edges) [] k rising long l = absurd (omega arith)
-number_in_at (edge ∷ edges) (number ∷ numbers) zero rising long l =
-    sym (own_number edge.low edge.high number (number_in edges numbers edge.low edge.high))
+number_in_at (edge ∷ edges) (number ∷ numbers) zero rising long l = grind (arith, own_number)
 number_in_at (edge ∷ edges) (number ∷ numbers) (suc k) rising long l =
     let none : Edge = record { low = 0; high = 0; sides = [] } in
     let later : Edge = edge_in edges k in

@@ -1,6 +1,5 @@
 -- How large sums become.
-use Rattle.homology.proofs.Common.{total, along, share, MOST_NUMBER, ◌≡◌, inl, inr, ℕ, zero, suc, ◌+◌, ◌*◌, ◌≤◌, ◌&&◌, List, [], ◌∷◌, length, refl, arith, ◌^◌, ◌<◌, ℤ, pos, negsuc, ◌+ℤ◌, ◌-ℤ◌, to_z, of_z, w64, cases_Bool, ints, to_z-of_z, fits_signed_from_abs, neg_ℤ, ◌≤ℤ◌, unsigned_abs, nat_eq, map}
-use Rattle.std.proofs.Math.Nat.{mul-suc}
+use Rattle.homology.proofs.Common.{total, along, share, MOST_NUMBER, ◌≡◌, ℕ, zero, suc, ◌+◌, ◌*◌, ◌≤◌, List, [], ◌∷◌, length, refl, arith, ◌^◌, ◌<◌, ℤ, pos, negsuc, ◌+ℤ◌, ◌-ℤ◌, to_z, of_z, w64, ints, to_z-of_z, fits_signed_from_abs, neg_ℤ, ◌≤ℤ◌, unsigned_abs, map}
 
 -- between a bound and its opposite
 record IsBetween (n : ℕ) (z : ℤ) : Type 0 where
@@ -16,13 +15,7 @@ size_between n (pos m) h = omega (arith, ints, h.high)
 size_between n (negsuc m) h = omega (arith, ints, h.low)
 
 pub size-sum : (a b : ℤ) (m n : ℕ) → unsigned_abs a ≤ m → unsigned_abs b ≤ n → unsigned_abs (a +ℤ b) ≤ m + n
-size-sum a b m n h k =
-    let one : IsBetween m a = between m a h in
-    let two : IsBetween n b = between n b k in
-    size_between (m + n) (a +ℤ b) (record {
-      low = omega (arith, ints, one.low, two.low);
-      high = omega (arith, ints, one.high, two.high);
-    })
+size-sum a b m n h k = grind (arith, between, size_between)
 
 pub size-opposite : (z : ℤ) → unsigned_abs (neg_ℤ z) ≡ unsigned_abs z
 size-opposite (pos zero) = refl
@@ -30,13 +23,7 @@ size-opposite (pos (suc n)) = refl
 size-opposite (negsuc n) = refl
 
 pub size-share : (amount : ℤ) (low high u v : ℕ) → unsigned_abs (share amount low high u v) ≤ unsigned_abs amount
-size-share amount low high u v = elim (cases_Bool (nat_eq u low && nat_eq v high)) [
-  | inl along_it ↦ rw along_it (omega arith)
-  | inr off ↦ elim (cases_Bool (nat_eq u high && nat_eq v low)) [
-    | inl against ↦ rw (off, against) (omega (arith, size-opposite amount))
-    | inr neither ↦ rw (off, neither) (omega arith)
-  ]
-]
+size-share amount low high u v = grind (arith, size-opposite)
 
 pub size-along : (number : ℕ → ℕ → ℤ) (bound : ℕ) (walk : List ℕ) → ((u v : ℕ) → unsigned_abs (number u v) ≤ bound)
     → unsigned_abs (along number walk) ≤ bound * length walk
@@ -44,16 +31,14 @@ size-along number bound [] h = omega arith
 size-along number bound (u ∷ []) h = omega arith
 size-along number bound (u ∷ v ∷ walk) h =
     let more = size-along number bound (v ∷ walk) h in
-    let sum = size-sum (number u v) (along number (v ∷ walk)) bound (bound * suc (length walk)) (h u v) more in
-    omega (arith, sum, mul-suc bound (suc (length walk)))
+    let sum = size-sum (number u v) (along number (v ∷ walk)) bound (bound * suc (length walk)) (h u v) more in grind arith
 
 pub size-total : {X : Type 0} (number : X → ℤ) (bound : ℕ) (xs : List X) → ((x : X) → unsigned_abs (number x) ≤ bound)
     → unsigned_abs (total (map number xs)) ≤ bound * length xs
 size-total number bound [] h = omega arith
 size-total number bound (x ∷ xs) h =
     let more = size-total number bound xs h in
-    let sum = size-sum (number x) (total (map number xs)) bound (bound * length xs) (h x) more in
-    omega (arith, sum, mul-suc bound (length xs))
+    let sum = size-sum (number x) (total (map number xs)) bound (bound * length xs) (h x) more in grind arith
 
 -- the opposite of a small number as the program forms it
 pub sent_back : (z : ℤ) → unsigned_abs z ≤ MOST_NUMBER

@@ -1,5 +1,5 @@
 -- A dart gives to one entry of a tally what it gives to each edge of the table.
-use Rattle.homology.proofs.Common.{boundary, total, along, share, number_at, turned, GrewBy, AreWithin, face_share, MOST_NUMBER, ◌≡◌, ◌≢◌, ◌⊎◌, inl, inr, ℕ, zero, suc, ◌+◌, ◌-◌, ◌*◌, ◌^◌, ◌<◌, ◌≤◌, true, List, [], ◌∷◌, ◌++◌, length, get_or, set, take, refl, ap, sym, ◌∙◌, subst, arith, length-append, ℤ, pos, ◌+ℤ◌, cases_eq, cases_lt, nat_tests, ints, get_or-set_same, get_or-set_other, length-set, get_or_default, get_or_past, range_with_len, neg_ℤ, unsigned_abs, map, Contains, Any, face_side, length-sides_of_face, sides_of_face-more, sides_up_to, sides_up_to-none, sides_up_to-more, sides_up_to-all, length-sides_up_to, HasSideEnds, IsSideOfEdge, side_of_edge, IsEdgeBetween, edge_between, tail_of, head_of, Edge, IsTableOf, IsPairBefore, HasEnds, edge_in, FaceList, FaceSide, HasFileSize, face_at, sides_of_face, is_edge, IsWalk, Side}
+use Rattle.homology.proofs.Common.{boundary, total, along, share, number_at, turned, GrewBy, AreWithin, face_share, MOST_NUMBER, ◌≡◌, ◌≢◌, ◌⊎◌, inl, inr, ℕ, zero, suc, ◌+◌, ◌-◌, ◌*◌, ◌^◌, ◌<◌, ◌≤◌, true, List, [], ◌∷◌, ◌++◌, length, get_or, set, take, refl, ap, sym, ◌∙◌, subst, arith, ℤ, pos, ◌+ℤ◌, cases_eq, cases_lt, nat_tests, common_steps, ints, get_or-set_same, get_or-set_other, length-set, get_or_default, get_or_past, range_with_len, neg_ℤ, unsigned_abs, map, Contains, Any, face_side, length-sides_of_face, sides_of_face-more, sides_up_to, sides_up_to-none, sides_up_to-more, sides_up_to-all, length-sides_up_to, side_of_edge, IsEdgeBetween, edge_between, tail_of, head_of, Edge, IsTableOf, IsPairBefore, HasEnds, edge_in, FaceList, FaceSide, HasFileSize, face_at, sides_of_face, is_edge, IsWalk, Side}
 use Rattle.surf_model.specs.declared.limits.TheConstants.{MOST_SIDES}
 use Rattle.homology.proofs.SizeLemmas.{size-sum, size-opposite, size-share, size-along, size-total}
 
@@ -34,10 +34,7 @@ other-share amount edge other u v up rise ends apart = grind (arith, nat_tests)
 pub apart : (mesh : FaceList) (table : List Edge) (j k : ℕ) → IsTableOf mesh table → j < length table → k < length table → j ≢ k
     → IsPairBefore (edge_in table j).low (edge_in table j).high (edge_in table k).low (edge_in table k).high
     ⊎ IsPairBefore (edge_in table k).low (edge_in table k).high (edge_in table j).low (edge_in table j).high
-apart mesh table j k h lj lk differ = elim (cases_lt j k) [
-  | inl less ↦ inl (h.rising j k _ less lk)
-  | inr more ↦ inr (h.rising k j _ (omega (arith, more, λ (e : j ≡ k). differ e)) lj)
-]
+apart mesh table j k h lj lk differ = grind arith
 
 -- a dart given to its edge
 pub grown : (mesh : FaceList) (table : List Edge) (given wanted : ℕ → ℕ → ℤ) (old now new : List ℤ) (e u v : ℕ) (amount : ℤ)
@@ -75,23 +72,12 @@ grown mesh table given wanted old now new e u v amount h l ends long grew more i
 pub grown_size : (table : List Edge) (given : ℕ → ℕ → ℤ) (old now : List ℤ) (e bound more : ℕ) → GrewBy table given old now
     → e < length table → AreWithin bound old
     → unsigned_abs (given (edge_in table e).low (edge_in table e).high) ≤ more → unsigned_abs (number_at now e) ≤ bound + more
-grown_size table given old now e bound more grew l within few =
-    subst (λ z. unsigned_abs z ≤ bound + more) (sym (grew.each e l))
-    (size-sum (number_at old e) (given (edge_in table e).low (edge_in table e).high) bound more (within.each e) few)
+grown_size table given old now e bound more grew l within few = grind (arith, size-sum, number_at)
 
 -- before the first dart of a walk
 pub walk_start : (table : List Edge) (walk : List ℕ) (amount : ℤ) (old : List ℤ)
     → GrewBy table (λ low high. along (share amount low high) (take 1 walk)) old old
-walk_start table walk amount old = record {
-  long = refl;
-  each = λ k lk.
-      let none = nothing walk (share amount (edge_in table k).low (edge_in table k).high) in
-      omega (arith, ints, none);
-}
-  where
-    nothing : (walk : List ℕ) (number : ℕ → ℕ → ℤ) → along number (take 1 walk) ≡ pos 0
-    nothing [] number = refl
-    nothing (u ∷ walk) number = refl
+walk_start table walk amount old = grind (arith, along)
 
 pub walk_step : (mesh : FaceList) (table : List Edge) (walk : List ℕ) (k : ℕ) (amount sent : ℤ) (old now new : List ℤ) (e u v : ℕ)
     → IsTableOf mesh table → e < length table → HasEnds u v (edge_in table e) → length now ≡ length table
@@ -115,11 +101,7 @@ walk_step mesh table walk k amount sent old now new e u v h l ends long grew few
 -- the ends of a side that stands in an edge
 pub ends_of_side : (mesh : FaceList) (table : List Edge) (e : ℕ) (side : Side) → IsTableOf mesh table → e < length table
     → Contains (edge_in table e).sides side → HasEnds (tail_of mesh side) (head_of mesh side) (edge_in table e)
-ends_of_side mesh table e side h l has =
-    let edge : Edge = edge_in table e in
-    let found : IsSideOfEdge mesh edge (get_or edge.sides has.0 side) = side_of_edge mesh edge has.0 side (h.edges e _ l) has.1 in
-    let ends : HasSideEnds mesh edge.low edge.high side = subst (HasSideEnds mesh edge.low edge.high) has.2 found.ends in
-    elim ends [ inl p ↦ inl (sym p.0, sym p.1) | inr p ↦ inr (sym p.1, sym p.0) ]
+ends_of_side mesh table e side h l has = grind (arith, side_of_edge)
 
 -- the sides of one face have its number
 pub one_number : (of_face : ℕ → ℤ) (f low high : ℕ) (face : List ℕ)
@@ -208,22 +190,13 @@ faces_step mesh table of_face n sent old now new few same long grew more = recor
 
 pub faces_start : (mesh : FaceList) (table : List Edge) (of_face old : List ℤ)
     → GrewBy table (λ low high. neg_ℤ (shares_up_to mesh of_face 0 low high)) old old
-faces_start mesh table of_face old = record {
-  long = refl;
-  each = λ k lk.
-      let number : FaceSide → ℤ =
-      λ side. share (number_at of_face side.face) (edge_in table k).low (edge_in table k).high side.tail side.head in
-      let none : shares_up_to mesh of_face 0 (edge_in table k).low (edge_in table k).high ≡ pos 0 =
-      ap (λ (sides : List FaceSide). total (map number sides)) (sides_up_to-none mesh) in
-      omega (arith, ints, none);
-}
+faces_start mesh table of_face old = grind (arith, number_at, sides_up_to-none)
 
 pub few_taken : {X : Type 0} (n : ℕ) (xs : List X) → length (take n xs) ≤ n
 few_taken zero xs = omega arith
 few_taken (suc n) [] = omega arith
 few_taken (suc n) (x ∷ xs) =
-    let more = few_taken n xs in
-    omega arith
+    let more = few_taken n xs in grind arith
 
 -- the edge of a dart of a walk
 pub walk_edge : (mesh : FaceList) (table : List Edge) (walk : List ℕ) (k u v : ℕ) → IsTableOf mesh table → IsWalk mesh walk
@@ -259,22 +232,14 @@ pub walk_room : (table : List Edge) (walk : List ℕ) (k : ℕ) (amount : ℤ) (
     → unsigned_abs amount ≤ 1 → k < 2 ^ 32 → unsigned_abs (number_at now e) + unsigned_abs amount < 2 ^ 62
 walk_room table walk k amount old now e grew l within small few =
     let number : ℕ → ℕ → ℤ = share amount (edge_in table e).low (edge_in table e).high in
-    let each : (u v : ℕ) → unsigned_abs (number u v) ≤ 1 =
-    λ u v. omega (arith, size-share amount (edge_in table e).low (edge_in table e).high u v, small) in
+    let each : (u v : ℕ) → unsigned_abs (number u v) ≤ 1 = λ u v. grind (arith, size-share) in
     let sum = size-along number 1 (take (suc k) walk) each in
     let size = grown_size table (λ low high. along (share amount low high) (take (suc k) walk)) old now e (2 ^ 32)
-    (1 * length (take (suc k) walk)) grew l within sum in
-    omega (arith, size, few_taken (suc k) walk)
+    (1 * length (take (suc k) walk)) grew l within sum in grind (arith, few_taken)
 
 -- a face has few sides
 pub face_few : (mesh : FaceList) (f : ℕ) → HasFileSize mesh → f < length mesh.faces → length (face_at mesh f) ≤ MOST_SIDES
-face_few mesh f small few =
-    let whole = length-sides_up_to mesh (f + 1) in
-    let parts : length (sides_up_to mesh (f + 1)) ≡ length (sides_up_to mesh f) + length (face_at mesh f) =
-    ap (λ (sides : List FaceSide). length sides) (sides_up_to-more mesh f few)
-    ∙ length-append (sides_up_to mesh f) (sides_of_face f (face_at mesh f))
-    ∙ ap (λ n. length (sides_up_to mesh f) + n) (length-sides_of_face f (face_at mesh f)) in
-    omega (arith, whole, parts, small.few_sides)
+face_few mesh f small few = grind (arith, common_steps, length-sides_up_to, sides_up_to-more, length-sides_of_face)
 
 -- there is room for one more side
 pub face_room : (table : List Edge) (sides : List FaceSide) (t : ℕ) (amount : ℤ) (old now : List ℤ) (e : ℕ)
@@ -282,12 +247,9 @@ pub face_room : (table : List Edge) (sides : List FaceSide) (t : ℕ) (amount : 
     → unsigned_abs amount ≤ MOST_NUMBER → t ≤ MOST_SIDES → unsigned_abs (number_at now e) + unsigned_abs amount < 2 ^ 62
 face_room table sides t amount old now e grew l within small few =
     let number : FaceSide → ℤ = λ side. share amount (edge_in table e).low (edge_in table e).high side.tail side.head in
-    let each : (side : FaceSide) → unsigned_abs (number side) ≤ MOST_NUMBER =
-    λ side. omega (arith, size-share amount (edge_in table e).low (edge_in table e).high side.tail side.head, small) in
+    let each : (side : FaceSide) → unsigned_abs (number side) ≤ MOST_NUMBER = λ side. grind (arith, size-share) in
     let sum = size-total number MOST_NUMBER (take t sides) each in
-    let size = grown_size table (λ low high. shares_of amount low high (take t sides)) old now e (2 ^ 60)
-    (MOST_NUMBER * length (take t sides)) grew l within sum in
-    omega (arith, size, few_taken t sides)
+    grind (arith, few_taken)
 
 -- there is room for one more face
 pub faces_room : (mesh : FaceList) (table : List Edge) (of_face : List ℤ) (n : ℕ) (old now : List ℤ) → HasFileSize mesh
@@ -317,11 +279,4 @@ faces_room mesh table of_face n old now limits grew long within small = record {
 pub faces_all : (mesh : FaceList) (table : List Edge) (of_face : List ℤ) (n : ℕ) (old now : List ℤ) → length mesh.faces ≤ n
     → GrewBy table (λ low high. neg_ℤ (shares_up_to mesh of_face n low high)) old now
     → GrewBy table (λ low high. neg_ℤ (boundary mesh (number_at of_face) low high)) old now
-faces_all mesh table of_face n old now all grew = record {
-  long = grew.long;
-  each = λ k l.
-      let number : FaceSide → ℤ =
-      λ side. share (number_at of_face side.face) (edge_in table k).low (edge_in table k).high side.tail side.head in
-      grew.each k l
-      ∙ ap (λ (sides : List FaceSide). number_at old k +ℤ neg_ℤ (total (map number sides))) (sides_up_to-all mesh n all);
-}
+faces_all mesh table of_face n old now all grew = grind (arith, number_at, sides_up_to-all)

@@ -1,5 +1,7 @@
 -- A certificate has one verdict.
-use Rattle.homology.proofs.Common.{face_number, edge_number, number_at, IsFirstAgainst, HasFace, HasEdge, IsChainVerdict, IsCocycleVerdict, IsLeastUnbalanced, IsLeastOpen, IsVerdict, EdgeNumber, FaceNumber, HomologyCert, Chain, Cocycle, HomologyVerdict, Face, Sum, Zero, Accepted, ◌≡◌, ◌⊎◌, inl, inr, ℕ, ◌<◌, List, get_or, refl, ap, sym, ◌∙◌, subst, ℤ, arith, cases_order, get_or_default, All, IfOk, Result, Ok, Err, IsPairBefore, FaceList}
+use Rattle.homology.proofs.Common.{face_number, edge_number, number_at, IsFirstAgainst, HasFace, HasEdge, IsChainVerdict, IsCocycleVerdict, IsLeastUnbalanced, IsLeastOpen, IsVerdict, EdgeNumber, FaceNumber, HomologyVerdict, Face, Sum, Zero, Accepted, ◌≡◌, ◌⊎◌, inl, inr, ℕ, ◌<◌, List, get_or, refl, ap, sym, ◌∙◌, subst, ℤ, arith, cases_order, get_or_default, All, IfOk, Result, Ok, Err, IsPairBefore, FaceList}
+use Rattle.homology.specs.declared.certificate.HomologyCert.{HomologyCert}
+use Rattle.homology.specs.declared.certificate.HomologyCert.TheVariants.{Chain, Cocycle}
 use Rattle.homology.specs.declared.verdict.HomologyVerdict.TheVariants.{Edge}
 use Rattle.std.specs.declared.alloc.AllocError.{AllocError}
 use Rattle.surf_model.specs.declared.names.FaceName.{FaceName}
@@ -35,29 +37,16 @@ face_is f g e = λ i. record { 0 = e i }
 
 one_unbalanced : (mesh : FaceList) (of_face : ℕ → ℤ) (first second : List ℕ) (a b c d : VertexName)
     → IsLeastUnbalanced mesh of_face first second a.0 b.0 → IsLeastUnbalanced mesh of_face first second c.0 d.0 → Edge a b ≡ Edge c d
-one_unbalanced mesh of_face first second a b c d p q = elim (order_of a.0 b.0 c.0 d.0) [
-  | inl same ↦ ap (λ v. Edge v b) (vertex_is a c same.0) ∙ ap (Edge c) (vertex_is b d same.1)
-  | inr apart ↦ elim apart [
-    | inl before ↦ absurd (p.against (q.least a.0 b.0 p.ordered p.edge before))
-    | inr after ↦ absurd (q.against (p.least c.0 d.0 q.ordered q.edge after))
-  ]
-]
+one_unbalanced mesh of_face first second a b c d p q = grind (arith, order_of, vertex_is)
 
 one_open : (mesh : FaceList) (of_edge : ℕ → ℕ → ℤ) (f g : FaceName) → IsLeastOpen mesh of_edge f.0 → IsLeastOpen mesh of_edge g.0
     → Sum f ≡ Sum g
-one_open mesh of_edge f g p q = elim (cases_order f.0 g.0) [
-  | inl same ↦ ap Sum (face_is f g same)
-  | inr apart ↦ elim apart [
-    | inl less ↦ absurd (p.against (q.least f.0 less))
-    | inr more ↦ absurd (q.against (p.least g.0 more))
-  ]
-]
+one_open mesh of_edge f g p q = grind (arith, face_is)
 
 one_of_chain : (mesh : FaceList) (first second : List ℕ) (lines : List FaceNumber) (v w : HomologyVerdict)
     → IsVerdict mesh first second (Chain lines) v → IsVerdict mesh first second (Chain lines) w → v ≡ w
 one_of_chain mesh first second lines (Face f) (Face g) p q =
-    let same : p.0 ≡ q.0 = one_first (HasFace mesh) lines p.0 q.0 p.1 q.1 in
-    ap Face (sym p.2 ∙ ap (λ (line : FaceNumber). line.face) same ∙ q.2)
+    let same : p.0 ≡ q.0 = one_first (HasFace mesh) lines p.0 q.0 p.1 q.1 in grind arith
 one_of_chain mesh first second lines (Face f) (Edge a b) p q = absurd (all_or_first (HasFace mesh) lines p.0 q.0 p.1)
 one_of_chain mesh first second lines (Face f) (Sum g) p q = absurd q
 one_of_chain mesh first second lines (Face f) Zero p q = absurd q
@@ -80,9 +69,7 @@ one_of_cocycle : (mesh : FaceList) (first second : List ℕ) (lines : List EdgeN
 one_of_cocycle mesh first second lines (Face f) w p q = absurd p
 one_of_cocycle mesh first second lines (Edge a b) (Face g) p q = absurd q
 one_of_cocycle mesh first second lines (Edge a b) (Edge c d) p q =
-    let same : p.0 ≡ q.0 = one_first (HasEdge mesh) lines p.0 q.0 p.1 q.1 in
-    ap (λ v. Edge v b) (sym p.2 ∙ ap (λ (line : EdgeNumber). line.low) same ∙ q.2)
-    ∙ ap (Edge c) (sym p.3 ∙ ap (λ (line : EdgeNumber). line.high) same ∙ q.3)
+    let same : p.0 ≡ q.0 = one_first (HasEdge mesh) lines p.0 q.0 p.1 q.1 in grind arith
 one_of_cocycle mesh first second lines (Edge a b) (Sum g) p q = absurd (all_or_first (HasEdge mesh) lines p.0 q.0 p.1)
 one_of_cocycle mesh first second lines (Edge a b) Zero p q = absurd (all_or_first (HasEdge mesh) lines p.0 q.0 p.1)
 one_of_cocycle mesh first second lines (Edge a b) Accepted p q = absurd (all_or_first (HasEdge mesh) lines p.0 q.0 p.1)

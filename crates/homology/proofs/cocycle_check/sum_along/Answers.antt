@@ -1,4 +1,4 @@
-use Rattle.homology.proofs.Common.{dart_number, along, MOST_NUMBER, ◌≡◌, suc, ◌+◌, ◌*◌, ◌≤◌, ap, sym, ◌∙◌, subst, arith, ℤ, to_z, of_z, w64, ◌+ℤ◌, take_all, unsigned_abs}
+use Rattle.homology.proofs.Common.{dart_number, along, MOST_NUMBER, ◌≡◌, ◌+◌, ◌*◌, ◌≤◌, sym, ◌∙◌, subst, arith, ℤ, to_z, of_z, w64, ◌+ℤ◌, common_steps, unsigned_abs}
 use Rattle.homology.proofs.TallyLemmas.{walk_edge}
 use Rattle.homology.proofs.CocycleVerdictLemmas.{added, added_fits, added_size, along_step, along_start}
 use Rattle.homology.proofs.cocycle_check.sum_along.Goals as goal
@@ -9,9 +9,7 @@ edge_between-edge-requires c =
     c.requires.walk (omega (arith, c.loop-dart-test.true, c.darts-dart-end.ensures.count)) c.at-from.ensures c.at.ensures
 
 pub overflow_add-sum : goal.overflow_add-sum
-overflow_add-sum c =
-    added_fits (to_z w64 c.loop-dart.sum-bits) c.number_of_dart-sum.result c.loop-dart.dart c.loop-dart.invariant.0
-    c.number_of_dart-sum.ensures.small (omega (arith, c.loop-dart-test.true, c.darts-dart-end.ensures.few))
+overflow_add-sum c = grind (arith, added_fits)
 
 pub loop-dart-init : goal.loop-dart-init
 loop-dart-init c = (omega arith, λ number are. sym (along_start (dart_number number) c.args.walk.now))
@@ -20,9 +18,7 @@ pub loop-dart-preserved : goal.loop-dart-preserved
 loop-dart-preserved c =
     let s : ℤ = to_z w64 c.loop-dart.sum-bits in
     let r : ℤ = c.number_of_dart-sum.result in
-    let is : to_z w64 (of_z w64 (s +ℤ to_z w64 (of_z w64 r))) ≡ s +ℤ r =
-    added s r c.loop-dart.dart c.loop-dart.invariant.0 c.number_of_dart-sum.ensures.small
-    (omega (arith, c.loop-dart-test.true, c.darts-dart-end.ensures.few)) in (
+    let is : to_z w64 (of_z w64 (s +ℤ to_z w64 (of_z w64 r))) ≡ s +ℤ r = grind (arith, added) in (
       subst (λ z. unsigned_abs z ≤ MOST_NUMBER * (c.loop-dart.dart + 1)) (sym is)
           (added_size s r c.loop-dart.dart c.loop-dart.invariant.0 c.number_of_dart-sum.ensures.small),
       λ number are.
@@ -34,7 +30,4 @@ loop-dart-preserved c =
     )
 
 pub returns : goal.returns
-returns c = λ number are.
-    c.loop-dart.invariant.1 number are
-    ∙ ap (along (dart_number number)) (take_all (suc c.loop-dart.dart) c.args.walk.now
-    (omega (arith, c.loop-dart-test.false, c.darts-dart-end.ensures.count, c.requires.walk.starts)))
+returns c = grind (arith, common_steps, along)

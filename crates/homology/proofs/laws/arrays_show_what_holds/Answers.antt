@@ -1,4 +1,4 @@
-use Rattle.homology.proofs.Common.{number_at}
+use Rattle.homology.proofs.Common.{number_at, arith}
 use Rattle.homology.proofs.PairingLemmas.{refuted}
 use Rattle.homology.proofs.laws.arrays_show_what_holds.Goals as goal
 
@@ -6,5 +6,4 @@ pub returns-clause-chain : goal.returns-clause-chain
 returns-clause-chain c = λ mesh first second numbers are. (number_at numbers, are.chain)
 
 pub returns-clause-cocycle : goal.returns-clause-cocycle
-returns-clause-cocycle c = λ mesh first second numbers w x are homologous.
-    refuted mesh are.of_edge first second w x are.cocycle are.separates homologous.0 homologous.1
+returns-clause-cocycle c = grind (arith, refuted)

@@ -1,19 +1,9 @@
-use Rattle.homology.proofs.Common.{HasFace, refl, arith, get_or_from_slice_get}
+use Rattle.homology.proofs.Common.{HasFace, arith, get_or_from_slice_get}
 use Rattle.homology.proofs.NumbersLemmas.{all_more}
 use Rattle.homology.proofs.numbers.first_missing.Goals as goal
 
 pub returns-then-line-len-clause-some : goal.returns-then-line-len-clause-some
-returns-then-line-len-clause-some c = (
-  c.at-line.result,
-  record {
-    place = c.loop-k.k;
-    in_list = omega arith;
-    is = get_or_from_slice_get c.args.numbers.now c.loop-k.k c.at-line.result c.at-line.result c.at-line.ensures;
-    against = λ there. omega (arith, there);
-    before = λ j less. c.loop-k.invariant j c.at-line.result less;
-  },
-  refl,
-)
+returns-then-line-len-clause-some c = grind (arith, get_or_from_slice_get)
 
 pub loop-k-preserved : goal.loop-k-preserved
 loop-k-preserved c =

@@ -1,17 +1,9 @@
-use Rattle.homology.proofs.Common.{HasEdge, ◌≡◌, true, false, sym, ◌∙◌, arith, get_or_from_slice_get}
+use Rattle.homology.proofs.Common.{HasEdge, false, sym, ◌∙◌, arith, get_or_from_slice_get}
 use Rattle.homology.proofs.NumbersLemmas.{all_more}
 use Rattle.homology.proofs.numbers.first_stray.Goals as goal
 
 pub returns-then-not-form_edge-clause-some : goal.returns-then-not-form_edge-clause-some
-returns-then-not-form_edge-clause-some c = record {
-  place = c.loop-k.k;
-  in_list = omega arith;
-  is = get_or_from_slice_get c.args.numbers.now c.loop-k.k c.at-line.result c.at-line.result c.at-line.ensures;
-  against = λ edge.
-      let clash : true ≡ false = sym edge ∙ sym c.form_edge.ensures ∙ c.if-not-form_edge.true in
-      cc;
-  before = λ j less. c.loop-k.invariant j c.at-line.result less;
-}
+returns-then-not-form_edge-clause-some c = grind (arith, get_or_from_slice_get)
 
 pub loop-k-preserved : goal.loop-k-preserved
 loop-k-preserved c =

@@ -1,4 +1,4 @@
-use Rattle.homology.proofs.Common.{edge_number, number_at, AreNumbersOf, EdgeNumber, MOST_NUMBER, ◌≡◌, true, ℕ, ◌<◌, ◌≤◌, List, length, set, ap, ◌∙◌, subst, arith, ℤ, pos, get_or, length-replicate, length-set, take_all, get_or_default, get_or_from_slice_get, replicate, unsigned_abs, IsEdgeBetween, edge_between, edge_in, is_edge}
+use Rattle.homology.proofs.Common.{number_at, EdgeNumber, MOST_NUMBER, ◌≡◌, true, ℕ, ◌<◌, ◌≤◌, List, length, set, ap, ◌∙◌, subst, arith, get_or, common_steps, length-set, get_or_default, get_or_from_slice_get, unsigned_abs, IsEdgeBetween, edge_between, edge_in, is_edge}
 use Rattle.homology.proofs.SizeLemmas.{sent}
 use Rattle.homology.proofs.ChainVerdictLemmas.{number_at-zeros}
 use Rattle.homology.proofs.NumbersLemmas.{edge_written, edges_small}
@@ -25,12 +25,7 @@ edge_between-edge-requires c =
     )
 
 pub loop-k-init : goal.loop-k-init
-loop-k-init c =
-    let zeros : c.in_ok-of_edge.of_edge.items ≡ replicate c.len.result (pos 0) = c.in_ok-of_edge.ensures.items_if_clones_equal (λ y h. h) in
-    record {
-      long = ap (λ (xs : List ℤ). length xs) zeros ∙ length-replicate c.len.result (pos 0) ∙ c.len.ensures;
-      each = λ k l. ap (λ (xs : List ℤ). number_at xs k) zeros ∙ number_at-zeros c.len.result k;
-    }
+loop-k-init c = grind (arith, number_at, number_at-zeros)
 
 pub loop-k-preserved : goal.loop-k-preserved
 loop-k-preserved c =
@@ -51,10 +46,7 @@ loop-k-preserved c =
     }
 
 pub returns-clause-numbers : goal.returns-clause-numbers
-returns-clause-numbers c =
-    subst (λ (xs : List EdgeNumber). AreNumbersOf c.args.sides.now c.loop-k.of_edge.items (edge_number xs))
-    (take_all c.loop-k.k c.args.numbers.now (omega arith)) c.loop-k.invariant
+returns-clause-numbers c = grind (arith, common_steps)
 
 pub returns-clause-small : goal.returns-clause-small
-returns-clause-small c =
-    edges_small c.args.sides.now c.args.numbers.now c.loop-k.of_edge.items c.len-k-end.ensures.valid (returns-clause-numbers c)
+returns-clause-small c = grind (arith, edges_small, returns-clause-numbers)

@@ -1,4 +1,4 @@
-use Rattle.homology.proofs.Common.{number_at, MOST_NUMBER, ◌≤◌, ℕ, sym, ap, ◌∙◌, subst, arith, ℤ, eqb-false, eqb-true, ints, get_or_from_slice_get, neg_ℤ, unsigned_abs, IsSideOfEdge, side_of_edge, table_edge, Edge, edge_in, Side}
+use Rattle.homology.proofs.Common.{number_at, MOST_NUMBER, ◌≤◌, ℕ, sym, ◌∙◌, subst, arith, eqb-false, eqb-true, get_or_from_slice_get, unsigned_abs, IsSideOfEdge, side_of_edge, table_edge, Edge, edge_in, Side}
 use Rattle.homology.proofs.SizeLemmas.{sent, sent_back}
 use Rattle.homology.proofs.SideNumberLemmas.{against_side, along_side}
 use Rattle.homology.proofs.side_numbers.number_by_side.Goals as goal
@@ -37,9 +37,6 @@ returns-else-eq-clause-number c = λ number even.
     let is = table_edge mesh c.args.sides.now c.args.edge.0 c.requires.table c.requires.edge in
     let on = of_edge (goal.at.returns-else-eq-clause-number c).After-side in
     let from = c.corner_at.ensures c.side.result on.side_of (sym c.dart-dart.ensures.number) in
-    let small : unsigned_abs (number_at c.args.of_side.now d) ≤ MOST_NUMBER = c.requires.small.each d in
     let there = against_side mesh c.args.of_side.now number edge c.side.result d c.corner_at.result.0 is.ordered on
     (sym c.dart-dart.ensures.number) c.dart-dart.ensures.below from even
-    (λ e. eqb-false _ _ (sym c.eq.ensures ∙ c.if-eq.false) (e ∙ sym c.ends.ensures.low)) in
-    sent_back (number_at c.args.of_side.now d) small
-    ∙ ap neg_ℤ there ∙ omega (arith, ints)
+    (λ e. eqb-false _ _ (sym c.eq.ensures ∙ c.if-eq.false) (e ∙ sym c.ends.ensures.low)) in grind (arith, sent_back, number_at)

@@ -1,4 +1,4 @@
-use Rattle.homology.proofs.Common.{side_numbers, MOST_NUMBER, ◌≡◌, ℤ, to_z, of_z, w64, ◌∙◌, arith, subst, sym, ◌≤◌, take_all, unsigned_abs}
+use Rattle.homology.proofs.Common.{MOST_NUMBER, ◌≡◌, ℤ, to_z, of_z, w64, ◌∙◌, arith, subst, sym, ◌≤◌, common_steps, unsigned_abs}
 use Rattle.homology.proofs.SizeLemmas.{sent}
 use Rattle.homology.proofs.SideNumberLemmas.{length-side_numbers, side_is, side_more, within_pushed}
 use Rattle.homology.proofs.side_numbers.numbers_round.Goals as goal
@@ -21,10 +21,7 @@ loop-dart-preserved c =
     )
 
 pub returns-clause-numbers : goal.returns-clause-numbers
-returns-clause-numbers c = λ number are.
-    c.loop-dart.invariant.1 number are
-    ∙ take_all c.loop-dart.dart (side_numbers c.args.faces.now number)
-    (omega (arith, length-side_numbers c.args.faces.now number, c.loop-dart-test.false, c.total-dart-end.ensures))
+returns-clause-numbers c = grind (arith, common_steps, length-side_numbers)
 
 pub returns-clause-small : goal.returns-clause-small
 returns-clause-small c = c.loop-dart.invariant.0

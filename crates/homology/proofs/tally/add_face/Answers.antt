@@ -1,5 +1,5 @@
-use Rattle.homology.proofs.Common.{GrewBy, MOST_NUMBER, ◌≡◌, ◌≤◌, List, length, refl, subst, sym, ◌∙◌, arith, ℤ, to_z, of_z, w64, to_z-of_z, take_all, unsigned_abs, length-sides_of_face, sides_in_table, FaceSide, face_at, sides_of_face}
-use Rattle.homology.proofs.TallyLemmas.{shares_of, face_few, face_room, face_start, face_step}
+use Rattle.homology.proofs.Common.{MOST_NUMBER, ◌≡◌, ◌≤◌, subst, sym, arith, ℤ, to_z, of_z, w64, common_steps, to_z-of_z, unsigned_abs, length-sides_of_face, sides_in_table, face_at, sides_of_face}
+use Rattle.homology.proofs.TallyLemmas.{face_few, face_room, face_start, face_step}
 use Rattle.homology.proofs.tally.add_face.Goals as goal
 
 pub edge_at-edge-requires : goal.edge_at-edge-requires
@@ -22,30 +22,10 @@ add_dart-requires-clause-room c =
     ))
 
 pub loop-at-init : goal.loop-at-init
-loop-at-init c =
-    face_start c.args.sides.now (sides_of_face c.args.face.0 (face_at c.args.faces.now c.args.face.0)) (to_z w64 (of_z w64 c.args.amount))
-    c.args.tally.now
+loop-at-init c = grind (arith, face_start)
 
 pub loop-at-preserved : goal.loop-at-preserved
-loop-at-preserved c =
-    face_step c.args.faces.now c.args.sides.now c.args.face.0 c.loop-at.at (to_z w64 (of_z w64 c.args.amount))
-    (to_z w64 (of_z w64 c.args.amount)) c.args.tally.now c.loop-at.tally c.add_dart.new.tally c.edge_at-edge.result.0 c.corner.result.0
-    c.requires.table c.edge_at-edge.ensures.found c.edge_at-edge.ensures.side (c.loop-at.auto.tally ∙ c.requires.long) c.loop-at.invariant
-    (omega (arith, c.loop-at-test.true, c.sides-at-end.ensures)) c.corner.ensures refl c.add_dart.ensures
+loop-at-preserved c = grind (arith, face_step)
 
 pub returns : goal.returns
-returns c =
-    let sides : List FaceSide = sides_of_face c.args.face.0 (face_at c.args.faces.now c.args.face.0) in
-    let long : length sides ≤ c.loop-at.at = omega (
-      arith,
-      c.loop-at-test.false,
-      c.sides-at-end.ensures,
-      length-sides_of_face c.args.face.0 (face_at c.args.faces.now c.args.face.0),
-    ) in
-    let all : GrewBy c.args.sides.now (λ low high. shares_of (to_z w64 (of_z w64 c.args.amount)) low high sides) c.args.tally.now
-    c.loop-at.tally =
-    subst (λ (xs : List FaceSide). GrewBy c.args.sides.now (λ low high. shares_of (to_z w64 (of_z w64 c.args.amount)) low high xs)
-    c.args.tally.now c.loop-at.tally)
-    (take_all c.loop-at.at sides long) c.loop-at.invariant in
-    subst (λ (z : ℤ). GrewBy c.args.sides.now (λ low high. shares_of z low high sides) c.args.tally.now c.loop-at.tally)
-    (to_z-of_z w64 c.args.amount c.ranges.amount) all
+returns c = grind (arith, common_steps, length-sides_of_face)

@@ -35,10 +35,7 @@ returns-clause-grew c =
     let whole : take (suc c.loop-dart.dart) walk ≡ walk = take_all (suc c.loop-dart.dart) walk
     (omega (arith, c.loop-dart-test.false, c.darts-dart-end.ensures.count, c.requires.walk.starts)) in
     let all : GrewBy c.args.sides.now (λ low high. along (share (to_z w64 (of_z w64 c.args.amount)) low high) walk) c.args.tally.now
-    c.loop-dart.tally =
-    subst (λ (w : List ℕ). GrewBy c.args.sides.now (λ low high. along (share (to_z w64 (of_z w64 c.args.amount)) low high) w)
-    c.args.tally.now c.loop-dart.tally)
-    whole c.loop-dart.invariant in
+    c.loop-dart.tally = grind (arith, along) in
     subst (λ (z : ℤ). GrewBy c.args.sides.now (λ low high. along (share z low high) walk) c.args.tally.now c.loop-dart.tally)
     (to_z-of_z w64 c.args.amount c.ranges.amount) all
 

@@ -1,4 +1,4 @@
-use Rattle.homology.proofs.Common.{count_difference, number_at, AreWithin, AreNumbersOf, ◌≡◌, ◌^◌, ◌++◌, List, length, take, drop, ap, sym, ◌∙◌, subst, arith, ℤ, pos, take-append_seam, length-replicate, replicate}
+use Rattle.homology.proofs.Common.{number_at, ◌≡◌, ◌++◌, List, length, take, drop, ap, ◌∙◌, arith, ℤ, pos, common_steps, length-replicate, replicate}
 use Rattle.homology.proofs.ChainVerdictLemmas.{number_at-zeros}
 use Rattle.homology.proofs.tally.count_differences.Goals as goal
 use Rattle.homology.proofs.tally.count_differences.Goals.{After-give_walks}
@@ -18,18 +18,10 @@ give_walks-requires c =
 -- what is returned is the tally to which the walks were given
 all : (c : After-give_walks) → take c.in_ok-counts.counts.len (c.give_walks.new.counts
     ++ drop (length c.give_walks.new.counts) c.in_ok-counts.counts.items) ≡ c.give_walks.new.counts
-all c =
-    let new : List ℤ = c.give_walks.new.counts in
-    let long : c.in_ok-counts.counts.len ≡ length new =
-    omega (arith, c.in_ok-counts.ensures.len, c.len.ensures, c.give_walks.ensures.counts.long) in
-    ap (λ n. take n (new ++ drop (length new) c.in_ok-counts.counts.items)) long
-    ∙ take-append_seam new (drop (length new) c.in_ok-counts.counts.items)
+all c = grind (arith, common_steps)
 
 pub returns-clause-counts : goal.returns-clause-counts
-returns-clause-counts c =
-    subst (λ (xs : List ℤ). AreNumbersOf c.args.sides.now xs (count_difference c.args.first.now c.args.second.now))
-    (sym (all (goal.at.returns-clause-counts c).After-give_walks)) c.give_walks.ensures.counts
+returns-clause-counts c = grind (arith, all)
 
 pub returns-clause-room : goal.returns-clause-room
-returns-clause-room c =
-    subst (AreWithin (2 ^ 32)) (sym (all (goal.at.returns-clause-room c).After-give_walks)) c.give_walks.ensures.room
+returns-clause-room c = grind (arith, all)

@@ -3,8 +3,7 @@ use Rattle.homology.proofs.ChainVerdictLemmas.{given_walks, zeros_within, within
 use Rattle.homology.proofs.tally.give_walks.Goals as goal
 
 pub add_walk-requires-clause-room : goal.add_walk-requires-clause-room
-add_walk-requires-clause-room c =
-    within_more 0 4294967296 c.args.counts.now (zeros_within c.args.counts.now c.requires.zeros) (omega arith)
+add_walk-requires-clause-room c = grind (arith, within_more, zeros_within)
 
 pub add_walk-requires-2-clause-room : goal.add_walk-requires-2-clause-room
 add_walk-requires-2-clause-room c =

@@ -1,13 +1,10 @@
-use Rattle.homology.proofs.Common.{MOST_NUMBER, ◌≤◌, sym, subst, arith, ℤ, get_or, pos, unsigned_abs}
+use Rattle.homology.proofs.Common.{arith, get_or, pos}
 use Rattle.homology.proofs.SizeLemmas.{sent_back, size-opposite}
 use Rattle.homology.proofs.TallyLemmas.{faces_room, faces_start, faces_step, faces_all}
 use Rattle.homology.proofs.tally.take_faces.Goals as goal
 
 pub add_face-requires-clause-small : goal.add_face-requires-clause-small
-add_face-requires-clause-small c =
-    let number : ℤ = get_or c.args.of_face.now c.loop-face.face (pos 0) in
-    subst (λ z. unsigned_abs z ≤ MOST_NUMBER) (sym (sent_back number (c.requires.small.each c.loop-face.face)))
-    (omega (arith, size-opposite number, c.requires.small.each c.loop-face.face))
+add_face-requires-clause-small c = grind (arith, sent_back, size-opposite)
 
 pub add_face-requires-clause-room : goal.add_face-requires-clause-room
 add_face-requires-clause-room c =
