@@ -8,9 +8,6 @@ boundary_agrees mesh one other low high same = grind arith
 
 module _ (mesh : FaceList) (table : List Edge) (of_face listed : ℕ → ℤ) (first second : List ℕ) (rest : List ℤ)
     (h : IsTableOf mesh table) (same : (f : ℕ) → of_face f ≡ listed f) (left : IsLeft mesh table of_face first second rest) where
-  nothing_left : (k : ℕ) → k < length table → number_at rest k ≡ pos 0
-      → IsBalancedAt mesh listed first second (edge_in table k).low (edge_in table k).high
-  nothing_left k l none = grind (arith, boundary_agrees)
 
   something_left : (k : ℕ) → k < length table → number_at rest k ≢ pos 0
       → IsBalancedAt mesh listed first second (edge_in table k).low (edge_in table k).high → ⊥
