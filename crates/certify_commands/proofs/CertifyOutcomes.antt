@@ -1,5 +1,5 @@
 -- `certify` in the words of the mesh.
-use Rattle.certify_commands.proofs.Common.{certify, IsCertifyInput, IsWithinLimits, IsCertificatePrinted, IsCertified, certify_limits, limit_fault, limit_word, certified, certificate_answer, behind, refused_behind, yes_or_no, none_over, refused_beyond, sound-pass_unless, unless_told, IsSound, sound-then, held, Answer, Exactly, decision_status, Refuse, Pass, walk_at, ◌≡◌, ℕ, List, [], ◌∷◌, codes, refl, sym, ap, ◌∙◌, subst, ◌↔◌, Option, Some, Files, FaceList, Homotopic}
+use Rattle.certify_commands.proofs.Common.{certify, IsCertifyInput, IsWithinLimits, IsCertificatePrinted, IsCertified, certify_limits, limit_fault, limit_word, certified, certificate_answer, behind, refused_behind, yes_or_no, none_over, refused_beyond, sound-pass_unless, unless_told, IsSound, sound-then, held, Answer, Exactly, decision_status, Refuse, Pass, ◌≡◌, ℕ, List, [], ◌∷◌, codes, refl, sym, ap, ◌∙◌, subst, ◌↔◌, Option, Some, Files, FaceList, Homotopic, walk_at}
 use Rattle.commands.proofs.RightAnswers.{refused_so, yes_exactly}
 use Rattle.commands.proofs.Rows.{IsOutcomeOf, sound-pair}
 use Rattle.commands.specs.Outcomes.{Outcome, AnswersTo, IsAnswerOf}

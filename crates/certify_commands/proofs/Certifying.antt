@@ -1,5 +1,5 @@
 -- What `certify` finds: a list of moves that leads, or a denial that holds.
-use Rattle.certify_commands.proofs.Common.{limit_fault, certified, certificate_answer, at_places, differs, yes_or_no, IsSound, sound-decided_by, Answer, Exactly, Convinces, decision_of, Check, Pass, Passes, pass_unless, ◌>>=◌, walk_at, OrientedMesh, IsOrientedSurface, DenialHolds, IsGood, FaceLabels, LabellingView, signs_of, IsWordOf, PolygonView, IsCutFrom, ◌≡◌, inl, inr, ℕ, ◌<◌, false, List, length, refl, sym, ap, ◌∙◌, subst, arith, ext_get_or, length-map, ◌↔◌, Option, Some, None, slice_get, Files, FaceList, IsFaceList, Homotopic, IsWalk, HaveCommonEnds, SplitView, IsSplit, Word}
+use Rattle.certify_commands.proofs.Common.{limit_fault, certified, certificate_answer, at_places, differs, yes_or_no, IsSound, sound-decided_by, Answer, Exactly, Convinces, decision_of, Check, Pass, Passes, pass_unless, ◌>>=◌, OrientedMesh, IsOrientedSurface, DenialHolds, IsGood, FaceLabels, LabellingView, signs_of, IsWordOf, PolygonView, IsCutFrom, ◌≡◌, inl, inr, ℕ, ◌<◌, false, List, length, refl, sym, ap, ◌∙◌, subst, arith, ext_get_or, length-map, ◌↔◌, Option, Some, None, slice_get, Files, FaceList, IsFaceList, Homotopic, walk_at, IsWalk, HaveCommonEnds, SplitView, IsSplit, Word}
 use Rattle.commands.proofs.Checking.{stops_first, told_stops}
 use Rattle.commands.specs.Stops.{Stops, Tells}
 use Rattle.commands.specs.declared.certificate.Certificate.{Certificate}

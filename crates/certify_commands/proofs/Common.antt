@@ -12,7 +12,6 @@ pub use Rattle.commands.proofs.Sound.{IsSound, held, sound-decided_by, sound-pas
 pub use Rattle.commands.specs.Answers.{Answer, Exactly}
 pub use Rattle.commands.specs.Certificates.{Convinces, IsShown, decision_of, decision_status}
 pub use Rattle.commands.specs.Checks.{Check, Pass, Passes, Refuse, pass_unless, ◌>>=◌}
-pub use Rattle.commands.specs.Inputs.{pair_in, walk_at}
 pub use Rattle.commands.specs.declared.certificate.TheConstants.{MOST_SHOWN_PEAK, MOST_SPHERE_MOVES}
 pub use Rattle.halfedge_map.specs.OrientedMeshes.{IsOrientedSurface, OrientedMesh}
 pub use Rattle.labellings.specs.Denials.{DenialHolds}
@@ -29,7 +28,7 @@ pub use Rattle.surf_model.specs.FaceLists.{FaceList, IsFaceList, is_used, total_
 pub use Rattle.surf_model.specs.Genera.{HasGenus, LiesOnSphere}
 pub use Rattle.surf_model.specs.Moves.{Homotopic, Leads, PeakedMoves, apply, apply_all}
 pub use Rattle.surf_model.specs.PeakedLists.{LeadsAtPeak}
-pub use Rattle.surf_model.specs.Submeshes.{renamed_move, renamed_moves, signs_among, submesh}
-pub use Rattle.surf_model.specs.Walks.{AreWalkPair, HaveCommonEnds, IsWalk, darts}
+pub use Rattle.surf_model.specs.Submeshes.{move_of_whole_mesh, renamed_moves, signs_among, submesh}
+pub use Rattle.surf_model.specs.Walks.{AreWalkPair, HaveCommonEnds, IsWalk, darts, walk_at}
 pub use Rattle.tree_cotree.specs.Splits.{IsSplit, SplitView}
 pub use Rattle.turn_words.specs.declared.word.Word.{Word}

@@ -1,5 +1,5 @@
 -- What is found of two walks on the component in which they lie, and what it tells of the whole mesh.
-use Rattle.certify_commands.proofs.Common.{IsWithinLimits, IsOfFaces, TellsOfSome, Words, IsPart, IsComponentOf, surface_of, Component, Whole, Alone, DenialHolds, IsGood, LabellingView, signs_of, ◌≡◌, ℕ, ◌+◌, ◌<◌, List, ◌∷◌, ◌++◌, length, get_or, take, sym, ap, ◌∙◌, subst, arith, [], map-append, take_more, All, Some, max, component_at, component_mesh, FaceList, total_sides, apply, apply_all, Leads, PeakedMoves, LeadsAtPeak, submesh, renamed_move, renamed_moves, signs_among, IsWalk, Word}
+use Rattle.certify_commands.proofs.Common.{IsWithinLimits, IsOfFaces, TellsOfSome, Words, IsPart, IsComponentOf, surface_of, Component, Whole, Alone, DenialHolds, IsGood, LabellingView, signs_of, ◌≡◌, ℕ, ◌+◌, ◌<◌, List, ◌∷◌, ◌++◌, length, get_or, take, sym, ap, ◌∙◌, subst, arith, [], map-append, take_more, All, Some, max, component_at, component_mesh, FaceList, total_sides, apply, apply_all, Leads, PeakedMoves, LeadsAtPeak, submesh, move_of_whole_mesh, renamed_moves, signs_among, IsWalk, Word}
 use Rattle.closed_surfaces.specs.declared.component.Part.{Part}
 use Rattle.manifold_check.proofs.PartPieces.{IsOfComponent, piece_of_parts}
 use Rattle.manifold_check.proofs.PieceLemmas.{length-submesh}
@@ -66,13 +66,13 @@ greater_zero n = grind (arith, nat_tests)
 
 -- one move more is renamed
 pub renamed_more : (names : List ℕ) (moves : List Move) (k peak : ℕ) (move renamed : Move) (list : PeakedMoves) → k < length moves
-    → get_or moves k move ≡ move → renamed ≡ renamed_move names move
+    → get_or moves k move ≡ move → renamed ≡ move_of_whole_mesh names move
     → list ≡ record { moves = renamed_moves names (take k moves); peak = peak }
     → peaked (list.moves ++ renamed ∷ []) (max list.peak 0) ≡ peaked (renamed_moves names (take (k + 1) moves)) peak
 renamed_more names moves k peak move renamed list l item same is =
     let lists : list.moves ++ renamed ∷ [] ≡ renamed_moves names (take (k + 1) moves) =
     ap (λ (p : PeakedMoves). p.moves ++ renamed ∷ []) is ∙ ap (λ (m : Move). renamed_moves names (take k moves) ++ m ∷ []) same
-    ∙ sym (map-append (renamed_move names) (take k moves) (move ∷ []))
+    ∙ sym (map-append (move_of_whole_mesh names) (take k moves) (move ∷ []))
     ∙ ap (renamed_moves names) (sym (take_more moves k move l ∙ ap (λ (m : Move). take k moves ++ m ∷ []) item)) in
     ap (λ (ms : List Move). peaked ms (max list.peak 0)) lists
     ∙ ap (peaked (renamed_moves names (take (k + 1) moves))) (greater_zero list.peak ∙ ap (λ (p : PeakedMoves). p.peak) is)

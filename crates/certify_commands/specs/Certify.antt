@@ -3,14 +3,14 @@ use Rattle.std.specs.Prelude.{◌≡◌, ℕ, ◌↔◌, if◌then◌else◌, Li
 use Rattle.surf_io.specs.Files.{Files}
 use Rattle.surf_model.specs.FaceLists.{FaceList}
 use Rattle.surf_model.specs.Moves as moves
-use Rattle.surf_model.specs.Walks.{darts}
+use Rattle.surf_model.specs.Walks.{darts, walk_at}
 use Rattle.move_lifting.specs.declared.expanding.TheConstants.{MOST_LIFTED_SIDES, MOST_LIFTED_DARTS}
 use Rattle.surf_model.specs.declared.decisions.Answer as deciding
 use Rattle.surf_model.specs.declared.decisions.Answer.TheVariants.{Homotopic}
 use Rattle.commands.specs.Answers.{Answer, Exactly, OfCertificate}
 use Rattle.commands.specs.Certificates.{Convinces, IsPeakLow, IsShortOnSphere, decision_of, decision_status, certificate_text}
 use Rattle.commands.specs.Checks.{Check, decided_by, pass_unless, ◌>>=◌}
-use Rattle.commands.specs.Inputs.{IsInputOnSurface, pair_in, walk_at, SpellsPair}
+use Rattle.commands.specs.Inputs.{IsInputOnSurface, pair_in, SpellsPair}
 use Rattle.commands.specs.Limits.{FitsLimits, IsRefusedBeyond, limit_line}
 use Rattle.surface_commands.specs.SurfaceInput.{surface_in}
 use Rattle.commands.specs.declared.certificate.Certificate.{Certificate}

@@ -4,7 +4,7 @@ ghost use Rattle.surf_model.specs.FaceLists.{FaceList};
 ghost use Rattle.surf_model.specs.Walks.{HaveCommonEnds, IsWalk};
 ghost use Rattle.halfedge_map.specs.OrientedMeshes.{OrientedMesh};
 ghost use Rattle.surf_model.specs.ComponentParts.{component_at};
-ghost use Rattle.surf_model.specs.Submeshes.{renamed_move, renamed_moves};
+ghost use Rattle.surf_model.specs.Submeshes.{move_of_whole_mesh, renamed_moves};
 ghost use Rattle.commands.specs.Certificates.{IsShown};
 ghost use Rattle.closed_surfaces.specs.SignedSurfaces.{IsComponentOf, IsPart, surface_of};
 ghost use Rattle.certify_commands.specs.Findings.{IsFinding, IsOfFaces, TellsOfSome};
@@ -128,7 +128,7 @@ fn rename(alloc: Global, parts: &Parts, place: u32, list: &MoveList) -> Result<M
 fn rename_move(parts: &Parts, place: u32, mv: Move) -> Move
     requires place { place < length parts.now.components }
     requires face { IsOfFaces (length (component_at parts.now place)) mv }
-    ensures { result ≡ renamed_move (component_at parts.now place) mv }
+    ensures { result ≡ move_of_whole_mesh (component_at parts.now place) mv }
 {
     let mut renamed = mv;
     if let Move::Across { face, .. } = &mut renamed {

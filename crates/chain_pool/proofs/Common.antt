@@ -1,6 +1,6 @@
 -- What proofs of this crate cite of its definitions and of other crates, passed on from one place (by tools/imports). Declares nothing.
 pub use Rattle.chain_pool.specs.Chains.{Chains, IsAlike, IsEdit, IsUnder, cells_in, cells_of, cut, inserted, list_under, spliced, under}
-pub use Rattle.chain_pool.specs.Memory.{AreOwned, Free, IsEntry, IsSound, Left, Memory, Owner, Owners, Parted, PartedChains, Right, advanced, chains_of, cut_here, joined, joined_lists, joined_option, left_of, memory_of, no_cells, parted_at, parted_by, parted_under, pushed, retreated, right_of, stack_of}
+pub use Rattle.chain_pool.specs.Memory.{AreOwned, Free, IsEntry, IsSound, Left, Memory, Owner, Owners, Parted, PartedChains, Right, advanced, chains_of, cut_here, joined, joined_lists, joined_option, left_of, memory_of, no_cells, parted_at, parted_by, parted_under, pushed_before, retreated, right_of, stack_of}
 unfoldable pub use Rattle.chain_pool.specs.Memory.{IsOwned, IsStack, values}
 pub use Rattle.chain_pool.specs.declared.cells.Cell.{Cell}
 pub use Rattle.chain_pool.specs.declared.cells.Cell.TheVariants.{Entry, Head}

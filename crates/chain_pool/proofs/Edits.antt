@@ -1,5 +1,5 @@
 -- The edits of one chain at its place: a step on, a step back, an entry more, an entry less.
-use Rattle.chain_pool.proofs.Common.{under, IsEdit, cells_in, Parted, Owner, Free, Left, Right, memory_of, joined_lists, parted_under, chains_of, stack_of, left_of, right_of, IsSound, advanced, retreated, pushed, cut_here, Cell, Head, Entry, Stack, ◌≡◌, ◌≢◌, ℕ, ◌+◌, ◌-◌, ◌<◌, List, set, count_by, is_some, Option, Some, refl, sym, ap, subst, ◌∙◌, arith, common_steps}
+use Rattle.chain_pool.proofs.Common.{under, IsEdit, cells_in, Parted, Owner, Free, Left, Right, memory_of, joined_lists, parted_under, chains_of, stack_of, left_of, right_of, IsSound, advanced, retreated, pushed_before, cut_here, Cell, Head, Entry, Stack, ◌≡◌, ◌≢◌, ℕ, ◌+◌, ◌-◌, ◌<◌, List, set, count_by, is_some, Option, Some, refl, sym, ap, subst, ◌∙◌, arith, common_steps}
 use Rattle.chain_pool.proofs.Rewrites.{rewritten, at_head, kinds_stay, chain_at_head, chain_stays, apart}
 use Rattle.chain_pool.proofs.Soundness.{count_by-set, cells_in-edit_joined, cells_of-parted, parted_under-is, cells_here}
 use Rattle.chain_pool.proofs.Stacks.{length-values}
@@ -156,14 +156,14 @@ module _ (slots : List (Option Cell)) (capacity : ℕ) (free : Stack) (spare : �
   pub push_edits : (value : ℕ) (next v : ℕ) → under slots free.top ≡ Some (Entry next v) → 0 < free.len
       → Edited slots (set (set slots free.top (Some (Entry l.top value))) c
       (Some (Head (record { top = free.top; len = l.len + 1 }) r)))
-      capacity (record { top = next; len = free.len - 1 }) (spare - 1) c (pushed (parted_at c) value)
+      capacity (record { top = next; len = free.len - 1 }) (spare - 1) c (pushed_before (parted_at c) value)
   push_edits value next v here some =
       let l' : Stack = record { top = free.top; len = l.len + 1 } in
       let r' : Stack = r in
       let free' : Stack = record { top = next; len = free.len - 1 } in
       edited slots free.top c next v l.top value l r l' r' here head capacity free spare sound free' (spare - 1) Free (Left c)
       tt refl (λ e. cc) refl some refl refl refl (λ ne _. absurd (ne refl)) (λ _ ne. absurd (ne refl)) (λ _ _. refl)
-      (pushed (parted_at c) value) (λ done. rw (parted_now, done.to, done.others (Right c) (λ e. cc) (λ e. cc)) refl)
+      (pushed_before (parted_at c) value) (λ done. rw (parted_now, done.to, done.others (Right c) (λ e. cc) (λ e. cc)) refl)
       (omega (arith, some, sound.made)) (omega (arith, some, sound.made))
 
   -- the entry on top of the stack behind becomes a free cell

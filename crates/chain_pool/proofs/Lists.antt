@@ -1,5 +1,5 @@
 -- What is seen of chains at their places, and edit after edit.
-use Rattle.chain_pool.proofs.Common.{Chains, under, IsUnder, IsEdit, IsAlike, list_under, inserted, cut, Parted, PartedChains, joined, joined_option, joined_lists, parted_under, parted_at, pushed, cut_here, ◌≡◌, ◌≢◌, ◌⊎◌, ℕ, ◌+◌, ◌-◌, List, [], ◌++◌, length, reverse, take, drop, Option, Some, None, refl, sym, ap, ◌∙◌, arith, inl, inr, cases_eq, common_steps, reverse-reverse, length-map, ext_get_or, take-append-drop, drop-drop, IsSome}
+use Rattle.chain_pool.proofs.Common.{Chains, under, IsUnder, IsEdit, IsAlike, list_under, inserted, cut, Parted, PartedChains, joined, joined_option, joined_lists, parted_under, parted_at, pushed_before, cut_here, ◌≡◌, ◌≢◌, ◌⊎◌, ℕ, ◌+◌, ◌-◌, List, [], ◌++◌, length, reverse, take, drop, Option, Some, None, refl, sym, ap, ◌∙◌, arith, inl, inr, cases_eq, common_steps, reverse-reverse, length-map, ext_get_or, take-append-drop, drop-drop, IsSome}
 use Rattle.chain_pool.proofs.Soundness.{parted_under-is, under-joined, IsEdit-joined}
 
 option_cases : (found : Option Parted) → (found ≡ None) ⊎ ((parted : Parted) × (found ≡ Some parted))
@@ -45,7 +45,7 @@ pub seen_edit : (old new : List (Option Parted)) (lists : List (Option (List ℕ
     → IsEdit lists (joined_lists new) name (Some list)
 seen_edit old new lists name thing list e edit same = grind (arith, IsEdit-joined)
 
-pub joined-pushed : (list : List ℕ) (place value : ℕ) → joined (pushed (parted_at list place) value) ≡ inserted list place value
+pub joined-pushed : (list : List ℕ) (place value : ℕ) → joined (pushed_before (parted_at list place) value) ≡ inserted list place value
 joined-pushed list place value = grind (arith, common_steps)
 
 -- a list from which some entries behind a place were cut

@@ -1,5 +1,5 @@
 -- Chains that go: given back, or moved into another.
-use Rattle.chain_pool.proofs.Common.{Chains, under, IsEdit, list_under, cut, spliced, Parted, PartedChains, joined, joined_option, joined_lists, parted_under, parted_at, pushed, cut_here, ◌≡◌, ◌≢◌, ℕ, ◌+◌, ◌-◌, ◌<◌, ◌≤◌, List, [], ◌∷◌, ◌++◌, length, reverse, take, drop, get_or, Option, Some, None, refl, sym, ap, ◌∙◌, arith, zero-add, common_steps, drop_all, drop-drop, nil_from_length}
+use Rattle.chain_pool.proofs.Common.{Chains, under, IsEdit, list_under, cut, spliced, Parted, PartedChains, joined, joined_option, joined_lists, parted_under, parted_at, pushed_before, cut_here, ◌≡◌, ◌≢◌, ℕ, ◌+◌, ◌-◌, ◌<◌, ◌≤◌, List, [], ◌∷◌, ◌++◌, length, reverse, take, drop, get_or, Option, Some, None, refl, sym, ap, ◌∙◌, arith, zero-add, common_steps, drop_all, drop-drop, nil_from_length}
 use Rattle.chain_pool.proofs.Lists.{list_in}
 use Rattle.chain_pool.proofs.Soundness.{parted_under-is, under-joined, length-joined}
 
@@ -45,7 +45,7 @@ pub IsSplicedTo-more : (pool : Chains) (old mid new : PartedChains) (name place 
     → moved < length (list_under pool.lists other)
     → value ≡ get_or (parted_under old.chains other).behind 0 0
     → IsEdit old.chains mid.chains other (Some (cut_here (parted_under old.chains other)))
-    → IsEdit mid.chains new.chains name (Some (pushed (parted_under mid.chains name) value))
+    → IsEdit mid.chains new.chains name (Some (pushed_before (parted_under mid.chains name) value))
     → new.spare ≡ old.spare
     → IsSplicedTo pool new name place other (moved + 1)
 IsSplicedTo-more pool old mid new name place other moved value ne so_far lt read cutting pushing spare =
@@ -55,7 +55,7 @@ IsSplicedTo-more pool old mid new name place other moved value ne so_far lt read
     parted_under-is old.chains other _ so_far.there in
     let first : value ≡ get_or (drop moved rest) 0 0 = read ∙ ap (λ (p : Parted). get_or p.behind 0 0) left in
     record {
-      here = grind (arith, pushed, moved_more);
+      here = grind (arith, pushed_before, moved_more);
       there = pushing.others other (λ e. ne (sym e)) ∙ cutting.here ∙ ap (λ (p : Parted). Some (cut_here p)) left
           ∙ ap (λ (l : List ℕ). Some (record { before = []; behind = l })) (drop-drop 1 moved rest);
       others = λ k nk nk'. under-joined new.chains k ∙ ap joined_option (pushing.others k nk ∙ cutting.others k nk')

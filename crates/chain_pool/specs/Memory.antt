@@ -52,8 +52,8 @@ retreated parted = back parted.before parted.behind
     back (entry ∷ rest) behind = record { before = rest; behind = entry ∷ behind }
 
 -- a chain with one more entry right before its place
-abbrev pub pushed : Parted → ℕ → Parted
-pushed parted value = record { before = value ∷ parted.before; behind = parted.behind }
+abbrev pub pushed_before : Parted → ℕ → Parted
+pushed_before parted value = record { before = value ∷ parted.before; behind = parted.behind }
 
 -- a chain without the entry at its place
 abbrev pub cut_here : Parted → Parted

@@ -77,7 +77,7 @@ impl Model for Cells {
 }
 
 impl Cells {
-    ghost use Rattle.chain_pool.specs.Memory.{parted_under, parted_at, joined, joined_lists, advanced, retreated, pushed, cut_here};
+    ghost use Rattle.chain_pool.specs.Memory.{parted_under, parted_at, joined, joined_lists, advanced, retreated, pushed_before, cut_here};
 
     /// No chains and no cells.
     pub fn new(alloc: Global) -> Cells
@@ -294,7 +294,7 @@ impl Cells {
     pub fn push(&mut self, chain: CellName, value: u32)
         requires live { IsUnder self.old.chains chain.0 }
         requires free { 0 < self.old.free }
-        ensures chain { IsEdit self.old.chains self.new.chains chain.0 (Some (pushed (parted_under self.old.chains chain.0) value)) }
+        ensures chain { IsEdit self.old.chains self.new.chains chain.0 (Some (pushed_before (parted_under self.old.chains chain.0) value)) }
         ensures spare { self.new.spare + 1 ≡ self.old.spare }
         ensures free { self.new.free + 1 ≡ self.old.free }
     {

@@ -29,8 +29,8 @@ IsNoSurface mesh (Fault fault) = (fault ≡ OutOfMemory) ⊎ IsFirstFault mesh f
 IsNoSurface mesh (NotOrientable chain) = IsClosedManifold mesh × (IsOrientable mesh → ⊥) × IsOddChain mesh chain
 
 -- memory is wanting
-abbrev pub no_memory : NoSurface
-no_memory = Fault OutOfMemory
+abbrev pub surface_no_memory : NoSurface
+surface_no_memory = Fault OutOfMemory
 
 -- a component apart from the others: its own faces, with the signs that they have in the whole
 pub record IsPart (part : Part) : Type 0 where

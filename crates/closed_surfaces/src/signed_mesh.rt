@@ -28,9 +28,9 @@ pub enum NoSurface {
 
 impl From<AllocError> for NoSurface {
     ghost use Rattle.std.specs.Prelude.{◌≡◌};
-    ghost use Rattle.closed_surfaces.specs.SignedSurfaces.{no_memory};
+    ghost use Rattle.closed_surfaces.specs.SignedSurfaces.{surface_no_memory};
 
-    ghost from_gives = { λ _ none. none ≡ no_memory };
+    ghost from_gives = { λ _ none. none ≡ surface_no_memory };
 
     fn from(_: AllocError) -> NoSurface {
         NoSurface::Fault(SurfaceFault::OutOfMemory)

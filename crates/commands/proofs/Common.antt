@@ -2,13 +2,13 @@
 pub use Rattle.commands.specs.Answers.{Answer, Exactly, IsText, NoText, OfOddChain, Texts}
 pub use Rattle.commands.specs.Certificates.{decision_line, decision_status, decision_word}
 pub use Rattle.commands.specs.Checks.{Check, End, Holds, IsTold, Pass, Passes, Refuse, decided_by, file, found_or, meant, pass, pass_unless, refuse, where_told, ◌>>=◌}
-pub use Rattle.commands.specs.Inputs.{IsInputWith, SpellsMesh, SpellsPair, mesh_in, orientable, pair_in, text_in, walk_at, walks_unless}
+pub use Rattle.commands.specs.Inputs.{IsInputWith, SpellsMesh, SpellsPair, mesh_in, orientable, pair_in, text_in, walks_unless}
 pub use Rattle.commands.specs.Limits.{FitsLimits, IsRefusedBeyond, darts_line, first_over, limit_line, over_line, sides_line}
 pub use Rattle.commands.specs.Lines.{behind_blank, in_lines, line, link_phrases, odd_chain_line, phrase_text}
 pub use Rattle.commands.specs.Outcomes.{AnswersTo, IsAnswerOf, Outcome}
 pub use Rattle.commands.specs.Refusals.{certificate_line, numbers_line, off_line, pair_line, too_large}
 pub use Rattle.commands.specs.Replies.{Concludes, Replies, Runs, reply_text}
-pub use Rattle.commands.specs.Stops.{Ends, Reads, Stops, StopsReading, Tells, bytes_of}
+pub use Rattle.commands.specs.Stops.{Ends, EndsReading, Stops, StopsReading, Tells, bytes_of}
 pub use Rattle.commands.specs.WordTexts.{word_line}
 pub use Rattle.commands.specs.declared.inputs.TheConstants.{MOST_BYTES}
 pub use Rattle.commands.specs.declared.line.Phrase.{Phrase}
@@ -17,7 +17,7 @@ pub use Rattle.commands.specs.declared.status.Status.{Status}
 pub use Rattle.commands.specs.declared.status.Status.TheVariants.{No, Refused, WriteFault, Yes}
 pub use Rattle.commands.specs.declared.stop.Stop.{Stop}
 pub use Rattle.commands.specs.declared.stop.Stop.TheVariants.{OutOfMemory, ReadFault}
-pub use Rattle.off_reader.specs.OffTexts.{Header, Keyword, bare_counts, coordinates_of, corners_of, counted, counts_behind, face_fault, has_piece, keyword_in, line_before, meaning_of, point_fault, ring_fault, rings_of, two_naturals}
+pub use Rattle.off_reader.specs.OffTexts.{Header, Keyword, bare_counts, coordinates_of, corners_of, counted, counts_behind, face_fault, has_piece, keyword_in, line_before, meaning_of, point_fault, ring_fault, rings_named, two_naturals}
 unfoldable pub use Rattle.off_reader.specs.OffTexts.{counts_at, header_of, mesh_of, taken}
 pub use Rattle.off_reader.specs.declared.off_fault.OffFault.TheVariants.{TooMany, UnreadForm}
 pub use Rattle.std.proofs.Common.{Bool, List, ap, append_assoc, arith, drop, false, get_or, inl, inr, length, refl, subst, suc, sym, take, true, zero, ℕ, [], ◌++◌, ◌+◌, ◌<◌, ◌∙◌, ◌∷◌, ◌≡◌, ◌≤◌, ◌⊎◌}
@@ -34,9 +34,9 @@ pub use Rattle.surf_io.specs.Bytes.{Appends, AppendsPrefix, append_told}
 pub use Rattle.surf_io.specs.Calls.{OnlyReads, OnlyWrites, WroteAll, WrotePart}
 pub use Rattle.surf_io.specs.Faults.{Rose}
 pub use Rattle.surf_io.specs.Files.{Files, file_of}
-pub use Rattle.surf_io.specs.Gathered.{Gathers, Puts, spaced}
+pub use Rattle.surf_io.specs.Gathered.{Gathers, Puts, spaced_number}
 pub use Rattle.surf_model.specs.FaceLists.{FaceList, HasFileSize, IsFace, IsFaceList, total_sides}
-pub use Rattle.surf_model.specs.Walks.{AreWalkPair, darts}
+pub use Rattle.surf_model.specs.Walks.{AreWalkPair, darts, walk_at}
 pub use Rattle.surf_model.specs.declared.decisions.Answer.TheVariants.{Different, Homotopic}
 pub use Rattle.text_scan.specs.Plain.{line_of}
 pub use Rattle.walk_files.specs.DenialTexts.{denial_text, entry_words}

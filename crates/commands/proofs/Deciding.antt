@@ -1,5 +1,5 @@
 -- How the decision on two walks ends, and what it leaves to be answered.
-use Rattle.commands.proofs.Common.{Texts, decision_status, decision_line, Check, End, Refuse, Pass, Passes, IsTold, ◌>>=◌, walk_at, Outcome, IsAnswerOf, Status, ◌≡◌, ◌⊎◌, inl, inr, ℕ, List, [], length, get_or, refl, sym, ap, ◌∙◌, subst, get_or_from_slice_get, ◌↔◌, Option, Some, slice_get, Files, FaceList, AreWalkPair, Homotopic, Different, IsPair}
+use Rattle.commands.proofs.Common.{Texts, decision_status, decision_line, Check, End, Refuse, Pass, Passes, IsTold, ◌>>=◌, Outcome, IsAnswerOf, Status, ◌≡◌, ◌⊎◌, inl, inr, ℕ, List, [], length, get_or, refl, sym, ap, ◌∙◌, subst, get_or_from_slice_get, ◌↔◌, Option, Some, slice_get, Files, FaceList, walk_at, AreWalkPair, Homotopic, Different, IsPair}
 use Rattle.commands.specs.Decisions.{decided, decision_answer}
 use Rattle.surf_model.specs.Moves as moves
 use Rattle.surf_model.specs.declared.decisions.Answer as deciding

@@ -1,5 +1,5 @@
 -- Lines that are gathered in a piece, in the words that say how they are put.
-use Rattle.commands.proofs.Common.{decision_line, decision_word, behind_blank, link_phrases, odd_chain_line, word_line, ◌≡◌, ℕ, ◌≤◌, List, [], ◌∷◌, ◌++◌, length, refl, sym, ap, ◌∙◌, append_assoc, arith, flat_map-append, append-nil, codes, decimal, flat_map, map, line_of-numbers, spaced, Homotopic, Different, line_of, entry_words}
+use Rattle.commands.proofs.Common.{decision_line, decision_word, behind_blank, link_phrases, odd_chain_line, word_line, ◌≡◌, ℕ, ◌≤◌, List, [], ◌∷◌, ◌++◌, length, refl, sym, ap, ◌∙◌, append_assoc, arith, flat_map-append, append-nil, codes, decimal, flat_map, map, line_of-numbers, spaced_number, Homotopic, Different, line_of, entry_words}
 use Rattle.surf_model.specs.declared.chains.ChainLink.{ChainLink}
 use Rattle.surf_model.specs.declared.decisions.Answer as deciding
 
@@ -9,12 +9,12 @@ word_line-put [] = refl
 word_line-put (entry ∷ entries) =
     let first = decimal entry in
     sym (line_of-numbers first entries)
-    ∙ sym (append_assoc first (flat_map spaced entries) (10 ∷ []))
+    ∙ sym (append_assoc first (flat_map spaced_number entries) (10 ∷ []))
     ∙ ap (λ t. (first ++ t) ++ 10 ∷ []) (blanks entries)
   where
-    blanks : (entries : List ℕ) → flat_map spaced entries ≡ flat_map behind_blank (map decimal entries)
+    blanks : (entries : List ℕ) → flat_map spaced_number entries ≡ flat_map behind_blank (map decimal entries)
     blanks [] = refl
-    blanks (n ∷ entries) = ap (λ t. spaced n ++ t) (blanks entries)
+    blanks (n ∷ entries) = ap (λ t. spaced_number n ++ t) (blanks entries)
 
 -- the line of a decision: one word
 pub decision_line-put : (decision : deciding.Answer) → line_of (decision_word decision ∷ []) ≡ decision_line decision

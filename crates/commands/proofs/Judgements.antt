@@ -1,5 +1,5 @@
 -- Commands that read a mesh, two walks of it and a certificate: as the judgement on the certificate ends, the command does.
-use Rattle.commands.proofs.Common.{Answer, Check, Passes, IsTold, Holds, ◌>>=◌, IsInputWith, mesh_in, pair_in, walk_at, SpellsPair, Outcome, AnswersTo, Status, ◌≡◌, inl, inr, ℕ, zero, suc, ◌<◌, List, [], ◌∷◌, subst, arith, cases_lt, Option, Files, FaceList}
+use Rattle.commands.proofs.Common.{Answer, Check, Passes, IsTold, Holds, ◌>>=◌, IsInputWith, mesh_in, pair_in, SpellsPair, Outcome, AnswersTo, Status, ◌≡◌, inl, inr, ℕ, zero, suc, ◌<◌, List, [], ◌∷◌, subst, arith, cases_lt, Option, Files, FaceList, walk_at}
 use Rattle.commands.proofs.Deciding.{behind}
 use Rattle.commands.proofs.Rows.{behind_pair, pair_told, mesh_told, mesh_passes, spelled_pair}
 use Rattle.commands.proofs.Sound.{IsSound, held}

@@ -1,5 +1,5 @@
 -- A mesh that a text means is a face list.
-use Rattle.commands.proofs.Common.{OfOddChain, Passes, meant, End, Refuse, Pass, mesh_in, orientable, off_line, Header, Keyword, coordinates_of, has_piece, counts_at, bare_counts, counts_behind, counted, two_naturals, line_before, keyword_in, header_of, taken, point_fault, face_fault, ring_fault, corners_of, rings_of, mesh_of, meaning_of, TooMany, UnreadForm, ◌≡◌, inr, inl, ℕ, zero, suc, ◌≤◌, Bool, true, false, List, [], ◌∷◌, ◌++◌, length, take, drop, refl, sym, ap, ◌∙◌, subst, arith, and_parts, leb-true, nat_le, ◌&&◌, if◌then◌else◌, Option, Some, None, Result, Ok, Err, All, sum_by, bytes_eq, codes, Files, FaceList, IsFace, IsFaceList, HasFileSize}
+use Rattle.commands.proofs.Common.{OfOddChain, Passes, meant, End, Refuse, Pass, mesh_in, orientable, off_line, Header, Keyword, coordinates_of, has_piece, counts_at, bare_counts, counts_behind, counted, two_naturals, line_before, keyword_in, header_of, taken, point_fault, face_fault, ring_fault, corners_of, rings_named, mesh_of, meaning_of, TooMany, UnreadForm, ◌≡◌, inr, inl, ℕ, zero, suc, ◌≤◌, Bool, true, false, List, [], ◌∷◌, ◌++◌, length, take, drop, refl, sym, ap, ◌∙◌, subst, arith, and_parts, leb-true, nat_le, ◌&&◌, if◌then◌else◌, Option, Some, None, Result, Ok, Err, All, sum_by, bytes_eq, codes, Files, FaceList, IsFace, IsFaceList, HasFileSize}
 use Rattle.off_reader.proofs.RingLemmas.{ring_face, ring_room}
 use Rattle.off_reader.specs.OffTexts.{◌>>=◌}
 use Rattle.off_reader.specs.declared.header.TheConstants.{MOST_FACES}
@@ -80,30 +80,31 @@ record IsFileMesh (mesh : FaceList) : Type 0 where
   small : HasFileSize mesh
 
 record NameFaces (vertices : ℕ) (lines : List Line) : Type 0 where
-  faces : All (IsFace vertices) (rings_of lines)
-  few : sum_by length (rings_of lines) ≤ MOST_SIDES
+  faces : All (IsFace vertices) (rings_named lines)
+  few : sum_by length (rings_named lines) ≤ MOST_SIDES
 
 one_more : (vertices : ℕ) (before : List Line) (line : Line) → NameFaces vertices before → face_fault vertices before line ≡ None
     → NameFaces vertices (before ++ line ∷ [])
 one_more vertices before line h good = by_corners (corners_of line.words) refl
   where
     sides : ℕ
-    sides = sum_by length (rings_of before)
+    sides = sum_by length (rings_named before)
 
     by_corners : (o : Option (List ℕ)) → corners_of line.words ≡ o → NameFaces vertices (before ++ line ∷ [])
     by_corners None is =
         let bad = ap (ring_fault vertices sides line.number) (sym is) ∙ good in cc
     by_corners (Some ring) is =
-        let last : rings_of (line ∷ []) ≡ ring ∷ [] = rw is refl in
-        let all : rings_of (before ++ line ∷ []) ≡ rings_of before ++ ring ∷ [] =
-        filter_map-append (λ (l : Line). corners_of l.words) before (line ∷ []) ∙ ap (λ (r : List (List ℕ)). rings_of before ++ r) last in
+        let last : rings_named (line ∷ []) ≡ ring ∷ [] = rw is refl in
+        let all : rings_named (before ++ line ∷ []) ≡ rings_named before ++ ring ∷ [] =
+        filter_map-append (λ (l : Line). corners_of l.words) before (line ∷ [])
+        ∙ ap (λ (r : List (List ℕ)). rings_named before ++ r) last in
         let face = ring_face vertices sides line.number line.words ring is good in
         let room = ring_room vertices sides line.number line.words ring is good in
         record {
           faces = subst (All (IsFace vertices)) (sym all)
-              (All-append (IsFace vertices) (rings_of before) (ring ∷ []) h.faces
+              (All-append (IsFace vertices) (rings_named before) (ring ∷ []) h.faces
               (All-cons (IsFace vertices) ring [] face (All-nil (IsFace vertices))));
-          few = omega (arith, room, ap (sum_by length) all, sum_by-append length (rings_of before) (ring ∷ []));
+          few = omega (arith, room, ap (sum_by length) all, sum_by-append length (rings_named before) (ring ∷ []));
         }
 
 abbrev LineCheck : Type 0
@@ -145,19 +146,19 @@ all_name vertices end (suc n) before (line ∷ lines) parts h e =
 
 by_faces : (vertices end n : ℕ) (lines : List Line) (mesh : FaceList) (read : Result (List Line × List Line) OffFault)
     → vertices ≤ MOST_VERTICES → taken (face_fault vertices) end [] n lines ≡ read
-    → (read >>= (λ faces. Ok (record { count = vertices; faces = rings_of faces.0 }))) ≡ Ok mesh → IsFileMesh mesh
+    → (read >>= (λ faces. Ok (record { count = vertices; faces = rings_named faces.0 }))) ≡ Ok mesh → IsFileMesh mesh
 by_faces vertices end n lines mesh (Err fault) few is e = cc
 by_faces vertices end n lines mesh (Ok parts) few is e =
     let none : NameFaces vertices [] = record { faces = All-nil (IsFace vertices); few = omega arith } in
     let named = all_name vertices end n [] lines parts none is in
-    let read : IsFileMesh (record { count = vertices; faces = rings_of parts.0 }) =
+    let read : IsFileMesh (record { count = vertices; faces = rings_named parts.0 }) =
     record { valid = record { faces = named.faces }; small = record { few_vertices = few; few_sides = named.few } } in
-    let same : record { count = vertices; faces = rings_of parts.0 } ≡ mesh = cc in
+    let same : record { count = vertices; faces = rings_named parts.0 } ≡ mesh = cc in
     subst IsFileMesh same read
 
 by_points : (vertices end n : ℕ) (mesh : FaceList) (read : Result (List Line × List Line) OffFault) → vertices ≤ MOST_VERTICES
     → (read >>= (λ points. taken (face_fault vertices) end [] n points.1 >>=
-    (λ faces. Ok (record { count = vertices; faces = rings_of faces.0 })))) ≡ Ok mesh
+    (λ faces. Ok (record { count = vertices; faces = rings_named faces.0 })))) ≡ Ok mesh
     → IsFileMesh mesh
 by_points vertices end n mesh (Err fault) few e = cc
 by_points vertices end n mesh (Ok parts) few e = by_faces vertices end n parts.1 mesh (taken (face_fault vertices) end [] n parts.1) few

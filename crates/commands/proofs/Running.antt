@@ -1,5 +1,5 @@
 -- Calls that read, one behind another.
-use Rattle.commands.proofs.Common.{Answer, Texts, Check, certificate_line, too_large, Concludes, Replies, Runs, Reads, Stops, StopsReading, Tells, Stop, ReadFault, OutOfMemory, ◌≡◌, ℕ, ◌<◌, sym, ap, ◌∙◌, subst, arith, refl, Option, Result, Ok, Err, MatchResult, IsErrAnd, OnlyReads, Rose, Files}
+use Rattle.commands.proofs.Common.{Answer, Texts, Check, certificate_line, too_large, Concludes, Replies, Runs, EndsReading, Stops, StopsReading, Tells, Stop, ReadFault, OutOfMemory, ◌≡◌, ℕ, ◌<◌, sym, ap, ◌∙◌, subst, arith, refl, Option, Result, Ok, Err, MatchResult, IsErrAnd, OnlyReads, Rose, Files}
 use Rattle.commands.specs.declared.reply.Reply.{Reply}
 use Rattle.commands.specs.declared.stop.Stop.TheVariants.{Refused}
 use Rattle.walk_files.specs.declared.stream_end.StreamEnd.{StreamEnd}
@@ -61,28 +61,29 @@ module _ {X : Type 0} {held : X → Option Files} {faults : X → ℕ} where
   module _ {old new : X} {IsEnd : Option Files → Type 0} {V : Type 0} where
     -- what was read is looked at, and that is the end
     pub reads_ended : {result : Result V Stop} → OnlyReads held faults old new → (result ≡ Err ReadFault → ⊥) → IsEnd (held old)
-        → Reads held faults old new IsEnd result
+        → EndsReading held faults old new IsEnd result
     reads_ended only no_fault end = record { end = end; fault = λ e. absurd (no_fault e); only_reads = only }
 
     -- what comes is made of what was read
-    pub reads_made : {thing : V} → OnlyReads held faults old new → IsEnd (held old) → Reads held faults old new IsEnd (Ok thing)
+    pub reads_made : {thing : V} → OnlyReads held faults old new → IsEnd (held old) → EndsReading held faults old new IsEnd (Ok thing)
     reads_made only end = record { end = end; fault = λ e. cc; only_reads = only }
 
     -- what was read has a fault
     pub reads_faulty : {stop : Stop} → OnlyReads held faults old new → (stop ≡ ReadFault → ⊥) → IsEnd (held old)
-        → Reads {V = V} held faults old new IsEnd (Err stop)
+        → EndsReading {V = V} held faults old new IsEnd (Err stop)
     reads_faulty {stop} only no_fault end =
         record { end = end; fault = λ e. let same : stop ≡ ReadFault = cc in absurd (no_fault same); only_reads = only }
 
     -- a call that read behind another was the end
     pub reads_behind : {mid : X} {IsMid : Option Files → Type 0} {result : Result V Stop} → OnlyReads held faults old mid
-        → Reads held faults mid new IsMid result → IsEnd (held old) → Reads held faults old new IsEnd result
+        → EndsReading held faults mid new IsMid result → IsEnd (held old) → EndsReading held faults old new IsEnd result
     reads_behind first h end =
         record { end = end; fault = λ e. rose_then first (h.fault e); only_reads = only_then first h.only_reads }
 
     -- it stopped
     pub reads_then : {mid : X} {W : Type 0} {IsMid : Option Files → Type 0} {stop : Stop} → OnlyReads held faults old mid
-        → Reads {V = W} held faults mid new IsMid (Err stop) → IsEnd (held old) → Reads {V = V} held faults old new IsEnd (Err stop)
+        → EndsReading {V = W} held faults mid new IsMid (Err stop) → IsEnd (held old)
+        → EndsReading {V = V} held faults old new IsEnd (Err stop)
     reads_then {mid} {W} {IsMid} {stop} first h end =
         record {
           end = end;
@@ -95,7 +96,7 @@ module _ {X : Type 0} {held : X → Option Files} {faults : X → ℕ} where
     -- a certificate that is read in pieces could not be read on
     pub reads_stopped : {mid : X} (end : StreamEnd) (stop : Stop) → OnlyReads held faults old mid → OnlyReads held faults mid new
         → (end ≡ Fault → Rose (faults mid) (faults new)) → StopsReading end stop → IsEnd (held old)
-        → Reads {V = V} held faults old new IsEnd (Err stop)
+        → EndsReading {V = V} held faults old new IsEnd (Err stop)
     reads_stopped end stop first second rose h ends =
         record {
           end = ends;
@@ -108,7 +109,7 @@ module _ {X : Type 0} {held : X → Option Files} {faults : X → ℕ} where
   module _ {old new : X} {command : Option Files → Check Answer} where
     -- a call that read was the end of a command that looks at some file
     pub runs_read : {mid : X} {IsEnd : Option Files → Type 0} {result : Result Reply Stop} → ((command (held old)).EachFile (λ _. ⊥) → ⊥)
-        → OnlyReads held faults old mid → Reads held faults mid new IsEnd result → Concludes (command (held old)) result
+        → OnlyReads held faults old mid → EndsReading held faults mid new IsEnd result → Concludes (command (held old)) result
         → Runs held faults old new command result
     runs_read looks first h end =
         record {
@@ -121,7 +122,8 @@ module _ {X : Type 0} {held : X → Option Files} {faults : X → ℕ} where
     -- a call that read stopped
     pub runs_stopped : {mid : X} {V : Type 0} {IsEnd : Option Files → Type 0} {stop : Stop} {result : Result Reply Stop}
         → ((command (held old)).EachFile (λ _. ⊥) → ⊥) → IsErrAnd result (λ e. e ≡ stop) → OnlyReads held faults old mid
-        → Reads {V = V} held faults mid new IsEnd (Err stop) → Stops (command (held old)) stop → Runs held faults old new command result
+        → EndsReading {V = V} held faults mid new IsEnd (Err stop) → Stops (command (held old)) stop
+        → Runs held faults old new command result
     runs_stopped {mid} {V} {IsEnd} {stop} {result} looks failed first h stops =
         at_failure (Runs held faults old new command) result failed
         (record {

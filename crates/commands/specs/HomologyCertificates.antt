@@ -7,7 +7,7 @@ use Rattle.homology.specs.declared.certificate.FaceNumber.{FaceNumber}
 use Rattle.homology.specs.declared.certificate.HomologyCert.{HomologyCert}
 use Rattle.homology.specs.declared.certificate.HomologyCert.TheVariants.{Chain, Cocycle}
 use Rattle.homology.specs.declared.verdict.HomologyVerdict.TheVariants.{Accepted}
-use Rattle.homology_files.specs.WrittenTexts.{FitsFormat, cert_text}
+use Rattle.homology_files.specs.WrittenTexts.{FitsHomologyFormat, cert_text}
 use Rattle.commands.specs.Lines.{line}
 use Rattle.commands.specs.declared.status.Status.{Status}
 use Rattle.commands.specs.declared.status.Status.TheVariants.{No, Yes}
@@ -21,7 +21,7 @@ ListsNoZero (Cocycle lines) = All (λ (line : EdgeNumber). line.number ≢ pos 0
 -- format, and lists no number that is 0.
 pub record ShowsHomology (mesh : FaceList) (first second : List ℕ) (shown : HomologyCert) : Type 0 where
   pub holds : IsVerdict mesh first second shown Accepted
-  pub fits : FitsFormat shown
+  pub fits : FitsHomologyFormat shown
   pub no_zeros : ListsNoZero shown
 
 -- whether two walks are homologous

@@ -1,5 +1,5 @@
 -- The checks of the files that a command reads, each with what it passes.
-use Rattle.std.specs.Prelude.{◌≡◌, ◌⊎◌, ℕ, List, [], ◌∷◌, slice_index_or, Option, Result, Ok, Err}
+use Rattle.std.specs.Prelude.{◌≡◌, ◌⊎◌, ℕ, List, [], ◌∷◌, Option, Result, Ok, Err}
 use Rattle.surf_io.specs.Files.{Files}
 use Rattle.surf_model.specs.FaceLists.{FaceList}
 use Rattle.surf_model.specs.Surfaces.{IsOrientable}
@@ -51,10 +51,6 @@ walks_unless line_of fault_in held name = do
 -- the walks that the file spells, which are two walks of the mesh with common ends
 abbrev pub pair_in : Option Files → List ℕ → FaceList → Check (List (List ℕ))
 pair_in held name mesh = walks_unless pair_line (pair_fault mesh) held name
-
--- walk k of some, counted from 0
-abbrev pub walk_at : List (List ℕ) → ℕ → List ℕ
-walk_at walks k = slice_index_or walks k []
 
 -- what is read of a certificate, as one
 abbrev pub as_certificate : {A : Type 0} → (A → Certificate) → Result A CertFault → Result Certificate CertFault

@@ -53,7 +53,7 @@ Ends check result = MatchResult result (Passes check) (Stops check)
 
 -- A call that reads ended so, where the files are these; a read fault is told only where the count of faults rose; and the shelf was only
 -- read. `held` and `faults` are what the shelf tells.
-pub record Reads {X V : Type 0} (held : X → Option Files) (faults : X → ℕ) (old new : X) (IsEnd : Option Files → Type 0)
+pub record EndsReading {X V : Type 0} (held : X → Option Files) (faults : X → ℕ) (old new : X) (IsEnd : Option Files → Type 0)
     (result : Result V Stop) : Type 0 where
   pub end : IsEnd (held old)
   pub fault : result ≡ Err ReadFault → Rose (faults old) (faults new)

@@ -9,7 +9,7 @@ ghost use Rattle.commands.specs.Refusals.{numbers_line};
 ghost use Rattle.commands.specs.declared.refusal.Input.{Input};
 ghost use Rattle.commands.specs.declared.stop.Stop.{Stop};
 ghost use Rattle.walk_files.specs.WalkTexts.{walk_text_of};
-ghost use Rattle.commands.specs.Stops.{Ends, Reads, Stops};
+ghost use Rattle.commands.specs.Stops.{Ends, EndsReading, Stops};
 
 use crate::refusal::Input;
 use crate::stop::Stop;
@@ -29,7 +29,7 @@ pub fn read_file<S: Shelf>(
     name: &str,
     input: Input,
 ) -> Result<Vec<u8>, Stop>
-    ensures { Reads S.held S.faults shelf.old shelf.new (λ files. MatchResult result
+    ensures { EndsReading S.held S.faults shelf.old shelf.new (λ files. MatchResult result
         (λ bytes. Passes (file files name.now input) bytes.items) (Stops (file files name.now input))) result }
 {
     match read_whole(alloc, shelf, name, MOST_BYTES) {
@@ -42,7 +42,7 @@ pub fn read_file<S: Shelf>(
 
 /// Reads the mesh.
 pub fn read_mesh<S: Shelf>(alloc: Global, shelf: &mut S, name: &str) -> Result<Faces, Stop>
-    ensures { Reads S.held S.faults shelf.old shelf.new (λ files. Ends (mesh_in files name.now) result) result }
+    ensures { EndsReading S.held S.faults shelf.old shelf.new (λ files. Ends (mesh_in files name.now) result) result }
 {
     let bytes = read_file(alloc, shelf, name, Input::Mesh)?;
     Ok(read_off(alloc, &bytes)?)
@@ -50,7 +50,7 @@ pub fn read_mesh<S: Shelf>(alloc: Global, shelf: &mut S, name: &str) -> Result<F
 
 /// Reads walks, of which nothing else is asked yet.
 pub fn read_list<S: Shelf>(alloc: Global, shelf: &mut S, name: &str) -> Result<WalkList, Stop>
-    ensures { Reads S.held S.faults shelf.old shelf.new (λ files. Ends (text_in files name.now) result) result }
+    ensures { EndsReading S.held S.faults shelf.old shelf.new (λ files. Ends (text_in files name.now) result) result }
 {
     let bytes = read_file(alloc, shelf, name, Input::Walks)?;
     walks_of_bytes(alloc, &bytes)
@@ -63,7 +63,7 @@ pub fn read_pair<S: Shelf>(
     name: &str,
     sides: &Sides,
 ) -> Result<WalkList, Stop>
-    ensures reads { Reads S.held S.faults shelf.old shelf.new
+    ensures reads { EndsReading S.held S.faults shelf.old shelf.new
         (λ files. (mesh : FaceList) → IsTableOf mesh sides.now
         → MatchResult result (λ list. Passes (pair_in files name.now mesh) list.walks) (Stops (pair_in files name.now mesh))) result }
     ensures pair { IfOk result (λ list. (mesh : FaceList) → IsTableOf mesh sides.now → IsPair mesh list.walks) }

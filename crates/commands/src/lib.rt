@@ -6,7 +6,7 @@
 //! command stands in a crate of its own, with a file of specs/ that has its check, and the theorem that a reader looks for first. It takes
 //! from here:
 //!
-//! - `read_file`, `read_mesh` and `read_pair`, each with the clause `Reads` of its check;
+//! - `read_file`, `read_mesh` and `read_pair`, each with the clause `EndsReading` of its check;
 //! - `read_list`, for walks of which a command asks something else than that they are a pair;
 //! - `Limits`, for a command that makes lists of moves;
 //! - `refused`, `refused_at` and `refused_at_place`, which make the `Stop` of a fault that this crate does not know, with the clause

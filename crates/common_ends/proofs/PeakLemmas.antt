@@ -4,7 +4,7 @@ use Rattle.std.proofs.lemmas.List.Elements.{All-cons, All-nil}
 use Rattle.std.proofs.lemmas.Option.{get_or_from_slice_get}
 use Rattle.surf_model.proofs.ReplacementLemmas.{by_replacing}
 use Rattle.surf_model.proofs.WayBackLemmas.{alike}
-use Rattle.surf_model.specs.Replacements.{place_of}
+use Rattle.surf_model.specs.Replacements.{place_of_move}
 
 -- the darts that a list of moves passes, the first move taken off
 pub greatest_darts-more : (mesh : FaceList) (walk next : List ℕ) (move : Move) (moves : List Move) → apply mesh walk move ≡ Some next
@@ -148,8 +148,8 @@ greatest_both mesh (move ∷ moves) others first between e =
 -- no move acts beyond the greatest number of darts
 pub places_below : (mesh : FaceList) (moves : List Move) (first last : List ℕ) (peak : ℕ) → 0 < length first
     → apply_all mesh first moves ≡ Some last
-    → greatest_darts mesh first moves ≤ peak → All (λ (move : Move). place_of move ≤ peak) moves
-places_below mesh [] first last peak some e le = All-nil (λ (move : Move). place_of move ≤ peak)
+    → greatest_darts mesh first moves ≤ peak → All (λ (move : Move). place_of_move move ≤ peak) moves
+places_below mesh [] first last peak some e le = All-nil (λ (move : Move). place_of_move move ≤ peak)
 places_below mesh (move ∷ moves) first last peak some e le =
     let told = first_answer (λ x. apply_all mesh x moves) (apply mesh first move) last e in
     let r = (by_replacing mesh first told.0 move some).0 told.1 in
@@ -157,13 +157,13 @@ places_below mesh (move ∷ moves) first last peak some e le =
     let walk : length first ≡ length r.before + length r.part + length r.after =
     ap (λ (l : List ℕ). length l) r.walk_is ∙ length-append (r.before ++ r.part) r.after
     ∙ ap (λ (n : ℕ). n + length r.after) (length-append r.before r.part) in
-    All-cons (λ (m : Move). place_of m ≤ peak) move moves
+    All-cons (λ (m : Move). place_of_move m ≤ peak) move moves
     (omega (arith, r.place, walk, more, ap (λ (l : List ℕ). length l) (alike mesh move r.part r.other r.replaces).part_begins))
     (places_below mesh moves told.0 last peak (stays_walk mesh first told.0 move some told.1) told.2 (omega (arith, more)))
 
 -- nor beyond the peak of a list
 pub places_within : (mesh : FaceList) (first second : List ℕ) (list : PeakedMoves) → 0 < length first → LeadsAtPeak mesh first list second
-    → All (λ (move : Move). place_of move ≤ list.peak) list.moves
+    → All (λ (move : Move). place_of_move move ≤ list.peak) list.moves
 places_within mesh first second list some h =
     places_below mesh list.moves first second list.peak some h.leads (omega (arith, h.peak))
 

@@ -1,6 +1,6 @@
 //! What two walks begin with and end with, taken off and put back.
 ghost use Rattle.std.specs.Prelude.{◌≡◌, ◌+◌, ◌-◌, ◌<◌, ◌≤◌, ◌^◌, take, drop, All, IfOk};
-ghost use Rattle.surf_model.specs.Replacements.{place_of};
+ghost use Rattle.surf_model.specs.Replacements.{place_of_move};
 ghost use Rattle.surf_model.specs.Walks.{HaveCommonEnds, darts};
 ghost use Rattle.surf_model.specs.declared.moves.Move.{Move};
 ghost use Rattle.common_ends.specs.Trimmed.{AreCommonDarts, between, put_around, DifferBehind, DifferBefore};
@@ -42,7 +42,7 @@ impl CommonDarts {
 
     /// The moves of a list where the common darts stand around the walk again.
     pub fn put_back(self, alloc: Global, list: MoveList) -> Result<MoveList, AllocError>
-        requires places { All (λ (mv : Move). place_of mv ≤ list.peak) list.moves }
+        requires places { All (λ (mv : Move). place_of_move mv ≤ list.peak) list.moves }
         requires room { self.front + self.back + list.peak < 2 ^ 32 }
         ensures { IfOk result (λ whole. whole ≡ put_around self list) }
     {

@@ -1,6 +1,6 @@
 //! Lists of moves noted again for longer walks.
 ghost use Rattle.std.specs.Prelude.{◌≡◌, ◌+◌, ◌<◌, ◌≤◌, ◌^◌, ◌++◌, max, length, OnOk, All};
-ghost use Rattle.surf_model.specs.Replacements.{place_of};
+ghost use Rattle.surf_model.specs.Replacements.{place_of_move};
 ghost use Rattle.surf_model.specs.Rewriting.{raised, all_raised};
 ghost use Rattle.surf_model.specs.declared.moves.Move.{Move};
 
@@ -15,7 +15,7 @@ pub fn raise_moves(
     by: u32,
     around: u32,
 ) -> Result<(), AllocError>
-    requires places { All (λ (mv : Move). place_of mv ≤ list.now.peak) list.now.moves }
+    requires places { All (λ (mv : Move). place_of_move mv ≤ list.now.peak) list.now.moves }
     requires raised { by + list.now.peak < 2 ^ 32 }
     requires room { around + list.now.peak < 2 ^ 32 }
     ensures moves { OnOk result (moves.new.moves ≡ moves.old.moves ++ all_raised by list.now.moves) }
@@ -31,7 +31,7 @@ pub fn raise_moves(
 
 /// The same move where `by` entries stand in front.
 fn raise(mv: Move, by: u32) -> Move
-    requires { place_of mv + by < 2 ^ 32 }
+    requires { place_of_move mv + by < 2 ^ 32 }
     ensures { result ≡ raised by mv }
 {
     match mv {

@@ -1,5 +1,5 @@
 -- Classes of walks above a mesh, in its double or in a cover, are those of the walks of the mesh.
-use Rattle.compact_surfaces.proofs.Common.{FreelyHomotopic, IsClosedWalk, keeps_free_homotopy, keeps_homotopy, kept_walk, double_of, lift_is_walk, lifts_homotopic, cover_by, lift_by, AreWays, ◌≡◌, ◌⊎◌, ◌↔◌, ℕ, ◌<◌, ◌≤◌, Bool, List, [], length, map, get_or, take, refl, ap, sym, ◌∙◌, subst, inl, inr, arith, get_or-map, get_or-take, length-map, length-take-le, IfErr, IfOk, Result, Ok, Err, list_keeps_ends, FaceList, IsFaceList, Homotopic, IsWalk, IsClassFault, IsFirstNoWalk, AreClasses, AreInOneClass, IsLeastInClass, walk_at, NoWalk}
+use Rattle.compact_surfaces.proofs.Common.{FreelyHomotopic, IsClosedWalk, keeps_free_homotopy, keeps_homotopy, kept_walk, double_of, lift_is_walk, lifts_homotopic, cover_by, lift_by, AreWays, ◌≡◌, ◌⊎◌, ◌↔◌, ℕ, ◌<◌, ◌≤◌, Bool, List, [], length, map, get_or, take, refl, ap, sym, ◌∙◌, subst, inl, inr, arith, get_or-map, get_or-take, length-map, length-take-le, IfErr, IfOk, Result, Ok, Err, list_keeps_ends, FaceList, IsFaceList, Homotopic, IsWalk, walk_at, IsClassFault, IsFirstNoWalk, AreClasses, AreInOneClass, IsLeastInClass, NoWalk}
 use Rattle.std.specs.Global.{Vec}
 use Rattle.walk_classes.specs.declared.fault.ClassFault.{ClassFault}
 use Rattle.walk_classes.specs.declared.fault.ClassFault.TheVariants.{OutOfMemory}

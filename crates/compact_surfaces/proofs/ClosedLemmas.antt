@@ -1,9 +1,9 @@
 -- What answers for a compact surface is a closed manifold.
-use Rattle.compact_surfaces.proofs.Common.{double_orientable, orientable_there, IsClosedFor, IsCompactSurface, IsCoverBeyond, IsFaultBehind, IsFirstFault, IsKept, first_faces, CompactFault, Cover, OutOfMemory, few_of_two, no_edge_no_side, double_of, mirror_face, rim_quads, HasBoundary, ◌≡◌, ◌⊎◌, ◌↔◌, Bool, false, ℕ, ◌<◌, ◌≤◌, List, ◌++◌, length, map, take, append_assoc, ap, sym, ◌∙◌, subst, inl, inr, arith, true, both_ways, cases_Bool, IsTrue, Option, MatchOption, Edge, IsTableOf, FaceList, HasFileSize, IsFaceList, is_edge, IsOrientableSurface, IsClosedManifold, IsOrientable, sides_between}
+use Rattle.compact_surfaces.proofs.Common.{double_orientable, orientable_there, IsClosedFor, IsCompactSurface, IsCoverBeyond, IsFaultBehind, IsFirstCompactFault, IsKeptClosed, first_faces, CompactFault, Cover, OutOfMemory, few_of_two, no_edge_no_side, double_of, mirror_face, rim_quads, HasBoundary, ◌≡◌, ◌⊎◌, ◌↔◌, Bool, false, ℕ, ◌<◌, ◌≤◌, List, ◌++◌, length, map, take, append_assoc, ap, sym, ◌∙◌, subst, inl, inr, arith, true, both_ways, cases_Bool, IsTrue, Option, MatchOption, Edge, IsTableOf, FaceList, HasFileSize, IsFaceList, is_edge, IsOrientableSurface, IsClosedManifold, IsOrientable, sides_between}
 use Rattle.closed_doubles.proofs.DoubleRings.{double_rings}
 use Rattle.closed_doubles.proofs.SidePlaces.{some_side}
 use Rattle.closed_doubles.proofs.TwoSides.{double_two_sides}
-use Rattle.closed_surfaces.specs.SignedSurfaces.{IsNoSurface, no_memory}
+use Rattle.closed_surfaces.specs.SignedSurfaces.{IsNoSurface, surface_no_memory}
 use Rattle.closed_surfaces.specs.declared.signed_mesh.NoSurface.{NoSurface}
 use Rattle.closed_surfaces.specs.declared.signed_mesh.NoSurface.TheVariants.{Fault, NotOrientable}
 use Rattle.doubling.proofs.DoubleFaces.{double_size}
@@ -51,12 +51,12 @@ closed_answers mesh closed is same = inr ((λ rim. one_side rim.0 rim.1 rim.2), 
 
 -- the cover of what answers for a surface is beyond a limit
 pub cover_fault : (mesh closed : FaceList) (fault : CompactFault) → IsCompactSurface mesh → IsClosedFor mesh closed → HasFileSize closed
-    → IsFaultBehind (λ limit. Cover limit) (IsCoverBeyond closed) fault → (fault ≡ OutOfMemory) ⊎ IsFirstFault mesh fault
+    → IsFaultBehind (λ limit. Cover limit) (IsCoverBeyond closed) fault → (fault ≡ OutOfMemory) ⊎ IsFirstCompactFault mesh fault
 cover_fault mesh closed fault is answers fits h =
     elim h [
       | inl none ↦ inl none
       | inr limit ↦
-          inr (subst (IsFirstFault mesh) (sym limit.1)
+          inr (subst (IsFirstCompactFault mesh) (sym limit.1)
           (inr (record { compact = is; closed = closed; answers = answers; fits = fits; cover = limit.2 })))
     ]
 
@@ -96,9 +96,9 @@ own_answers mesh closed answers = elim answers [ inl double ↦ inr double.1 | i
 pub kept : (mesh closed : FaceList) (own : Option (List Edge)) (signed : Bool) (vertices faces : ℕ) → IsFaceList mesh
     → IsCompactSurface mesh → IsClosedFor mesh closed → MatchOption own (closed ≡ mesh) (IsTableOf mesh)
     → (signed ≡ true) ↔ IsOrientable closed → vertices ≡ mesh.count → faces ≡ length mesh.faces
-    → IsKept (first_faces vertices faces closed) own closed signed
+    → IsKeptClosed (first_faces vertices faces closed) own closed signed
 kept mesh closed own signed vertices faces valid is answers table told v f =
-    subst (λ (m : FaceList). IsKept m own closed signed) (sym (first_are mesh closed vertices faces answers v f)) (record {
+    subst (λ (m : FaceList). IsKeptClosed m own closed signed) (sym (first_are mesh closed vertices faces answers v f)) (record {
       valid = valid;
       compact = is;
       answers = own_answers mesh closed answers;
@@ -108,7 +108,7 @@ kept mesh closed own signed vertices faces valid is answers table told v f =
 
 -- ---- what the cover is refused for
 
-pub refused_for : (mesh : FaceList) (none : NoSurface) → IsOrientableSurface mesh → IsNoSurface mesh none → none ≡ no_memory
+pub refused_for : (mesh : FaceList) (none : NoSurface) → IsOrientableSurface mesh → IsNoSurface mesh none → none ≡ surface_no_memory
 refused_for mesh (Fault fault) is h =
     elim h [ inl memory ↦ ap Fault memory | inr first ↦ absurd (no_fault mesh fault is.manifold first) ]
 refused_for mesh (NotOrientable chain) is h = absurd (h.1 is.orientable)

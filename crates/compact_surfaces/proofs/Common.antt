@@ -2,8 +2,8 @@
 pub use Rattle.closed_doubles.proofs.DoubleSigns.{double_orientable, orientable_there}
 pub use Rattle.closed_walks.specs.FreeHomotopy.{FreelyHomotopic, IsClosedWalk}
 pub use Rattle.compact_surfaces.specs.CompactSurfaces.{IsClosedFor, IsCompactSurface, IsOrientableCompactSurface}
-pub use Rattle.compact_surfaces.specs.Faults.{IsConditionFault, IsCoverBeyond, IsFaultBehind, IsFirstFault, IsLimitFault}
-pub use Rattle.compact_surfaces.specs.Kept.{IsKept, first_faces}
+pub use Rattle.compact_surfaces.specs.Faults.{IsConditionFault, IsCoverBeyond, IsFaultBehind, IsFirstCompactFault, IsLimitFault}
+pub use Rattle.compact_surfaces.specs.Kept.{IsKeptClosed, first_faces}
 pub use Rattle.compact_surfaces.specs.Manifolds.{has_signs, mesh_of_manifold}
 pub use Rattle.compact_surfaces.specs.declared.fault.CompactFault.{CompactFault}
 pub use Rattle.compact_surfaces.specs.declared.fault.CompactFault.TheVariants.{Cover, Double, EdgeSides, NoFace, OutOfMemory, Pinched}
@@ -29,9 +29,9 @@ pub use Rattle.surf_model.specs.FaceLists.{FaceList, HasFileSize, IsFaceList, is
 pub use Rattle.surf_model.specs.Moves.{Homotopic}
 pub use Rattle.surf_model.specs.OrientableSurfaces.{IsOrientableSurface}
 pub use Rattle.surf_model.specs.Surfaces.{IsClosedManifold, IsOrientable, sides_between}
-pub use Rattle.surf_model.specs.Walks.{AreWalkPair, IsWalk}
+pub use Rattle.surf_model.specs.Walks.{AreWalkPair, IsWalk, walk_at}
 pub use Rattle.surf_model.specs.declared.decisions.Answer.TheVariants.{Different}
 pub use Rattle.walk_classes.specs.Faults.{IsClassFault, IsFirstNoWalk}
-pub use Rattle.walk_classes.specs.WalkClasses.{AreClasses, AreInOneClass, IsLeastInClass, walk_at}
+pub use Rattle.walk_classes.specs.WalkClasses.{AreClasses, AreInOneClass, IsLeastInClass}
 pub use Rattle.walk_classes.specs.declared.fault.ClassFault.TheVariants.{NoWalk}
 pub use Rattle.walk_translate.specs.Found.{IsFoundOn}

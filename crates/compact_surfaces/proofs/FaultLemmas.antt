@@ -1,5 +1,5 @@
 -- First faults exclude each other.
-use Rattle.compact_surfaces.proofs.Common.{IsClosedFor, IsCompactSurface, IsConditionFault, IsCoverBeyond, IsFirstFault, IsLimitFault, CompactFault, NoFace, EdgeSides, Pinched, Double, Cover, OutOfMemory, not_too_large, one_limit, one_ways, cover_by, ◌≡◌, ℕ, Bool, List, refl, ap, sym, ◌∙◌, subst, inl, inr, arith, cases_order, FaceList, HasFileSize}
+use Rattle.compact_surfaces.proofs.Common.{IsClosedFor, IsCompactSurface, IsConditionFault, IsCoverBeyond, IsFirstCompactFault, IsLimitFault, CompactFault, NoFace, EdgeSides, Pinched, Double, Cover, OutOfMemory, not_too_large, one_limit, one_ways, cover_by, ◌≡◌, ℕ, Bool, List, refl, ap, sym, ◌∙◌, subst, inl, inr, arith, cases_order, FaceList, HasFileSize}
 use Rattle.connectivity.specs.Joined.{IsLeastPinch}
 use Rattle.doubling.specs.DoubleFaults.{IsTooLarge}
 use Rattle.doubling.specs.declared.fault.DoubleFault.{DoubleFault}
@@ -117,7 +117,8 @@ one_beyond mesh fault OutOfMemory h k = absurd k
 
 -- ---- all faults
 
-pub one_first : (mesh : FaceList) (fault other : CompactFault) → IsFirstFault mesh fault → IsFirstFault mesh other → fault ≡ other
+pub one_first : (mesh : FaceList) (fault other : CompactFault) → IsFirstCompactFault mesh fault → IsFirstCompactFault mesh other
+    → fault ≡ other
 one_first mesh fault other h k =
     elim h [
       | inl one ↦ elim k [
@@ -131,7 +132,7 @@ one_first mesh fault other h k =
     ]
 
 pub no_first : (mesh closed : FaceList) (fault : CompactFault) → IsCompactSurface mesh → IsClosedFor mesh closed → HasFileSize closed
-    → ((limit : DoubleFault) → IsCoverBeyond closed limit → ⊥) → IsFirstFault mesh fault → ⊥
+    → ((limit : DoubleFault) → IsCoverBeyond closed limit → ⊥) → IsFirstCompactFault mesh fault → ⊥
 no_first mesh closed fault is answers small fits h =
     elim h [
       | inl one ↦ no_condition mesh fault is one

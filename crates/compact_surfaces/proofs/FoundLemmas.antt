@@ -1,5 +1,5 @@
 -- What is found on the double is found on the mesh, and what is found of lifts is found of the walks below.
-use Rattle.compact_surfaces.proofs.Common.{IsKept, keeps_homotopy, kept_walk, double_of, lift_is_walk, lifts_homotopic, cover_by, lift_by, AreWays, ◌≡◌, ◌↔◌, ℕ, ◌+◌, ◌<◌, Bool, true, List, get_or, sym, ◌∙◌, subst, inl, inr, arith, All, Option, Some, None, list_keeps_ends, Edge, FaceList, IsFaceList, is_edge, is_used, Homotopic, AreWalkPair, IsWalk, Different, IsFoundOn}
+use Rattle.compact_surfaces.proofs.Common.{IsKeptClosed, keeps_homotopy, kept_walk, double_of, lift_is_walk, lifts_homotopic, cover_by, lift_by, AreWays, ◌≡◌, ◌↔◌, ℕ, ◌+◌, ◌<◌, Bool, true, List, get_or, sym, ◌∙◌, subst, inl, inr, arith, All, Option, Some, None, list_keeps_ends, Edge, FaceList, IsFaceList, is_edge, is_used, Homotopic, AreWalkPair, IsWalk, Different, IsFoundOn}
 use Rattle.closed_doubles.proofs.JoinedDoubles.{fold_used}
 use Rattle.connectivity.proofs.EdgeLemmas.{edge_differs, used_below}
 use Rattle.doubling.proofs.FoldedSides.{edge_folds}
@@ -58,7 +58,7 @@ found_below mesh first second (Some answer) valid lf ls told =
     )
 
 pub found_on_mesh : (mesh closed : FaceList) (own : Option (List Edge)) (signed : Bool) (first second : List ℕ) (found : Option Answer)
-    → IsKept mesh own closed signed → LiesBelow mesh.count first → LiesBelow mesh.count second → IsFoundOn closed first second found
+    → IsKeptClosed mesh own closed signed → LiesBelow mesh.count first → LiesBelow mesh.count second → IsFoundOn closed first second found
     → IsFoundOn mesh first second found
 found_on_mesh mesh closed own signed first second found kept lf ls told =
     elim kept.answers [

@@ -1,13 +1,13 @@
 -- Why a surface with boundary has no signs, and that one with signs has them.
 use Rattle.compact_surfaces.proofs.Common.{double_orientable, orientable_there, IsCompactSurface, IsOrientableCompactSurface, double_of, HasBoundary, ◌≡◌, ◌⊎◌, sym, subst, inl, inr, FaceList, HasFileSize, IsFaceList, IsOrientable}
-use Rattle.compact_surfaces.specs.Signed.{IsSignedFault, no_memory}
+use Rattle.compact_surfaces.specs.Signed.{IsSignedFault, signed_no_memory}
 use Rattle.compact_surfaces.specs.declared.signed.SignedFault.{SignedFault}
 use Rattle.compact_surfaces.specs.declared.signed.SignedFault.TheVariants.{NotOrientable}
 
 -- the double has no signs
 pub twisted_double : (mesh closed : FaceList) (fault : SignedFault) → IsFaceList mesh → IsCompactSurface mesh → closed ≡ double_of mesh
-    → HasFileSize closed → (fault ≡ no_memory) ⊎ ((fault ≡ NotOrientable) × (IsOrientable closed → ⊥))
-    → (fault ≡ no_memory) ⊎ IsSignedFault mesh fault
+    → HasFileSize closed → (fault ≡ signed_no_memory) ⊎ ((fault ≡ NotOrientable) × (IsOrientable closed → ⊥))
+    → (fault ≡ signed_no_memory) ⊎ IsSignedFault mesh fault
 twisted_double mesh closed fault valid is same fits h =
     elim h [
       | inl none ↦ inl none

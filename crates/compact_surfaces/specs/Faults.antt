@@ -4,7 +4,7 @@ use Rattle.surf_model.specs.FaceLists.{FaceList, HasFileSize}
 use Rattle.surf_model.specs.Surfaces.{IsOrientable}
 use Rattle.connectivity.specs.Joined.{NoEdgeHasThreeSides, IsLeastPinch}
 use Rattle.free_forms.specs.OpenSurfaces.{HasBoundary}
-use Rattle.free_forms.specs.OpenFaults.{IsEdgeFault}
+use Rattle.free_forms.specs.OpenFaults.{IsOpenEdgeFault}
 use Rattle.doubling.specs.DoubleFaults.{IsBeyond, IsTooLarge}
 use Rattle.doubling.specs.declared.fault.DoubleFault.{DoubleFault}
 use Rattle.orientation_cover.specs.Turns.{cover_by}
@@ -14,7 +14,7 @@ use Rattle.compact_surfaces.specs.declared.fault.CompactFault.{CompactFault}
 use Rattle.compact_surfaces.specs.declared.fault.CompactFault.TheVariants.{NoFace, EdgeSides, Pinched, Double, Cover, OutOfMemory}
 
 -- a vertex is pinched, where there is a face and no edge has three sides
-pub record IsPinchFault (mesh : FaceList) (v : ℕ) : Type 0 where
+pub record IsCompactPinchFault (mesh : FaceList) (v : ℕ) : Type 0 where
   pub some_face : 0 < length mesh.faces
   pub few_sides : NoEdgeHasThreeSides mesh
   pub vertex : IsLeastPinch mesh v
@@ -43,8 +43,8 @@ pub record IsCoverFault (mesh : FaceList) (fault : DoubleFault) : Type 0 where
 -- a condition of a compact surface fails
 abbrev pub IsConditionFault : FaceList → CompactFault → Type 0
 IsConditionFault mesh NoFace = length mesh.faces ≡ 0
-IsConditionFault mesh (EdgeSides low high sides) = IsEdgeFault mesh low.0 high.0 sides
-IsConditionFault mesh (Pinched vertex) = IsPinchFault mesh vertex.0
+IsConditionFault mesh (EdgeSides low high sides) = IsOpenEdgeFault mesh low.0 high.0 sides
+IsConditionFault mesh (Pinched vertex) = IsCompactPinchFault mesh vertex.0
 IsConditionFault mesh (Double fault) = ⊥
 IsConditionFault mesh (Cover fault) = ⊥
 IsConditionFault mesh OutOfMemory = ⊥
@@ -59,8 +59,8 @@ IsLimitFault mesh (Pinched vertex) = ⊥
 IsLimitFault mesh OutOfMemory = ⊥
 
 -- the condition of the fault is the first that fails, or its limit is the first; want of memory is no fault of the mesh
-abbrev pub IsFirstFault : FaceList → CompactFault → Type 0
-IsFirstFault mesh fault = IsConditionFault mesh fault ⊎ IsLimitFault mesh fault
+abbrev pub IsFirstCompactFault : FaceList → CompactFault → Type 0
+IsFirstCompactFault mesh fault = IsConditionFault mesh fault ⊎ IsLimitFault mesh fault
 
 -- what was to be made is beyond a limit, told so, or memory is wanting
 abbrev pub IsFaultBehind : (DoubleFault → CompactFault) → (DoubleFault → Type 0) → CompactFault → Type 0

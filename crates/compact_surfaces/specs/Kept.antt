@@ -19,7 +19,7 @@ abbrev pub first_faces : ℕ → ℕ → FaceList → FaceList
 first_faces vertices faces closed = record { count = vertices; faces = take faces closed.faces }
 
 -- the closed manifold is the compact surface or its double, of which the surface has a table of its own; and whether it is orientable
-pub record IsKept (mesh : FaceList) (own : Option (List Edge)) (closed : FaceList) (signed : Bool) : Type 0 where
+pub record IsKeptClosed (mesh : FaceList) (own : Option (List Edge)) (closed : FaceList) (signed : Bool) : Type 0 where
   pub valid : IsFaceList mesh
   pub compact : IsCompactSurface mesh
   pub answers : (closed ≡ mesh) ⊎ (closed ≡ double_of mesh)

@@ -36,7 +36,7 @@ IsSignedFor mesh (surfaces.Closed kept) = (HasBoundary mesh → ⊥) × IsClosed
 IsSignedFor mesh (surfaces.Bounded kept) = HasBoundary mesh × IsBoundedFor mesh kept
 
 -- a compact surface that is not orientable, where its double is no larger than a mesh may be
-pub record IsTwisted (mesh : FaceList) : Type 0 where
+pub record IsOneSided (mesh : FaceList) : Type 0 where
   pub compact : IsCompactSurface mesh
   pub fits : HasBoundary mesh → HasFileSize (double_of mesh)
   pub twisted : IsOrientable mesh → ⊥
@@ -45,8 +45,8 @@ pub record IsTwisted (mesh : FaceList) : Type 0 where
 abbrev pub IsSignedFault : FaceList → SignedFault → Type 0
 IsSignedFault mesh (faults.Compact fault) =
     IsConditionFault mesh fault ⊎ ((limit : DoubleFault) × (fault ≡ Double limit) × IsDoubleFault mesh limit)
-IsSignedFault mesh faults.NotOrientable = IsTwisted mesh
+IsSignedFault mesh faults.NotOrientable = IsOneSided mesh
 
 -- memory is wanting
-abbrev pub no_memory : SignedFault
-no_memory = faults.Compact OutOfMemory
+abbrev pub signed_no_memory : SignedFault
+signed_no_memory = faults.Compact OutOfMemory

@@ -2,7 +2,7 @@
 ghost use Rattle.std.specs.Prelude.{◌≡◌, ◌⊎◌, ◌<◌, ℕ, length, map, IfOk, IfErr, MatchOption, OnOk};
 ghost use Rattle.surf_model.specs.Edges.{IsTableOf};
 ghost use Rattle.surf_model.specs.Surfaces.{IsClosedManifold, IsOrientable};
-ghost use Rattle.closed_surfaces.specs.SignedSurfaces.{no_memory};
+ghost use Rattle.closed_surfaces.specs.SignedSurfaces.{surface_no_memory};
 ghost use Rattle.walk_translate.specs.Found.{IsFoundOn};
 ghost use Rattle.component_deciding.specs.WordFinders.{mesh_of_finder};
 ghost use Rattle.doubling.specs.DoubleFaults.{IsTooLarge};
@@ -10,10 +10,10 @@ ghost use Rattle.doubling.specs.declared.fault.DoubleFault.{DoubleFault};
 ghost use Rattle.orientation_cover.specs.Turns.{cover_by, lift_by};
 ghost use Rattle.orientation_cover.specs.Ways.{AreWays};
 ghost use Rattle.surf_model.specs.FaceLists.{HasFileSize};
-ghost use Rattle.surf_model.specs.Walks.{IsWalk};
+ghost use Rattle.surf_model.specs.Walks.{IsWalk, walk_at};
 ghost use Rattle.compact_surfaces.specs.Faults.{IsCoverBeyond};
 ghost use Rattle.walk_classes.specs.Faults.{IsClassFault, IsFirstNoWalk};
-ghost use Rattle.walk_classes.specs.WalkClasses.{AreClasses, walk_at};
+ghost use Rattle.walk_classes.specs.WalkClasses.{AreClasses};
 
 use closed_surfaces::{NoSurface, SignedMesh};
 use component_deciding::WordFinder;
@@ -173,7 +173,7 @@ fn finder_above(alloc: Global, faces: &Faces, ways: &WaysRound) -> Result<WordFi
 
 /// What is told of the cover, an orientable closed surface, where it is refused: that can be for want of memory alone.
 fn wanting(_refusal: NoSurface) -> DoubleFault
-    requires { _refusal ≡ no_memory }
+    requires { _refusal ≡ surface_no_memory }
     ensures { result ≡ DoubleFault.OutOfMemory }
 {
     DoubleFault::OutOfMemory

@@ -4,7 +4,7 @@ ghost use Rattle.surf_model.specs.Edges.{IsTableOf};
 ghost use Rattle.surf_model.specs.Surfaces.{IsClosedManifold, IsOrientable};
 ghost use Rattle.closed_surfaces.specs.SignedSurfaces.{IsSigned};
 ghost use Rattle.compact_surfaces.specs.CompactSurfaces.{IsOrientableCompactSurface};
-ghost use Rattle.compact_surfaces.specs.Signed.{IsSignedFault, IsSignedFor, no_memory};
+ghost use Rattle.compact_surfaces.specs.Signed.{IsSignedFault, IsSignedFor, signed_no_memory};
 ghost use Rattle.compact_surfaces.specs.declared.signed.SignedFault.{SignedFault};
 
 use crate::check::has_boundary;
@@ -52,9 +52,9 @@ impl From<CompactFault> for SignedFault {
 }
 
 impl From<AllocError> for SignedFault {
-    ghost use Rattle.compact_surfaces.specs.Signed.{no_memory};
+    ghost use Rattle.compact_surfaces.specs.Signed.{signed_no_memory};
 
-    ghost from_gives = { λ _ fault. fault ≡ no_memory };
+    ghost from_gives = { λ _ fault. fault ≡ signed_no_memory };
 
     fn from(_: AllocError) -> Self {
         SignedFault::Compact(CompactFault::OutOfMemory)
@@ -66,7 +66,7 @@ impl SignedCompact {
     pub fn of(alloc: Global, faces: Faces) -> Result<SignedCompact, SignedFault>
         ensures surface { OnOk result (IsOrientableCompactSurface faces) }
         ensures signed { IfOk result (IsSignedFor faces) }
-        ensures fault { IfErr result (λ fault. (fault ≡ no_memory) ⊎ IsSignedFault faces fault) }
+        ensures fault { IfErr result (λ fault. (fault ≡ signed_no_memory) ⊎ IsSignedFault faces fault) }
     {
         // The proof reads what holds of every face list.
         let _ = faces.len();
@@ -95,7 +95,7 @@ fn signed_by(alloc: Global, faces: Faces, sides: Sides) -> Result<SignedMesh, Si
     ensures signed { IfOk result IsSigned }
     ensures orientable { OnOk result (IsOrientable faces) }
     ensures fault { IfErr result (λ fault.
-        (fault ≡ no_memory) ⊎ ((fault ≡ SignedFault.NotOrientable) × (IsOrientable faces → ⊥))) }
+        (fault ≡ signed_no_memory) ⊎ ((fault ≡ SignedFault.NotOrientable) × (IsOrientable faces → ⊥))) }
 {
     // The proof reads what holds of every face list.
     let _ = faces.len();

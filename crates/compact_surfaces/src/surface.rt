@@ -5,13 +5,14 @@ ghost use Rattle.surf_model.specs.Surfaces.{IsClosedManifold, IsOrientable};
 ghost use Rattle.closed_surfaces.specs.SignedSurfaces.{IsSigned};
 ghost use Rattle.closed_walks.specs.FreeHomotopy.{FreelyHomotopic, IsClosedWalk};
 ghost use Rattle.walk_classes.specs.Faults.{IsClassFault};
-ghost use Rattle.walk_classes.specs.WalkClasses.{AreClasses, walk_at};
+ghost use Rattle.walk_classes.specs.WalkClasses.{AreClasses};
+ghost use Rattle.surf_model.specs.Walks.{walk_at};
 ghost use Rattle.walk_translate.specs.Found.{IsFoundOn};
 ghost use Rattle.doubling.specs.DoubleFaults.{IsBeyond};
 ghost use Rattle.doubling.specs.Doubles.{double_of};
 ghost use Rattle.compact_surfaces.specs.CompactSurfaces.{IsClosedFor, IsCompactSurface};
 ghost use Rattle.doubling.specs.declared.fault.DoubleFault.{DoubleFault};
-ghost use Rattle.compact_surfaces.specs.Faults.{IsCoverBeyond, IsFirstFault, IsFaultBehind};
+ghost use Rattle.compact_surfaces.specs.Faults.{IsCoverBeyond, IsFirstCompactFault, IsFaultBehind};
 ghost use Rattle.compact_surfaces.specs.Manifolds.{has_signs, mesh_of_manifold};
 
 use crate::check::has_boundary;
@@ -41,14 +42,14 @@ pub struct CompactSurface {
 
 impl Model for CompactSurface {
     ghost use Rattle.surf_model.specs.FaceLists.{FaceList};
-    ghost use Rattle.compact_surfaces.specs.Kept.{IsKept, first_faces};
+    ghost use Rattle.compact_surfaces.specs.Kept.{IsKeptClosed, first_faces};
     ghost use Rattle.compact_surfaces.specs.Manifolds.{has_signs, mesh_of_manifold};
 
     ghost Value = { FaceList };
 
     ghost view = { λ a. first_faces a.vertices a.faces (mesh_of_manifold a.closed) };
 
-    ghost invariant = { λ a. IsKept (first_faces a.vertices a.faces (mesh_of_manifold a.closed)) a.own (mesh_of_manifold a.closed)
+    ghost invariant = { λ a. IsKeptClosed (first_faces a.vertices a.faces (mesh_of_manifold a.closed)) a.own (mesh_of_manifold a.closed)
         (has_signs a.closed) };
 }
 
@@ -57,8 +58,8 @@ impl CompactSurface {
     pub fn of(alloc: Global, faces: Faces) -> Result<CompactSurface, CompactFault>
         ensures mesh { IfOk result (λ surface. surface ≡ faces) }
         ensures compact { OnOk result (IsCompactSurface faces) }
-        ensures fault { IfErr result (λ fault. (fault ≡ CompactFault.OutOfMemory) ⊎ IsFirstFault faces fault) }
-        ensures none { OnOk result ((fault : CompactFault) → IsFirstFault faces fault → ⊥) }
+        ensures fault { IfErr result (λ fault. (fault ≡ CompactFault.OutOfMemory) ⊎ IsFirstCompactFault faces fault) }
+        ensures none { OnOk result ((fault : CompactFault) → IsFirstCompactFault faces fault → ⊥) }
     {
         let (vertices, count) = (faces.count(), faces.len());
         let (own, closed) = closed_for(alloc, faces)?;
@@ -164,8 +165,8 @@ fn closed_for(alloc: Global, faces: Faces) -> Result<(Option<Sides>, ClosedManif
     ensures closed { IfOk result (λ made. IsClosedFor faces (mesh_of_manifold made.1)) }
     ensures own { IfOk result (λ made. MatchOption made.0 (mesh_of_manifold made.1 ≡ faces) (IsTableOf faces)) }
     ensures signs { IfOk result (λ made. (has_signs made.1 ≡ true) ↔ IsOrientable (mesh_of_manifold made.1)) }
-    ensures fault { IfErr result (λ fault. (fault ≡ CompactFault.OutOfMemory) ⊎ IsFirstFault faces fault) }
-    ensures none { OnOk result ((fault : CompactFault) → IsFirstFault faces fault → ⊥) }
+    ensures fault { IfErr result (λ fault. (fault ≡ CompactFault.OutOfMemory) ⊎ IsFirstCompactFault faces fault) }
+    ensures none { OnOk result ((fault : CompactFault) → IsFirstCompactFault faces fault → ⊥) }
 {
     // The proof reads what holds of every face list.
     let _ = faces.len();

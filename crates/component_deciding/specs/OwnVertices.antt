@@ -38,8 +38,8 @@ pub record IsApart (apart : Apart) : Type 0 where
   pub genera : AreGeneraOf apart.mesh.faces apart.genera.items
 
 -- the component at a place, as a mesh over its own vertices
-abbrev pub IsLabelled : Apart → ℕ × FaceList → Type 0
-IsLabelled apart labelled = labelled.1 ≡ own_mesh (component_mesh apart.mesh.faces apart.parts labelled.0)
+abbrev pub IsLabelledComponent : Apart → ℕ × FaceList → Type 0
+IsLabelledComponent apart labelled = labelled.1 ≡ own_mesh (component_mesh apart.mesh.faces apart.parts labelled.0)
 
 -- all entries of the walk are vertices of the component at that place, and by their own numbers they are the other walk
 pub record IsOwnWalk (apart : Apart) (place : ℕ) (walk own : List ℕ) : Type 0 where

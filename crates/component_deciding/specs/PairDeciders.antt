@@ -4,6 +4,6 @@ use Rattle.component_deciding.specs.declared.pair_decider.PairDecider.{PairDecid
 use Rattle.component_deciding.specs.declared.pair_decider.PairDecider.TheVariants.{Whole, Several}
 
 -- its mesh
-abbrev pub mesh_of : PairDecider → FaceList
-mesh_of (Whole mesh) = mesh
-mesh_of (Several mesh) = mesh
+abbrev pub mesh_of_decider : PairDecider → FaceList
+mesh_of_decider (Whole mesh) = mesh
+mesh_of_decider (Several mesh) = mesh

@@ -1,7 +1,7 @@
 //! Deciding on many pairs of walks of a surface.
 ghost use Rattle.std.specs.Prelude.{◌≡◌, IfOk};
 ghost use Rattle.closed_surfaces.specs.SignedSurfaces.{IsSigned};
-ghost use Rattle.component_deciding.specs.PairDeciders.{mesh_of};
+ghost use Rattle.component_deciding.specs.PairDeciders.{mesh_of_decider};
 ghost use Rattle.surf_model.specs.Edges.{IsTableOf};
 ghost use Rattle.walk_translate.specs.Found.{IsFoundOn};
 
@@ -25,7 +25,7 @@ impl PairDecider {
     /// The surface that a mesh is, of which walks of so many darts are to be asked. Where there is one component alone, no face is copied.
     pub fn of(alloc: Global, mesh: SignedMesh, darts: u64) -> Result<PairDecider, AllocError>
         requires { IsSigned mesh }
-        ensures { IfOk result (λ decider. mesh_of decider ≡ mesh.faces) }
+        ensures { IfOk result (λ decider. mesh_of_decider decider ≡ mesh.faces) }
     {
         let parts = Parts::build(alloc, &mesh.faces, &mesh.sides)?;
         if parts.len() == 1 {
@@ -39,7 +39,7 @@ impl PairDecider {
 
     /// The edge table of the surface.
     pub fn sides(&self) -> &Sides
-        ensures { IsTableOf (mesh_of self.now) result.now }
+        ensures { IsTableOf (mesh_of_decider self.now) result.now }
     {
         match self {
             PairDecider::Whole(decider) => decider.sides(),
@@ -53,8 +53,8 @@ impl PairDecider {
         first: &Walk,
         second: &Walk,
     ) -> Result<Option<Answer>, AllocError>
-        ensures same { mesh_of self.new ≡ mesh_of self.old }
-        ensures answer { IfOk result (IsFoundOn (mesh_of self.old) first.now second.now) }
+        ensures same { mesh_of_decider self.new ≡ mesh_of_decider self.old }
+        ensures answer { IfOk result (IsFoundOn (mesh_of_decider self.old) first.now second.now) }
     {
         match self {
             PairDecider::Whole(decider) => decider.answer_if_pair(first, second),

@@ -1,7 +1,7 @@
 //! Deciding on pairs of walks of a surface of several components.
 ghost use Rattle.std.specs.Prelude.{◌≡◌, ◌<◌, length, None, IfOk, IfSome};
 ghost use Rattle.closed_surfaces.specs.SignedSurfaces.{IsSigned};
-ghost use Rattle.component_deciding.specs.OwnVertices.{IsApart, IsLabelled, own_mesh};
+ghost use Rattle.component_deciding.specs.OwnVertices.{IsApart, IsLabelledComponent, own_mesh};
 ghost use Rattle.surf_model.specs.ComponentParts.{AreParts, component_mesh};
 ghost use Rattle.surf_model.specs.Edges.{IsTableOf};
 ghost use Rattle.walk_translate.specs.Found.{IsFoundOn};
@@ -25,14 +25,14 @@ pub struct Several {
 
 impl Model for Several {
     ghost use Rattle.std.specs.Prelude.{IfSome};
-    ghost use Rattle.component_deciding.specs.OwnVertices.{IsApart, IsLabelled};
+    ghost use Rattle.component_deciding.specs.OwnVertices.{IsApart, IsLabelledComponent};
     ghost use Rattle.surf_model.specs.FaceLists.{FaceList};
 
     ghost Value = { FaceList };
 
     ghost view = { λ a. a.apart.mesh.faces };
 
-    ghost invariant = { λ a. IsApart a.apart × IfSome a.last (IsLabelled a.apart) };
+    ghost invariant = { λ a. IsApart a.apart × IfSome a.last (IsLabelledComponent a.apart) };
 }
 
 impl Several {
@@ -100,7 +100,7 @@ fn take_labelled(
 ) -> Result<Decider, AllocError>
     requires apart { IsApart apart.now }
     requires place { place < length apart.now.parts.components }
-    requires last { IfSome last.old (IsLabelled apart.now) }
+    requires last { IfSome last.old (IsLabelledComponent apart.now) }
     ensures taken { last.new ≡ None }
     ensures decider { IfOk result (λ decider. decider ≡ own_mesh (component_mesh apart.now.mesh.faces apart.now.parts place)) }
 {

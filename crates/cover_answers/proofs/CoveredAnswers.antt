@@ -12,7 +12,7 @@ use Rattle.off_reader.specs.OffTexts.{meaning_of}
 use Rattle.orientation_cover.specs.Turns.{cover_by, lift_by}
 use Rattle.orientation_cover.proofs.LiftLemmas.{lifts_homotopic}
 use Rattle.closed_covers.proofs.ClosedCovers.{cover_surface}
-use Rattle.walk_files.specs.PairLists.{WalkPair, ArePairs, are_paired, in_pairs}
+use Rattle.walk_files.specs.PairLists.{WalkPair, ArePairs, are_paired, walks_in_pairs}
 use Rattle.walk_files.specs.WalkLists.{WalkText}
 use Rattle.walk_files.specs.WalkTexts.{walk_text_of, walks_in, walks_of}
 use Rattle.walk_files.specs.declared.fault.WalkFault.{WalkFault}
@@ -25,7 +25,7 @@ use Rattle.commands.proofs.MeshTexts.{mesh_valid}
 use Rattle.commands.proofs.Rows.{mesh_passes, some_and}
 use Rattle.commands.proofs.Sound.{held}
 use Rattle.certify_commands.specs.Certify.{IsCertified, IsWithinLimits}
-use Rattle.pair_commands.specs.Decide.{AreDecisions, AreDecided, IsDecided}
+use Rattle.pair_commands.specs.Decide.{AreDecisions, TellsDecisions, IsDecided}
 use Rattle.pair_commands.specs.PairInput.{SpellsPairs}
 use Rattle.cover_commands.specs.MeshCover.{AreLiftsTold}
 use Rattle.cover_commands.proofs.CoverAnswers.{means_cover, lifts_told}
@@ -86,11 +86,11 @@ one_pair mesh first second bytes h =
         walks = subst (All (IsWalk mesh)) back
             (All-cons (IsWalk mesh) first (second ∷ []) h.are.first_walk
             (All-cons (IsWalk mesh) second [] h.are.second_walk (All-nil (IsWalk mesh))));
-        ends = subst (λ (ws : List (List ℕ)). All (λ (p : WalkPair). HaveCommonEnds p.first p.second) (in_pairs ws)) back
+        ends = subst (λ (ws : List (List ℕ)). All (λ (p : WalkPair). HaveCommonEnds p.first p.second) (walks_in_pairs ws)) back
             (All-cons (λ (p : WalkPair). HaveCommonEnds p.first p.second) pair [] h.are.ends
             (All-nil (λ (p : WalkPair). HaveCommonEnds p.first p.second)));
       };
-      pairs_are = ap in_pairs back;
+      pairs_are = ap walks_in_pairs back;
     }
 
 -- ---- decide
@@ -105,12 +105,12 @@ decision_here mesh other first second one two (d ∷ e ∷ decisions) same h = a
 
 pub decided_here : (held : Option Files) (words : List (List ℕ)) (status : Status) (text : List ℕ) (mesh : FaceList) (bits : List Bool)
     (first second : List ℕ) → IsDecided held words status text → IsInputOnCover (codes "decide") held words mesh bits first second
-    → AreDecided mesh (record { first = first; second = second } ∷ []) status text
+    → TellsDecisions mesh (record { first = first; second = second } ∷ []) status text
 decided_here files words status text mesh bits first second decided input =
     let one : List ℕ = lift_by mesh bits first in
     let two : List ℕ = lift_by mesh bits second in
     let lifts : List WalkPair = record { first = one; second = two } ∷ [] in
-    let there : AreDecided (cover_by mesh bits) lifts status text =
+    let there : TellsDecisions (cover_by mesh bits) lifts status text =
     decided.answered (cover_by mesh bits) lifts
     (on_cover (codes "decide") (SpellsPairs (cover_by mesh bits) lifts) files words mesh bits first second
     (one_pair (cover_by mesh bits) one two) input) in

@@ -11,7 +11,7 @@ use Rattle.commands.specs.Inputs.{SpellsMesh, SpellsPair}
 use Rattle.commands.specs.Outcomes.{AnswersTo}
 use Rattle.commands.specs.declared.status.Status.{Status}
 use Rattle.commands.specs.declared.status.Status.TheVariants.{Yes}
-use Rattle.cover_commands.specs.MeshCover.{IsShort, lifted_walks, mesh_cover}
+use Rattle.cover_commands.specs.MeshCover.{FitsWalkFile, lifted_walks, mesh_cover}
 
 -- The words are this keyword and the names of two files, which are told: the first stands for the cover of a closed manifold by ways round
 -- its vertices, and the second for the lifts of two walks, which have common ends.
@@ -37,7 +37,7 @@ pub record ArePrinted (held : Option Files) (mesh_name walks_name : List ℕ) (m
   pub manifold : IsClosedManifold mesh
   pub ways : AreWays mesh bits
   pub small : HasFileSize (cover_by mesh bits)
-  pub first_short : IsShort first
-  pub second_short : IsShort second
+  pub first_short : FitsWalkFile first
+  pub second_short : FitsWalkFile second
   pub cover : AnswersTo held (mesh_cover held mesh_name) status cover_text
   pub lifts : AnswersTo held (lifted_walks held mesh_name walks_name) Yes lifts_text

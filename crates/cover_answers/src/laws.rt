@@ -11,7 +11,7 @@ ghost use Rattle.commands.specs.Checks.{Holds};
 ghost use Rattle.commands.specs.declared.certificate.Certificate.{Certificate};
 ghost use Rattle.commands.specs.declared.status.Status.{Status};
 ghost use Rattle.certify_commands.specs.Certify.{IsWithinLimits};
-ghost use Rattle.pair_commands.specs.Decide.{AreDecided};
+ghost use Rattle.pair_commands.specs.Decide.{TellsDecisions};
 ghost use Rattle.verify_commands.specs.Verify.{IsVerifyInput};
 ghost use Rattle.program.specs.Outcomes.{EachAnswer};
 ghost use Rattle.cover_answers.specs.CoveredInputs.{IsInputOnCover, ArePrinted};
@@ -20,7 +20,7 @@ ghost use Rattle.cover_answers.specs.CoveredInputs.{IsInputOnCover, ArePrinted};
 pub fn decide_answers_for_the_mesh()
     ensures { EachAnswer (λ held words status text. (mesh : FaceList) (bits : List Bool) (first second : List ℕ)
         → IsInputOnCover (codes "decide") held words mesh bits first second
-        → AreDecided mesh (record { first = first; second = second } ∷ []) status text) }
+        → TellsDecisions mesh (record { first = first; second = second } ∷ []) status text) }
 {}
 
 /// `certify` answers yes exactly where the two walks are homotopic in the mesh, where the cover and the lifts are within its limits.

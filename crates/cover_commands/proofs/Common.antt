@@ -22,10 +22,10 @@ pub use Rattle.std.proofs.lemmas.Result.{err_from_is_err_and}
 pub use Rattle.std.specs.Prelude.{All, Err, MatchResult, Ok, Option, Result, Some, codes, decimal, flat_map, if◌then◌else◌, nat_le, nat_lt, slice_get, ◌==◌}
 pub use Rattle.surf_io.proofs.Gathering.{EachPut, all-written, each-all, each-fails, each-more, each-none, gathers-put, line_of-numbers, part-written, puts-fails, puts-same, puts-then}
 pub use Rattle.surf_io.specs.Files.{Files}
-pub use Rattle.surf_io.specs.Gathered.{spaced}
+pub use Rattle.surf_io.specs.Gathered.{spaced_number}
 pub use Rattle.surf_model.specs.FaceLists.{FaceList, HasFileSize, IsFaceList}
 pub use Rattle.surf_model.specs.Surfaces.{IsClosedManifold}
 pub use Rattle.surf_model.specs.Walks.{AreWalkPair, HaveCommonEnds, IsWalk, darts}
-pub use Rattle.surface_commands.specs.SurfaceInput.{closed}
+pub use Rattle.surface_commands.specs.SurfaceInput.{closed_alone}
 pub use Rattle.walk_files.specs.PairLists.{WalkPair}
 pub use Rattle.walk_files.specs.WalkTexts.{has_header, in_version, walk_text_of_lines, walks_behind, walks_in, walks_of}

@@ -1,5 +1,5 @@
 -- How the checks of the cover and of lifts end, and what answers them.
-use Rattle.cover_commands.proofs.Common.{stop_answers, thing_answers, stops_first, stops_next, mesh_valid, sound-mesh, sound-pair, IsSound, sound-then, sound-pass, sound-unless_fault, yes_with, Check, End, Refuse, Pass, Passes, pass, ◌>>=◌, mesh_in, pair_in, AnswersTo, Stops, bytes_of, Yes, Refused, few_of_two, WithWays, ways_of, with_ways, ways_in, seen, cover_line, covered, cover_in, mesh_cover, lifts_on, lifts_behind, lifts_in, seen_lifts, lifts_status, lifts_text, lifts_answer, lifted_walks, off_text, cover_by, AreWays, ◌≡◌, inl, inr, ℕ, Bool, List, refl, ap, sym, subst, Option, Result, Ok, Err, MatchResult, Files, FaceList, IsFaceList, HasFileSize, IsClosedManifold, closed, WalkPair}
+use Rattle.cover_commands.proofs.Common.{stop_answers, thing_answers, stops_first, stops_next, mesh_valid, sound-mesh, sound-pair, IsSound, sound-then, sound-pass, sound-unless_fault, yes_with, Check, End, Refuse, Pass, Passes, pass, ◌>>=◌, mesh_in, pair_in, AnswersTo, Stops, bytes_of, Yes, Refused, few_of_two, WithWays, ways_of, with_ways, ways_in, seen, cover_line, covered, cover_in, mesh_cover, lifts_on, lifts_behind, lifts_in, seen_lifts, lifts_status, lifts_text, lifts_answer, lifted_walks, off_text, cover_by, AreWays, ◌≡◌, inl, inr, ℕ, Bool, List, refl, ap, sym, subst, Option, Result, Ok, Err, MatchResult, Files, FaceList, IsFaceList, HasFileSize, IsClosedManifold, closed_alone, WalkPair}
 use Rattle.commands.specs.declared.stop.Stop.{Stop}
 use Rattle.commands.specs.declared.text.Text.{Text}
 use Rattle.cover_commands.specs.declared.lifting.Lifts.{Lifts}
@@ -62,12 +62,12 @@ sound-lifted_walks files mesh walks =
 abbrev behind_closed : FaceList → Check WithWays
 behind_closed surface = ways_of surface >>= (λ bits. pass (record { mesh = surface; bits = bits }))
 
-pub ways_stop : (mesh : FaceList) (stop : Stop) → Passes (closed mesh) mesh → Stops (ways_of mesh) stop → Stops (with_ways mesh) stop
+pub ways_stop : (mesh : FaceList) (stop : Stop) → Passes (closed_alone mesh) mesh → Stops (ways_of mesh) stop → Stops (with_ways mesh) stop
 ways_stop mesh stop p h =
-    stops_next (closed mesh) behind_closed mesh stop p
+    stops_next (closed_alone mesh) behind_closed mesh stop p
     (stops_first (ways_of mesh) (λ bits. pass (record { mesh = mesh; bits = bits })) stop h)
 
-pub ways_pass : (mesh : FaceList) (bits : List Bool) → Passes (closed mesh) mesh → AreWays mesh bits
+pub ways_pass : (mesh : FaceList) (bits : List Bool) → Passes (closed_alone mesh) mesh → AreWays mesh bits
     → Passes (with_ways mesh) (record { mesh = mesh; bits = bits })
 ways_pass mesh bits p are = inr (mesh, p, inr (bits, are, refl))
 

@@ -1,5 +1,5 @@
 -- The line of a walk, put vertex after vertex, and the lines of two walks, read back.
-use Rattle.cover_commands.proofs.Common.{walk_line, ◌≡◌, ℕ, suc, ◌+◌, ◌-◌, ◌<◌, ◌≤◌, ◌^◌, Bool, true, false, List, [], ◌∷◌, ◌++◌, length, map, get_or, drop, refl, ap, sym, ◌∙◌, subst, arith, append_assoc, and_parts, lt-leb, le-ltb, Some, Result, Ok, All, slice_get, flat_map, decimal, codes, nat_le, nat_lt, ◌==◌, if◌then◌else◌, line_of-numbers, spaced, FaceList, IsFaceList, IsWalk, walks_behind, has_header, in_version, walk_text_of_lines, walks_in, walks_of}
+use Rattle.cover_commands.proofs.Common.{walk_line, ◌≡◌, ℕ, suc, ◌+◌, ◌-◌, ◌<◌, ◌≤◌, ◌^◌, Bool, true, false, List, [], ◌∷◌, ◌++◌, length, map, get_or, drop, refl, ap, sym, ◌∙◌, subst, arith, append_assoc, and_parts, lt-leb, le-ltb, Some, Result, Ok, All, slice_get, flat_map, decimal, codes, nat_le, nat_lt, ◌==◌, if◌then◌else◌, line_of-numbers, spaced_number, FaceList, IsFaceList, IsWalk, walks_behind, has_header, in_version, walk_text_of_lines, walks_in, walks_of}
 use Rattle.std.proofs.lemmas.List.{append-nil, length-map}
 use Rattle.std.proofs.lemmas.List.Elements.{All-nil, All-cons, All-head}
 use Rattle.std.proofs.lemmas.Option.{slice_get-get_or}
@@ -15,10 +15,10 @@ use Rattle.walk_files.specs.declared.fault.WalkFault.{WalkFault}
 use Rattle.walk_files.specs.declared.limits.TheConstants.{MOST_LINES, MOST_WALK_VERTICES}
 
 pub line_put : (walk : List ℕ) (start : ℕ) → 0 < length walk → start ≡ get_or walk 0 0
-    → decimal start ++ (flat_map spaced (drop 1 walk) ++ 10 ∷ []) ≡ walk_line walk
+    → decimal start ++ (flat_map spaced_number (drop 1 walk) ++ 10 ∷ []) ≡ walk_line walk
 line_put [] start l is = absurd (omega (arith, l))
 line_put (u ∷ rest) start l is =
-    ap (λ (n : ℕ). decimal n ++ (flat_map spaced rest ++ 10 ∷ [])) is ∙ line_of-numbers (decimal u) rest
+    ap (λ (n : ℕ). decimal n ++ (flat_map spaced_number rest ++ 10 ∷ [])) is ∙ line_of-numbers (decimal u) rest
 
 -- the vertices behind the first
 pub behind_first : (walk : List ℕ) (place vertex : ℕ) → place < length walk - 1 → vertex ≡ get_or walk (place + 1) 0
@@ -83,7 +83,7 @@ first_digits [] rest others h = absurd (omega (arith, h.starts))
 first_digits (u ∷ walk) rest others h =
     let fits : u < 2 ^ 32 = All-head (λ n. n < 2 ^ 32) u walk h.small in
     let d : IsDecimal u (decimal u) = decimal_is u (omega (arith, fits)) in
-    let after : List ℕ = flat_map spaced walk ++ 10 ∷ [] in
+    let after : List ℕ = flat_map spaced_number walk ++ 10 ∷ [] in
     let whole : decimal u ++ (after ++ rest) ≡ walk_line (u ∷ walk) ++ rest =
     sym (append_assoc (decimal u) after rest) ∙ ap (λ (t : List ℕ). t ++ rest) (line_of-numbers (decimal u) walk) in (
       subst (λ (t : List ℕ). unmarked t ≡ t) whole (digits_unmarked (decimal u) (after ++ rest) d.filled d.all),

@@ -4,7 +4,7 @@ use Rattle.surf_io.specs.Files.{Files}
 use Rattle.surf_model.specs.Edges.{IsTableOf}
 use Rattle.surf_model.specs.FaceLists.{FaceList, HasFileSize}
 use Rattle.surf_model.specs.Moves.{Homotopic}
-use Rattle.surf_model.specs.Walks.{darts, AreWalkPair}
+use Rattle.surf_model.specs.Walks.{darts, AreWalkPair, walk_at}
 use Rattle.surf_model.specs.declared.decisions.Answer.TheVariants.{Different}
 use Rattle.text_scan.specs.Plain.{line_of}
 use Rattle.walk_files.specs.PairLists.{WalkPair}
@@ -18,11 +18,11 @@ use Rattle.orientation_cover.specs.Ways.{AreWays}
 use Rattle.commands.specs.Answers.{Answer, Texts, NoText, Exactly, yes_with}
 use Rattle.commands.specs.Certificates.{decision_line}
 use Rattle.commands.specs.Checks.{Check, End, Refuse, Pass, pass, without_files, ◌>>=◌}
-use Rattle.commands.specs.Inputs.{mesh_in, pair_in, walk_at, SpellsPair}
+use Rattle.commands.specs.Inputs.{mesh_in, pair_in, SpellsPair}
 use Rattle.commands.specs.Refusals.{told}
 use Rattle.commands.specs.declared.status.Status.{Status}
 use Rattle.commands.specs.declared.status.Status.TheVariants.{Yes, No}
-use Rattle.surface_commands.specs.SurfaceInput.{closed}
+use Rattle.surface_commands.specs.SurfaceInput.{closed_alone}
 use Rattle.cover_commands.specs.declared.reading.MeshWithWays.{MeshWithWays}
 use Rattle.cover_commands.specs.declared.lifting.Lifts.{Lifts}
 
@@ -43,7 +43,7 @@ ways_of mesh = without_files ends
 -- a closed manifold, and ways round its vertices; it need be neither connected nor orientable
 abbrev pub with_ways : FaceList → Check WithWays
 with_ways mesh = do
-  surface ← closed mesh
+  surface ← closed_alone mesh
   bits ← ways_of surface
   pass (record { mesh = surface; bits = bits })
 
@@ -140,8 +140,8 @@ lifted_walks held mesh walks = do
   pass (lifts_answer lifts)
 
 -- a walk file of version 1 may have the walk
-abbrev pub IsShort : List ℕ → Type 0
-IsShort walk = length walk ≤ MOST_WALK_VERTICES
+abbrev pub FitsWalkFile : List ℕ → Type 0
+FitsWalkFile walk = length walk ≤ MOST_WALK_VERTICES
 
 -- What is printed of two walks with common ends: with status 0 their lifts, which are two walks of the cover with common ends, as a walk
 -- file where they are not too long for one; and with status 1 the line `different`, and no list of moves leads from the first walk to the
@@ -151,5 +151,5 @@ AreLiftsTold mesh bits first second status text =
     let one = lift_by mesh bits first in
     let two = lift_by mesh bits second in
     ((status ≡ Yes) × AreWalkPair (cover_by mesh bits) one two × (text ≡ walk_line one ++ walk_line two)
-    × (IsShort first → IsShort second → SpellsPair (cover_by mesh bits) one two text))
+    × (FitsWalkFile first → FitsWalkFile second → SpellsPair (cover_by mesh bits) one two text))
     ⊎ ((status ≡ No) × (text ≡ decision_line Different) × (Homotopic mesh first second → ⊥))

@@ -2,7 +2,7 @@
 ghost use Rattle.std.specs.Prelude.{◌≡◌, IfOk, MatchResult};
 ghost use Rattle.walk_files.specs.Pairs.{IsPair};
 ghost use Rattle.commands.specs.Checks.{Passes};
-ghost use Rattle.commands.specs.Stops.{Reads, Stops};
+ghost use Rattle.commands.specs.Stops.{EndsReading, Stops};
 ghost use Rattle.cover_commands.specs.MeshCover.{IsWithWays, do_meet, lifts_behind, lifts_in, lifts_on, seen, seen_lifts};
 
 use crate::reading::{MeshWithWays, read_with_ways};
@@ -27,7 +27,7 @@ pub(crate) fn read_lifts<S: Shelf>(
     mesh: &str,
     walks: &str,
 ) -> Result<Lifts, Stop>
-    ensures { Reads S.held S.faults shelf.old shelf.new (λ files. MatchResult result
+    ensures { EndsReading S.held S.faults shelf.old shelf.new (λ files. MatchResult result
         (λ lifts. Passes (lifts_in files mesh.now walks.now) (seen_lifts lifts)) (Stops (lifts_in files mesh.now walks.now))) result }
 {
     let on = read_with_ways(alloc, shelf, mesh)?;
@@ -45,7 +45,7 @@ fn lift_read<S: Shelf>(
     walks: &str,
 ) -> Result<Lifts, Stop>
     requires { IsWithWays on.now }
-    ensures { Reads S.held S.faults shelf.old shelf.new (λ files. MatchResult result
+    ensures { EndsReading S.held S.faults shelf.old shelf.new (λ files. MatchResult result
         (λ lifts. Passes (lifts_behind files walks.now (seen on.now)) (seen_lifts lifts))
         (Stops (lifts_behind files walks.now (seen on.now)))) result }
 {

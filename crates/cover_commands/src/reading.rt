@@ -3,8 +3,8 @@ ghost use Rattle.std.specs.Prelude.{◌≡◌, Err, IfOk, OnOk, MatchResult};
 ghost use Rattle.surf_model.specs.Edges.{IsTableOf};
 ghost use Rattle.surf_model.specs.Surfaces.{IsClosedManifold};
 ghost use Rattle.commands.specs.Checks.{Passes};
-ghost use Rattle.commands.specs.Stops.{Ends, Reads, Stops, Tells};
-ghost use Rattle.surface_commands.specs.SurfaceInput.{closed};
+ghost use Rattle.commands.specs.Stops.{Ends, EndsReading, Stops, Tells};
+ghost use Rattle.surface_commands.specs.SurfaceInput.{closed_alone};
 ghost use Rattle.cover_commands.specs.MeshCover.{IsWithWays, cover_in, cover_line, covered, seen, ways_in, ways_of, with_ways};
 
 use commands::{Phrase, Stop, read_mesh, refused};
@@ -30,7 +30,7 @@ pub(crate) fn read_with_ways<S: Shelf>(
     shelf: &mut S,
     name: &str,
 ) -> Result<MeshWithWays, Stop>
-    ensures reads { Reads S.held S.faults shelf.old shelf.new (λ files. MatchResult result
+    ensures reads { EndsReading S.held S.faults shelf.old shelf.new (λ files. MatchResult result
         (λ on. Passes (ways_in files name.now) (seen on)) (Stops (ways_in files name.now))) result }
     ensures ways { IfOk result IsWithWays }
 {
@@ -40,7 +40,7 @@ pub(crate) fn read_with_ways<S: Shelf>(
 
 /// The cover of the closed manifold in the file `name`.
 pub(crate) fn read_cover<S: Shelf>(alloc: Global, shelf: &mut S, name: &str) -> Result<Faces, Stop>
-    ensures { Reads S.held S.faults shelf.old shelf.new (λ files. Ends (cover_in files name.now) result) result }
+    ensures { EndsReading S.held S.faults shelf.old shelf.new (λ files. Ends (cover_in files name.now) result) result }
 {
     let on = read_with_ways(alloc, shelf, name)?;
     let cover = cover_on(alloc, &on);
@@ -65,7 +65,7 @@ fn find_with_ways(alloc: Global, faces: Faces) -> Result<MeshWithWays, Stop>
 fn check_manifold(alloc: Global, faces: &Faces, sides: &Sides) -> Result<(), Stop>
     requires { IsTableOf faces.now sides.now }
     ensures closed { OnOk result (IsClosedManifold faces.now) }
-    ensures end { MatchResult result (λ _. Passes (closed faces.now) faces.now) (Stops (closed faces.now)) }
+    ensures end { MatchResult result (λ _. Passes (closed_alone faces.now) faces.now) (Stops (closed_alone faces.now)) }
     ensures no_fault { result ≡ Err Stop.ReadFault → ⊥ }
 {
     match check_closed(alloc, faces, sides) {

@@ -2,7 +2,7 @@
 ghost use Rattle.std.specs.Prelude.{◌≡◌, ◌≤◌, flat_map, drop, OnOk, OnErr};
 ghost use Rattle.surf_io.specs.Bytes.{Appends, AppendsPrefix};
 ghost use Rattle.surf_io.specs.Faults.{Rose};
-ghost use Rattle.surf_io.specs.Gathered.{Puts, spaced};
+ghost use Rattle.surf_io.specs.Gathered.{Puts, spaced_number};
 ghost use Rattle.cover_commands.specs.MeshCover.{seen_lifts, walk_line, walk_lines};
 
 use crate::lifting::Lifts;
@@ -44,7 +44,7 @@ fn put_walk<K: Sink>(walk: &Walk, piece: &mut Piece, sink: &mut K) -> Result<(),
 
 /// Puts the vertices of a walk behind the first, each behind a blank.
 fn put_rest<K: Sink>(walk: &Walk, piece: &mut Piece, sink: &mut K) -> Result<(), Failed>
-    ensures { Puts K.written K.settled K.faults result sink.old sink.new piece.old piece.new (flat_map spaced (drop 1 walk.now)) }
+    ensures { Puts K.written K.settled K.faults result sink.old sink.new piece.old piece.new (flat_map spaced_number (drop 1 walk.now)) }
 {
     for place in 0..walk.darts() {
         piece.put_behind(walk.at(place + 1).0, sink)?;

@@ -13,7 +13,7 @@ use Rattle.doubling.proofs.KeptMoves.{kept_walk}
 use Rattle.doubling.proofs.FoldedFreeSteps.{kept_closed}
 use Rattle.doubling.proofs.KeptClasses.{keeps_homotopy, keeps_free_homotopy, keeps_homology}
 use Rattle.closed_doubles.proofs.ClosedDoubles.{double_surface}
-use Rattle.walk_files.specs.PairLists.{WalkPair, in_pairs}
+use Rattle.walk_files.specs.PairLists.{WalkPair, walks_in_pairs}
 use Rattle.commands.specs.Checks.{Holds}
 use Rattle.commands.specs.Inputs.{IsInputOnSurface, SpellsPair}
 use Rattle.commands.specs.declared.inputs.TheConstants.{MOST_BYTES}
@@ -22,7 +22,7 @@ use Rattle.commands.specs.declared.status.Status.TheVariants.{Yes}
 use Rattle.commands.proofs.Rows.{some_and}
 use Rattle.commands.proofs.Sound.{held}
 use Rattle.certify_commands.specs.Certify.{IsCertified, IsWithinLimits}
-use Rattle.pair_commands.specs.Decide.{AreDecisions, AreDecided, IsDecided}
+use Rattle.pair_commands.specs.Decide.{AreDecisions, TellsDecisions, IsDecided}
 use Rattle.pair_commands.specs.PairInput.{SpellsPairs}
 use Rattle.loop_commands.specs.Loops.{SpellsLoops, IsLoopsAnswered}
 use Rattle.homology_commands.specs.Homology.{IsHomologyAnswered}
@@ -72,7 +72,7 @@ pairs_there mesh pairs bytes h = record {
 }
 
 decisions_here : (mesh : FaceList) (walks : List (List ℕ)) (decisions : List deciding.Answer) → IsFaceList mesh → All (IsWalk mesh) walks
-    → AreDecisions (double_of mesh) (in_pairs walks) decisions → AreDecisions mesh (in_pairs walks) decisions
+    → AreDecisions (double_of mesh) (walks_in_pairs walks) decisions → AreDecisions mesh (walks_in_pairs walks) decisions
 decisions_here mesh [] [] valid w h = tt
 decisions_here mesh [] (d ∷ decisions) valid w h = absurd h
 decisions_here mesh (x ∷ []) [] valid w h = tt
@@ -85,9 +85,9 @@ decisions_here mesh (x ∷ y ∷ walks) (d ∷ decisions) valid w h = (
 
 pub decided_here : (held : Option Files) (words : List (List ℕ)) (status : Status) (text : List ℕ) (mesh : FaceList) (pairs : List WalkPair)
     → IsDecided held words status text → IsInputOnDouble (codes "decide") (SpellsPairs mesh pairs) held words mesh
-    → AreDecided mesh pairs status text
+    → TellsDecisions mesh pairs status text
 decided_here files words status text mesh pairs decided input =
-    let there : AreDecided (double_of mesh) pairs status text =
+    let there : TellsDecisions (double_of mesh) pairs status text =
     decided.answered (double_of mesh) pairs
     (on_double (codes "decide") (SpellsPairs mesh pairs) (SpellsPairs (double_of mesh) pairs) files words mesh (pairs_there mesh pairs)
     input) in

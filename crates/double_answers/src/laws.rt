@@ -12,7 +12,7 @@ ghost use Rattle.commands.specs.Inputs.{SpellsPair};
 ghost use Rattle.commands.specs.declared.certificate.Certificate.{Certificate};
 ghost use Rattle.commands.specs.declared.status.Status.{Status};
 ghost use Rattle.certify_commands.specs.Certify.{IsWithinLimits};
-ghost use Rattle.pair_commands.specs.Decide.{AreDecided};
+ghost use Rattle.pair_commands.specs.Decide.{TellsDecisions};
 ghost use Rattle.pair_commands.specs.PairInput.{SpellsPairs};
 ghost use Rattle.loop_commands.specs.Loops.{SpellsLoops};
 ghost use Rattle.verify_commands.specs.Verify.{IsVerifyInput};
@@ -22,7 +22,7 @@ ghost use Rattle.double_answers.specs.DoubledInputs.{IsInputOnDouble};
 /// `decide` tells of each pair of walks of the surface whether they are homotopic there.
 pub fn decide_answers_for_the_surface()
     ensures { EachAnswer (λ held words status text. (mesh : FaceList) (pairs : List WalkPair)
-        → IsInputOnDouble (codes "decide") (SpellsPairs mesh pairs) held words mesh → AreDecided mesh pairs status text) }
+        → IsInputOnDouble (codes "decide") (SpellsPairs mesh pairs) held words mesh → TellsDecisions mesh pairs status text) }
 {}
 
 /// `certify` answers yes exactly where the two walks are homotopic on the surface, where the double is within its limits.

@@ -1,6 +1,6 @@
 //! Reading a surface with boundary, and its double.
 ghost use Rattle.std.specs.Prelude.{◌≡◌, Err};
-ghost use Rattle.commands.specs.Stops.{Ends, Reads, Tells};
+ghost use Rattle.commands.specs.Stops.{Ends, EndsReading, Tells};
 ghost use Rattle.surf_model.specs.Edges.{IsTableOf};
 ghost use Rattle.double_commands.specs.MeshDouble.{double_in, double_line, surface_doubled};
 
@@ -13,7 +13,7 @@ use surf_model::{Faces, Sides};
 
 /// The double of the surface with boundary in the file `name`.
 pub(crate) fn read_double<S: Shelf>(alloc: Global, shelf: &mut S, name: &str) -> Result<Faces, Stop>
-    ensures { Reads S.held S.faults shelf.old shelf.new (λ files. Ends (double_in files name.now) result) result }
+    ensures { EndsReading S.held S.faults shelf.old shelf.new (λ files. Ends (double_in files name.now) result) result }
 {
     let faces = read_mesh(alloc, shelf, name)?;
     double_surface(alloc, &faces)

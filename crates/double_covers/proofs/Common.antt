@@ -17,7 +17,7 @@ pub use Rattle.surf_model.proofs.RoundLemmas.{corner_after, meet}
 pub use Rattle.surf_model.specs.Darts.{IsSide, head_of, side_after, tail_of}
 pub use Rattle.surf_model.specs.FaceLists.{FaceList, IsFace, IsFaceList, corners_from, face_at, is_edge, is_used, next_corner}
 pub use Rattle.surf_model.specs.Moves.{Homotopic, apply, apply_all}
-pub use Rattle.surf_model.specs.Replacements.{IsReplacement, Replaces, place_of}
+pub use Rattle.surf_model.specs.Replacements.{IsReplacement, Replaces, place_of_move}
 pub use Rattle.surf_model.specs.Surfaces.{ArePartners, IsOrientable, IsPath, RunOppositely, is_flipped}
 pub use Rattle.surf_model.specs.Walks.{IsWalk}
 pub use Rattle.surf_model.specs.declared.edges.Side.{Side}
@@ -25,4 +25,4 @@ pub use Rattle.surf_model.specs.declared.moves.Move.{Move}
 pub use Rattle.surf_model.specs.declared.moves.Move.TheVariants.{Across, Insert, Remove}
 pub use Rattle.walk_actions.proofs.Corners.{corners_beyond, next_back, next_forth}
 pub use Rattle.walk_actions.proofs.Runs.{end_beyond, end_from}
-pub use Rattle.walk_actions.specs.Actions.{beyond, run, walked}
+pub use Rattle.walk_actions.specs.Actions.{run, vertices_beyond, walked}

@@ -1,5 +1,5 @@
 -- Walks of the mesh are lifted to walks of the cover, and moves to moves.
-use Rattle.double_covers.proofs.Common.{used_corner, sheet_behind, over, lifted_behind, lifted, AreTurns, cover_of, under, ◌≡◌, ◌≢◌, ℕ, ◌+◌, ◌-◌, ◌<◌, ◌≤◌, Bool, true, false, not, List, [], ◌∷◌, ◌++◌, length, get_or, refl, ap, sym, ◌∙◌, subst, arith, append_assoc, get_or_default, ◌↔◌, Some, first_answer, stays_walk, step_within, by_replacing, corner_after, meet, FaceList, IsFace, IsFaceList, face_at, corners_from, next_corner, is_edge, is_used, apply, apply_all, Homotopic, IsReplacement, Replaces, place_of, IsWalk, Move, Insert, Remove, Across, corners_beyond, end_from, end_beyond, run, walked, beyond}
+use Rattle.double_covers.proofs.Common.{used_corner, sheet_behind, over, lifted_behind, lifted, AreTurns, cover_of, under, ◌≡◌, ◌≢◌, ℕ, ◌+◌, ◌-◌, ◌<◌, ◌≤◌, Bool, true, false, not, List, [], ◌∷◌, ◌++◌, length, get_or, refl, ap, sym, ◌∙◌, subst, arith, append_assoc, get_or_default, ◌↔◌, Some, first_answer, stays_walk, step_within, by_replacing, corner_after, meet, FaceList, IsFace, IsFaceList, face_at, corners_from, next_corner, is_edge, is_used, apply, apply_all, Homotopic, IsReplacement, Replaces, place_of_move, IsWalk, Move, Insert, Remove, Across, corners_beyond, end_from, end_beyond, run, walked, vertices_beyond}
 use Rattle.surf_model.proofs.WayBackLemmas.{at_first}
 use Rattle.surf_model.proofs.EdgeLemmas as edges
 use Rattle.double_covers.proofs.Sheets.{sheet_at, back, next_sheet, entry, length-lifted, way_lifted, way_ends}
@@ -100,7 +100,7 @@ module _ (mesh : FaceList) (turns : ℕ → ℕ → Bool) (are : AreTurns mesh t
   -- and on to one sheet
   record IsLiftedTo (move : Move) (upper : Bool) (part other : List ℕ) : Type 0 where
     pub lift : Move
-    pub place : place_of lift ≡ place_of move
+    pub place : place_of_move lift ≡ place_of_move move
     pub replaces : Replaces (cover_of mesh turns) lift (lifted turns mesh.count upper part) (lifted turns mesh.count upper other)
     pub start : ℕ
     pub rest : List ℕ
@@ -167,9 +167,9 @@ module _ (mesh : FaceList) (turns : ℕ → ℕ → Bool) (are : AreTurns mesh t
       ≡ corners_from (lifted turns mesh.count b.0 ring) rising corner k =
       λ rising k. ap (λ (s : Bool). lifted turns mesh.count s (corners_from ring rising corner k)) (sym b.1)
       ∙ way_lifted turns are.turned mesh.count ring b.0 rising corner k home h.1 in
-      let ended : (rising : Bool) (k : ℕ) → run (sheet_behind turns) upper (get_or ring corner 0) (beyond ring rising corner k)
+      let ended : (rising : Bool) (k : ℕ) → run (sheet_behind turns) upper (get_or ring corner 0) (vertices_beyond ring rising corner k)
       ≡ sheet_at turns b.0 ring (corner_after rising m corner k) =
-      λ rising k. ap (λ (s : Bool). run (sheet_behind turns) s (get_or ring corner 0) (beyond ring rising corner k)) (sym b.1)
+      λ rising k. ap (λ (s : Bool). run (sheet_behind turns) s (get_or ring corner 0) (vertices_beyond ring rising corner k)) (sym b.1)
       ∙ way_ends turns are.turned ring b.0 rising corner k home h.1 in
       let meets : corner_after forward m corner taken ≡ corner_after (not forward) m corner left = meet forward m corner taken h.1 h.2 in
       record {
@@ -185,8 +185,8 @@ module _ (mesh : FaceList) (turns : ℕ → ℕ → Bool) (are : AreTurns mesh t
               ∙ ap (λ (r : List ℕ). corners_from r (not forward) corner (length r - taken)) (sym is),
         );
         start = get_or ring corner 0;
-        rest = beyond ring forward corner taken;
-        others = beyond ring (not forward) corner left;
+        rest = vertices_beyond ring forward corner taken;
+        others = vertices_beyond ring (not forward) corner left;
         part_is = h.3 ∙ corners_beyond ring forward corner taken;
         other_is = h.4 ∙ corners_beyond ring (not forward) corner left;
         ends =
@@ -257,7 +257,7 @@ module _ (mesh : FaceList) (turns : ℕ → ℕ → Bool) (are : AreTurns mesh t
       first_of (Remove at via) part other h = (h.0, via.0 ∷ h.0 ∷ [], h.1)
       first_of (Across at face corner forward taken) part other h = (
         get_or (face_at mesh face.0) corner 0,
-        beyond (face_at mesh face.0) forward corner taken,
+        vertices_beyond (face_at mesh face.0) forward corner taken,
         h.3 ∙ corners_beyond (face_at mesh face.0) forward corner taken,
       )
 

@@ -1,5 +1,5 @@
 -- Moves of a cover lie over moves of the mesh, which lead from walk to walk below.
-use Rattle.double_covers.proofs.Common.{HasSideBetween, side_between, lifted, cover_of, under, ◌≡◌, inl, inr, ℕ, zero, suc, ◌-◌, ◌<◌, Bool, true, false, not, List, [], ◌∷◌, ◌++◌, length, map, get_or, refl, ap, sym, ◌∙◌, subst, arith, nat_tests, common_steps, length-map, get_or-map, Some, first_answer, stays_walk, edge_swap, step_edge, step_within, by_replacing, tail_of, head_of, FaceList, IsFaceList, face_at, corners_from, next_corner, is_edge, apply, apply_all, IsReplacement, Replaces, place_of, Move, Insert, Remove, Across}
+use Rattle.double_covers.proofs.Common.{HasSideBetween, side_between, lifted, cover_of, under, ◌≡◌, inl, inr, ℕ, zero, suc, ◌-◌, ◌<◌, Bool, true, false, not, List, [], ◌∷◌, ◌++◌, length, map, get_or, refl, ap, sym, ◌∙◌, subst, arith, nat_tests, common_steps, length-map, get_or-map, Some, first_answer, stays_walk, edge_swap, step_edge, step_within, by_replacing, tail_of, head_of, FaceList, IsFaceList, face_at, corners_from, next_corner, is_edge, apply, apply_all, IsReplacement, Replaces, place_of_move, Move, Insert, Remove, Across}
 use Rattle.double_covers.proofs.Sheets.{length-lifted}
 use Rattle.double_covers.proofs.CoverFaces.{face_over, IsOver, each_over, over_is}
 use Rattle.double_covers.proofs.LiftedWalks.{all_below, under_lifted}
@@ -107,7 +107,7 @@ module _ (mesh : FaceList) (turns : ℕ → ℕ → Bool) (valid : IsFaceList me
             ∙ ap (λ (n : ℕ). corners_from (face_at mesh low) (not forward) corner (n - taken)) is.long,
       )
 
-  place_under : (move : Move) → place_of (lower_move mesh.count (length mesh.faces) move) ≡ place_of move
+  place_under : (move : Move) → place_of_move (lower_move mesh.count (length mesh.faces) move) ≡ place_of_move move
   place_under (Insert at via) = refl
   place_under (Remove at via) = refl
   place_under (Across at face corner forward taken) = refl

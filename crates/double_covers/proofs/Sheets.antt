@@ -1,5 +1,5 @@
 -- On which sheet a lift is: behind a dart and home again, at each entry, and at each corner of a face.
-use Rattle.double_covers.proofs.Common.{sheet_behind, over, lifted_behind, lifted, ◌≡◌, inl, inr, ℕ, zero, suc, ◌+◌, ◌<◌, Bool, true, false, not, List, [], ◌∷◌, ◌++◌, length, get_or, refl, ap, sym, ◌∙◌, subst, arith, cases_lt, nat_tests, if◌then◌else◌, step_within, corner_after, next_corner, corners_from, corners_beyond, next_forth, run, walked, beyond}
+use Rattle.double_covers.proofs.Common.{sheet_behind, over, lifted_behind, lifted, ◌≡◌, inl, inr, ℕ, zero, suc, ◌+◌, ◌<◌, Bool, true, false, not, List, [], ◌∷◌, ◌++◌, length, get_or, refl, ap, sym, ◌∙◌, subst, arith, cases_lt, nat_tests, if◌then◌else◌, step_within, corner_after, next_corner, corners_from, corners_beyond, next_forth, run, walked, vertices_beyond}
 use Rattle.std.specs.Prelude.{take}
 
 twice : (turn upper : Bool) → (if turn then not (if turn then not upper else upper) else (if turn then not upper else upper)) ≡ upper
@@ -134,7 +134,7 @@ module _ (turns : ℕ → ℕ → Bool) (swap : (u v : ℕ) → turns u v ≡ tu
       let s : Bool = sheet_at turns upper ring t in
       let lifts : List ℕ = lifted turns count upper ring in
       ap (λ (l : List ℕ). over count s here ∷ lifted_behind turns count s here l) (corners_beyond ring rising next k)
-      ∙ ap (λ (b : Bool). over count s here ∷ lifted turns count b (get_or ring next 0 ∷ beyond ring rising next k))
+      ∙ ap (λ (b : Bool). over count s here ∷ lifted turns count b (get_or ring next 0 ∷ vertices_beyond ring rising next k))
       (sym (step ring upper rising t home l))
       ∙ ap (λ (l : List ℕ). over count s here ∷ lifted turns count (sheet_at turns upper ring next) l)
       (sym (corners_beyond ring rising next k))
@@ -144,10 +144,11 @@ module _ (turns : ℕ → ℕ → Bool) (swap : (u v : ℕ) → turns u v ≡ tu
 
   -- the sheet at which such a way ends
   pub way_ends : (ring : List ℕ) (upper rising : Bool) (t k : ℕ) → LeadsHome turns ring → t < length ring
-      → run (sheet_behind turns) (sheet_at turns upper ring t) (get_or ring t 0) (beyond ring rising t k)
+      → run (sheet_behind turns) (sheet_at turns upper ring t) (get_or ring t 0) (vertices_beyond ring rising t k)
       ≡ sheet_at turns upper ring (corner_after rising (length ring) t k)
   way_ends ring upper rising t zero home l = refl
   way_ends ring upper rising t (suc k) home l =
       let next : ℕ = next_corner rising (length ring) t in
-      ap (λ (s : Bool). run (sheet_behind turns) s (get_or ring next 0) (beyond ring rising next k)) (sym (step ring upper rising t home l))
+      ap (λ (s : Bool). run (sheet_behind turns) s (get_or ring next 0) (vertices_beyond ring rising next k))
+      (sym (step ring upper rising t home l))
       ∙ way_ends ring upper rising next k home (step_within rising (length ring) t l)

@@ -25,7 +25,7 @@ pub use Rattle.surf_model.specs.Edges.{Edge, IsEdgeOf, IsTableOf, edge_in, side_
 pub use Rattle.surf_model.specs.FaceLists.{FaceList, FaceSide, HasFileSize, IsFace, IsFaceList, PendingFace, all_sides, corners_from, face_at, is_edge, next_corner, total_sides}
 unfoldable pub use Rattle.surf_model.specs.FaceLists.{is_used}
 pub use Rattle.surf_model.specs.Moves.{Homotopic, Leads, apply, apply_all}
-pub use Rattle.surf_model.specs.Replacements.{IsReplacement, Replaces, place_of}
+pub use Rattle.surf_model.specs.Replacements.{IsReplacement, Replaces, place_of_move}
 pub use Rattle.surf_model.specs.Vertices.{numbers}
 pub use Rattle.surf_model.specs.Walks.{IsWalk}
 pub use Rattle.surf_model.specs.declared.edges.Side.{Side}

@@ -1,18 +1,18 @@
 -- Moves of the double, folded: a list of them becomes one of the mesh, between the folds of its two walks. For the darts of the double act
 -- on walks of the mesh, where homotopic ones are taken for the same: the fold of the second vertex is put behind, unless it is there.
-use Rattle.doubling.proofs.Common.{edge_differs, mirror, mirror_face, double_of, fold, steps_behind, folded, ◌≡◌, ◌≢◌, inl, inr, ℕ, zero, suc, ◌-◌, ◌<◌, Bool, true, false, not, List, [], ◌∷◌, ◌++◌, length, map, get_or, refl, ap, ap₂, sym, ◌∙◌, subst, arith, append_assoc, cases_eq, eq-eqb, ne_eqb, append-nil, length-append, Some, ◌==◌, if◌then◌else◌, list_in_context, one_after_another, edge_swap, step_within, tail_used, head_used, used_below, Linked, links, round_linked, by_replacing, length-corners_from, first_corner, FaceList, IsFaceList, face_at, corners_from, next_corner, is_edge, apply, Leads, Homotopic, Replaces, place_of, IsWalk, Move, Insert, Remove, Across, corners_beyond, walked-round}
+use Rattle.doubling.proofs.Common.{edge_differs, mirror, mirror_face, double_of, fold, steps_behind, folded, ◌≡◌, ◌≢◌, inl, inr, ℕ, zero, suc, ◌-◌, ◌<◌, Bool, true, false, not, List, [], ◌∷◌, ◌++◌, length, map, get_or, refl, ap, ap₂, sym, ◌∙◌, subst, arith, append_assoc, cases_eq, eq-eqb, ne_eqb, append-nil, length-append, Some, ◌==◌, if◌then◌else◌, list_in_context, one_after_another, edge_swap, step_within, tail_used, head_used, used_below, Linked, links, round_linked, by_replacing, length-corners_from, first_corner, FaceList, IsFaceList, face_at, corners_from, next_corner, is_edge, apply, Leads, Homotopic, Replaces, place_of_move, IsWalk, Move, Insert, Remove, Across, corners_beyond, walked-round}
 use Rattle.std.proofs.Math.Bool.{not-not}
 use Rattle.surf_model.proofs.WayBackLemmas.{list_keeps_walk, list_keeps_ends}
 use Rattle.surf_model.specs.Rewriting.{all_raised}
 use Rattle.walk_actions.proofs.Actions.{moves_act, crosses_any}
-use Rattle.walk_actions.specs.Actions.{run, walked, beyond, Acts, RoundIsNothing, FacesActAsNothing}
+use Rattle.walk_actions.specs.Actions.{run, walked, vertices_beyond, Acts, RoundIsNothing, FacesActAsNothing}
 use Rattle.doubling.proofs.DoubleFaces.{IsRimQuad, kinds, length-mirror_face, mirror_next}
 use Rattle.doubling.proofs.RepeatLemmas.{fold_kept, fold_mirror, linked_repeats, linked_folds}
 use Rattle.doubling.proofs.FoldedSides.{FoldsToEdge, mirror_folds, edge_folds}
 
 -- ---- homotopic walks
 
-one_move : (mesh : FaceList) (move : Move) (part other : List ℕ) → 0 < length part → 0 ≡ place_of move → Replaces mesh move part other
+one_move : (mesh : FaceList) (move : Move) (part other : List ℕ) → 0 < length part → 0 ≡ place_of_move move → Replaces mesh move part other
     → Homotopic mesh part other
 one_move mesh move part other some place replaces =
     let e : apply mesh part move ≡ Some other = (by_replacing mesh part other move some).1 (record {
@@ -214,10 +214,10 @@ nothing_round mesh ring rising t l h = (
   λ walk at. (
       let F : ℕ → ℕ = fold mesh.count in
       let round : List ℕ = corners_from ring rising t (length ring) in
-      let steps : List ℕ = steps_behind (F (get_or ring t 0)) (map F (beyond ring rising t (length ring))) in
+      let steps : List ℕ = steps_behind (F (get_or ring t 0)) (map F (vertices_beyond ring rising t (length ring))) in
       let long : walked (step mesh) walk round ≡ at.0 ++ folded mesh.count round =
       walked-round (step mesh) walk ring rising t (length ring)
-      ∙ puts_fold mesh walk (get_or ring t 0) (beyond ring rising t (length ring))
+      ∙ puts_fold mesh walk (get_or ring t 0) (vertices_beyond ring rising t (length ring))
       ∙ ap (λ (l : List ℕ). l ++ steps) at.1
       ∙ append_assoc at.0 (F (get_or ring t 0) ∷ []) steps
       ∙ ap (λ (l : List ℕ). at.0 ++ folded mesh.count l) (sym (corners_beyond ring rising t (length ring))) in

@@ -1,5 +1,5 @@
 -- Lines of a file that are read one by one.
-use Rattle.file_pieces.proofs.Common.{IsOneLine, ReadsLine, IsOn, StandsBehind, Passes, Reading, Reads, left_of, SameLine, ShortText, Stands, ◌≡◌, ◌≢◌, ℕ, ◌+◌, ◌<◌, ◌≤◌, Bool, true, false, not, cond, List, [], ◌∷◌, ◌++◌, length, Option, Some, None, IfSome, refl, sym, ap, subst, ◌∙◌, arith, append_assoc, append-nil, and_parts, and_from, not-true, not_from_false, ne_eqb, list_all-append, list_all, slice_get, words_here-nil, behind-line_feed, behind-other, cut_first, lines_from_here, Line, is_filled, cut, unmarked, lines_from, is_line_feed, words_here, behind}
+use Rattle.file_pieces.proofs.Common.{IsOneLine, ReadsLine, IsOn, StandsBehind, PassesByte, Reading, Reads, bytes_left, SameLine, ShortText, Stands, ◌≡◌, ◌≢◌, ℕ, ◌+◌, ◌<◌, ◌≤◌, Bool, true, false, not, cond, List, [], ◌∷◌, ◌++◌, length, Option, Some, None, IfSome, refl, sym, ap, subst, ◌∙◌, arith, append_assoc, append-nil, and_parts, and_from, not-true, not_from_false, ne_eqb, list_all-append, list_all, slice_get, words_here-nil, behind-line_feed, behind-other, cut_first, lines_from_here, Line, is_filled, cut_lines, unmarked, lines_from, is_line_feed, words_here, behind}
 use Rattle.file_pieces.specs.declared.file_lines.Taken.{Taken}
 use Rattle.file_pieces.proofs.ReadingLemmas.{at_told}
 use Rattle.file_pieces.proofs.ShortLemmas.{words_here-cut, no_lines, none_behind}
@@ -16,7 +16,7 @@ puts_on first all old new number byte left other puts on =
       alone = list_all-append (λ b. not (is_line_feed b)) on.so_far (byte ∷ [])
           ∙ and_from _ _ on.alone (and_from _ _ (not_from_false (is_line_feed byte) (no_feed byte other)) refl);
       lines = on.lines ∙ ap (lines_from number) same;
-      count = on.count ∙ ap (λ t. number + length (cut t)) same;
+      count = on.count ∙ ap (λ t. number + length (cut_lines t)) same;
       later = on.later;
     }
   where
@@ -44,10 +44,10 @@ ends_text first all old number next found short left none reads on =
     let bytes : on.so_far ++ left ≡ on.so_far = ap (λ t. on.so_far ++ t) none ∙ append-nil on.so_far in
     let lines : lines_from first all ≡ lines_from number on.so_far = on.lines ∙ ap (lines_from number) bytes in
     subst (λ t. ReadsLine first all found short next t) (sym none)
-    (by_found found lines (on.count ∙ ap (λ t. number + length (cut t)) bytes) on.later (reads on.so_far on.stands on.alone))
+    (by_found found lines (on.count ∙ ap (λ t. number + length (cut_lines t)) bytes) on.later (reads on.so_far on.stands on.alone))
   where
     by_found : (found : Option ℕ) → lines_from first all ≡ lines_from number on.so_far
-        → first + length (cut all) ≡ number + length (cut on.so_far) → first ≤ number
+        → first + length (cut_lines all) ≡ number + length (cut_lines on.so_far) → first ≤ number
         → ReadsLine number on.so_far found short next [] → ReadsLine first all found short next []
     by_found None lines count later r =
         record { lines = lines ∙ r.lines; count = count ∙ r.count; later = omega (arith, later, r.later) }
@@ -66,14 +66,14 @@ behind_line (byte ∷ bytes) left alone =
     behind-other byte (bytes ++ 10 ∷ left) (not-true (is_line_feed byte) parts.0) ∙ behind_line bytes left parts.1
 
 -- lines are counted
-count_line : (bytes left : List ℕ) → IsOneLine bytes → length (cut (bytes ++ 10 ∷ left)) ≡ 1 + length (cut left)
+count_line : (bytes left : List ℕ) → IsOneLine bytes → length (cut_lines (bytes ++ 10 ∷ left)) ≡ 1 + length (cut_lines left)
 count_line [] left alone =
-    omega (arith, ap (λ (ls : List (List ℕ)). length ls) (cut_first 10 left), ap (λ t. length (cut t)) (behind_line [] left alone))
+    omega (arith, ap (λ (ls : List (List ℕ)). length ls) (cut_first 10 left), ap (λ t. length (cut_lines t)) (behind_line [] left alone))
 count_line (byte ∷ bytes) left alone =
     omega (
       arith,
       ap (λ (ls : List (List ℕ)). length ls) (cut_first byte (bytes ++ 10 ∷ left)),
-      ap (λ t. length (cut t)) (behind_line (byte ∷ bytes) left alone),
+      ap (λ t. length (cut_lines t)) (behind_line (byte ∷ bytes) left alone),
     )
 
 here : (number : ℕ) (bytes left : List ℕ) → IsOneLine bytes
@@ -104,14 +104,14 @@ last_line : (number : ℕ) (bytes : List ℕ) → IsOneLine bytes
 last_line number bytes alone = grind (arith, lines_from_here, none_behind, no_lines)
 
 -- a line without a line feed counts where it has a byte
-count_last : (bytes : List ℕ) → IsOneLine bytes → length (cut bytes) ≡ cond (is_filled bytes) 1 0
-unfolding cut
+count_last : (bytes : List ℕ) → IsOneLine bytes → length (cut_lines bytes) ≡ cond (is_filled bytes) 1 0
+unfolding cut_lines
 count_last [] alone = refl
 count_last (byte ∷ bytes) alone = grind (arith, cut_first, none_behind)
 
 count_end : (number next : ℕ) (bytes : List ℕ) (begun : Bool) → IsOneLine bytes → begun ≡ is_filled bytes → next ≡ number + cond begun 1 0
-    → number + length (cut bytes) ≡ next + length (cut [])
-unfolding cut
+    → number + length (cut_lines bytes) ≡ next + length (cut_lines [])
+unfolding cut_lines
 count_end number next bytes begun alone some is = grind (arith, count_last)
 
 -- a line with words has a byte
@@ -163,18 +163,18 @@ reads_on (Some f) now start mid next same first second = grind arith
 -- what was read of lines, as far as a state
 abbrev pub LinesTo : (start now : Reading) (old line : ShortText) (first_number number : ℕ) → List ℕ → Type 0
 LinesTo start now old line first_number number file = Reads start file → (first : ℕ) (all : List ℕ)
-    → IsOn first all old first_number (left_of start file) → IsOn first all line number (left_of now file)
+    → IsOn first all old first_number (bytes_left start file) → IsOn first all line number (bytes_left now file)
 
 -- a byte more
 pub takes_on : (file now : Option (List ℕ)) (start mid next : Reading) (old line new : ShortText) (a b c : ℕ) (taken as_told : Taken)
     → now ≡ file → as_told ≡ taken
     → IfSome file (λ f. Reads start f → Reads mid f) → IfSome file (LinesTo start mid old line a b)
-    → IfSome now (λ f. Reads mid f → (first : ℕ) (all : List ℕ) → IsOn first all line b (left_of mid f)
-    → StandsBehind as_told first all new c (left_of next f))
-    → IfSome file (λ f. Reads start f → (first : ℕ) (all : List ℕ) → IsOn first all old a (left_of start f)
-    → StandsBehind taken first all new c (left_of next f))
+    → IfSome now (λ f. Reads mid f → (first : ℕ) (all : List ℕ) → IsOn first all line b (bytes_left mid f)
+    → StandsBehind as_told first all new c (bytes_left next f))
+    → IfSome file (λ f. Reads start f → (first : ℕ) (all : List ℕ) → IsOn first all old a (bytes_left start f)
+    → StandsBehind taken first all new c (bytes_left next f))
 takes_on None now start mid next old line new a b c taken as_told same is reads so_far step = tt
-takes_on (Some f) now start mid next old line new a b c taken as_told same is reads so_far step = grind (arith, left_of)
+takes_on (Some f) now start mid next old line new a b c taken as_told same is reads so_far step = grind (arith, bytes_left)
 
 -- ---- texts with no mark, and one with it
 
@@ -205,15 +205,16 @@ pub no_mark_on : (file seen left : List ℕ) (line : ShortText) → unmarked fil
 no_mark_on file seen left line none parts stands alone = grind arith
 
 -- the first, the second or the third byte is another
-pub no_mark_first : (file left : List ℕ) (line : ShortText) → Passes false 239 file left → Stands line []
+pub no_mark_first : (file left : List ℕ) (line : ShortText) → PassesByte false 239 file left → Stands line []
     → IsOn 1 (unmarked file) line 1 left
 no_mark_first file left line passes stands = no_mark_on file [] left line (other_first file passes.1) (sym passes.0) stands refl
 
-pub no_mark_second : (file left last : List ℕ) (line : ShortText) → file ≡ 239 ∷ left → Passes false 187 left last
+pub no_mark_second : (file left last : List ℕ) (line : ShortText) → file ≡ 239 ∷ left → PassesByte false 187 left last
     → Stands line (239 ∷ []) → IsOn 1 (unmarked file) line 1 last
 no_mark_second file left last line parts passes stands = grind (arith, no_mark_on, other_second)
 
-pub no_mark_third : (file left more last : List ℕ) (line : ShortText) → file ≡ 239 ∷ left → left ≡ 187 ∷ more → Passes false 191 more last
+pub no_mark_third : (file left more last : List ℕ) (line : ShortText) → file ≡ 239 ∷ left → left ≡ 187 ∷ more
+    → PassesByte false 191 more last
     → Stands line (239 ∷ 187 ∷ []) → IsOn 1 (unmarked file) line 1 last
 no_mark_third file left more last line parts next passes stands = grind (arith, no_mark_on, other_third)
 
@@ -225,9 +226,9 @@ mark_passed file left more last line first second third stands = grind (arith, m
 -- what a call says of the next byte, where the file is told
 pub passes_told : (file : Option (List ℕ)) (old new : Reading) (passed as_told : Bool) (byte : ℕ) (f : List ℕ) → file ≡ Some f
     → as_told ≡ passed → IfSome file (λ g. Reads old g → Reads new g)
-    → IfSome file (λ g. Reads old g → Passes as_told byte (left_of old g) (left_of new g)) → Reads old f
-    → Reads new f × Passes passed byte (left_of old f) (left_of new f)
-passes_told file old new passed as_told byte f is same reads passes now = grind (arith, at_told, left_of)
+    → IfSome file (λ g. Reads old g → PassesByte as_told byte (bytes_left old g) (bytes_left new g)) → Reads old f
+    → Reads new f × PassesByte passed byte (bytes_left old f) (bytes_left new f)
+passes_told file old new passed as_told byte f is same reads passes now = grind (arith, at_told, bytes_left)
 
 -- what the line stands for then
 pub put_told : (passed as_told : Bool) (old new : ShortText) (byte : ℕ) (bytes : List ℕ) → as_told ≡ passed

@@ -1,5 +1,5 @@
 -- A line of which all bytes are kept, up to its line feed.
-use Rattle.file_pieces.proofs.Common.{LinesReading, IsOneLine, ReadsLine, Reading, Reads, left_of, read_so_far, ◌≡◌, ℕ, suc, ◌+◌, ◌-◌, ◌<◌, ◌≤◌, Bool, true, List, ◌∷◌, ◌++◌, length, take, drop, sym, ap, ap₂, subst, ◌∙◌, arith, append_assoc, drop-drop, slice_index, is_filled, words_here}
+use Rattle.file_pieces.proofs.Common.{LinesReading, IsOneLine, ReadsLine, Reading, Reads, bytes_left, read_so_far, ◌≡◌, ℕ, suc, ◌+◌, ◌-◌, ◌<◌, ◌≤◌, Bool, true, List, ◌∷◌, ◌++◌, length, take, drop, sym, ap, ap₂, subst, ◌∙◌, arith, append_assoc, drop-drop, slice_index, is_filled, words_here}
 use Rattle.std.proofs.Math.Nat.{min-le_left}
 use Rattle.std.proofs.Math.Seq.{drop-cons}
 use Rattle.std.proofs.lemmas.List.{length-drop, length-take, drop-take, take-append-drop}
@@ -47,8 +47,8 @@ pass_line-reads old new file len is within reads =
     let rest : length (drop (len + 1) old.kept) ≡ all - (len + 1) = length-drop (len + 1) old.kept in
     subst (λ (r : Reading). Reads r file) (sym is) (record {
       within = omega (arith, reads.within, within, rest);
-      kept = ap (drop (len + 1)) (reads.kept ∙ ap (λ n. take n (left_of old file)) more)
-          ∙ drop-take (len + 1) (all - (len + 1)) (left_of old file)
+      kept = ap (drop (len + 1)) (reads.kept ∙ ap (λ n. take n (bytes_left old file)) more)
+          ∙ drop-take (len + 1) (all - (len + 1)) (bytes_left old file)
           ∙ ap (take (all - (len + 1))) (drop-drop (len + 1) old.place file)
           ∙ ap (λ n. take n (drop (old.place + (len + 1)) file)) (sym rest);
       whole = λ ended. absurd (omega (arith, reads.within, reads.whole ended, within));
@@ -68,17 +68,17 @@ pub passes_line : (old new : LinesReading) (file : List ℕ) (len : ℕ)
     → new.reading ≡ record old.reading { place = old.reading.place + (len + 1); kept = drop (len + 1) old.reading.kept }
     → new.number ≡ old.number + 1 → len < length old.reading.kept → slice_index old.reading.kept len ≡ 10
     → IsOneLine (take len old.reading.kept) → is_filled (words_here (take len old.reading.kept)) ≡ true → Reads old.reading file
-    → ReadsLine old.number (left_of old.reading file) (Some old.number) (words_here (take len old.reading.kept)) new.number
-    (left_of new.reading file)
+    → ReadsLine old.number (bytes_left old.reading file) (Some old.number) (words_here (take len old.reading.kept)) new.number
+    (bytes_left new.reading file)
 passes_line old new file len is next within feed alone filled reads =
     let line : List ℕ = take len old.reading.kept in
     let others : List ℕ = drop (read_so_far old.reading) file in
-    let all : left_of old.reading file ≡ line ++ 10 ∷ (drop (len + 1) old.reading.kept ++ others) =
+    let all : bytes_left old.reading file ≡ line ++ 10 ∷ (drop (len + 1) old.reading.kept ++ others) =
     kept_and_others old.reading file reads ∙ ap (λ t. t ++ others) (parted old.reading.kept len within feed)
     ∙ append_assoc line (10 ∷ drop (len + 1) old.reading.kept) others in
     let so_far : read_so_far new.reading ≡ read_so_far old.reading =
     ap read_so_far is ∙ omega (arith, within, length-drop (len + 1) old.reading.kept) in
-    let behind_it : left_of new.reading file ≡ drop (len + 1) old.reading.kept ++ others =
+    let behind_it : bytes_left new.reading file ≡ drop (len + 1) old.reading.kept ++ others =
     kept_and_others new.reading file (pass_line-reads old.reading new.reading file len is within reads)
     ∙ ap (λ n. new.reading.kept ++ drop n file) so_far ∙ ap (λ (r : Reading). r.kept ++ others) is in
     rw (all, behind_it) (line_found old.number new.number line (drop (len + 1) old.reading.kept ++ others) (words_here line) alone

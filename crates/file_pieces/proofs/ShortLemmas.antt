@@ -1,5 +1,5 @@
 -- Short lines, byte by byte.
-use Rattle.file_pieces.proofs.Common.{SameLine, ShortText, text_before, Stands, IsShort, HasEnded, PutsByte, is_lean, ◌≡◌, ℕ, ◌+◌, ◌<◌, Bool, true, false, eqb, not, ◌&&◌, ◌||◌, List, [], ◌∷◌, ◌++◌, length, drop, refl, sym, ap, subst, ◌∙◌, arith, append_assoc, append-nil, length-append, and_parts, and_from, or_parts, not-true, not_from_false, both_ways, eqb-true, common_steps, list_all-append, list_all, before_first, bytes_eq, is_hash, words_here-nil, words_here-line_feed, words_here-hash, words_here-blank, words_here-word, behind-nil, behind-other, lines_from_here, is_filled, is_blank, words, cut, unmarked, lines_from, full_lines, is_digit, is_line_feed, words_here, behind}
+use Rattle.file_pieces.proofs.Common.{SameLine, ShortText, text_before, Stands, IsShortLine, HasEnded, PutsByte, is_lean, ◌≡◌, ℕ, ◌+◌, ◌<◌, Bool, true, false, eqb, not, ◌&&◌, ◌||◌, List, [], ◌∷◌, ◌++◌, length, drop, refl, sym, ap, subst, ◌∙◌, arith, append_assoc, append-nil, length-append, and_parts, and_from, or_parts, not-true, not_from_false, both_ways, eqb-true, common_steps, list_all-append, list_all, before_first, bytes_eq, is_hash, words_here-nil, words_here-line_feed, words_here-hash, words_here-blank, words_here-word, behind-nil, behind-other, lines_from_here, is_filled, is_blank, words, cut_lines, unmarked, lines_from, full_lines, is_digit, is_line_feed, words_here, behind}
 use Rattle.std.specs.Prelude.{cond}
 use Rattle.text_scan.proofs.ListLemmas.{before_first-append, before_first-yes, before_first-no, from_first-append, from_first-yes}
 use Rattle.text_scan.specs.Steps.{ends_word, begins_word, from_first}
@@ -102,9 +102,9 @@ blank_first [] more is = cc
 blank_first (byte ∷ done) more is = let first : byte ≡ 32 = cc in ap (λ b. b ∷ (done ++ more)) first
 
 pub starts_short : (done : List ℕ) (closed begun : Bool) → done ≡ 32 ∷ [] → closed ≡ false
-    → IsShort (record { done = done; word = []; closed = closed; begun = begun }) 0
+    → IsShortLine (record { done = done; word = []; closed = closed; begun = begun }) 0
 starts_short done closed begun is open_yet =
-    subst (λ d. IsShort (record { done = d; word = []; closed = closed; begun = begun }) 0) (sym is) (record {
+    subst (λ d. IsShortLine (record { done = d; word = []; closed = closed; begun = begun }) 0) (sym is) (record {
       first = refl;
       alone = refl;
       room = omega arith;
@@ -130,12 +130,13 @@ record Ends (line : ShortText) (done : List ℕ) : Type 0 where
   words : words_here done ≡ words_here line.done ++ line.word ∷ []
   closes : (after : List ℕ) → words_here (done ++ after) ≡ words_here done ++ words_here after
 
-pub word_ended : (line : ShortText) (count : ℕ) → IsShort line count → is_filled line.word ≡ true → (mark : ℕ) (after : List ℕ)
+pub word_ended : (line : ShortText) (count : ℕ) → IsShortLine line count → is_filled line.word ≡ true → (mark : ℕ) (after : List ℕ)
     → ends_word mark ≡ true
     → words_here (line.done ++ (line.word ++ mark ∷ after)) ≡ (words_here line.done ++ line.word ∷ []) ++ words_here (mark ∷ after)
 word_ended line count short some mark after ends = grind (arith, common_steps, word_ends, ends)
 
-ends : (line : ShortText) (count : ℕ) → IsShort line count → is_filled line.word ≡ true → Ends line ((line.done ++ line.word) ++ 32 ∷ [])
+ends : (line : ShortText) (count : ℕ) → IsShortLine line count → is_filled line.word ≡ true
+    → Ends line ((line.done ++ line.word) ++ 32 ∷ [])
 ends line count short some =
     let before : List (List ℕ) = words_here line.done ++ line.word ∷ [] in
     let parts : (after : List ℕ) → ((line.done ++ line.word) ++ 32 ∷ []) ++ after ≡ line.done ++ (line.word ++ 32 ∷ after) =
@@ -149,7 +150,7 @@ ends line count short some =
     record { words = alone; closes = λ after. behind_it after ∙ ap (λ ws. ws ++ words_here after) (sym alone) }
 
 -- the word has ended
-pub has_ended : (line : ShortText) (count : ℕ) (done : List ℕ) (closed : Bool) → IsShort line count → is_filled line.word ≡ true
+pub has_ended : (line : ShortText) (count : ℕ) (done : List ℕ) (closed : Bool) → IsShortLine line count → is_filled line.word ≡ true
     → done ≡ (line.done ++ line.word) ++ 32 ∷ [] → closed ≡ eqb (count + 1) 7
     → HasEnded line.done line.word (record { done = done; word = []; closed = closed; begun = line.begun })
 has_ended line count done closed short some is by_count =
@@ -166,9 +167,9 @@ has_ended line count done closed short some is by_count =
       );
     }
 
-pub short_ended : (line : ShortText) (count : ℕ) (done : List ℕ) (closed : Bool) → IsShort line count → line.closed ≡ false
+pub short_ended : (line : ShortText) (count : ℕ) (done : List ℕ) (closed : Bool) → IsShortLine line count → line.closed ≡ false
     → is_filled line.word ≡ true → done ≡ (line.done ++ line.word) ++ 32 ∷ [] → closed ≡ eqb (count + 1) 7
-    → IsShort (record { done = done; word = []; closed = closed; begun = line.begun }) (count + 1)
+    → IsShortLine (record { done = done; word = []; closed = closed; begun = line.begun }) (count + 1)
 short_ended line count done closed short going some is by_count =
     let left : Ends line done = subst (Ends line) (sym is) (ends line count short some) in
     let below : count < 7 = short.going_on going in
@@ -204,7 +205,7 @@ short_ended line count done closed short going some is by_count =
     fewer e = omega (arith, short.going_on going, ne_of_eqb (count + 1) 7 e)
 
 -- nothing has ended where no word has begun
-pub none_ended : (line : ShortText) (count : ℕ) → IsShort line count → line.closed ≡ false → length line.word ≡ 0
+pub none_ended : (line : ShortText) (count : ℕ) → IsShortLine line count → line.closed ≡ false → length line.word ≡ 0
     → HasEnded line.done line.word line
 none_ended line count short going none = record {
   ended = λ mark after e. ap (λ w. words_here (line.done ++ (w ++ mark ∷ after))) (empty line.word none) ∙ short.closes (mark ∷ after);
@@ -314,7 +315,7 @@ none_behind (byte ∷ line) alone =
     behind-other byte line (not-true (is_line_feed byte) parts.0) ∙ none_behind line parts.1
 
 pub no_lines : (n : ℕ) → lines_from n [] ≡ []
-unfolding lines_from cut
+unfolding lines_from cut_lines
 no_lines n = refl
 
 no_mark : (done : List ℕ) → done ≡ 32 ∷ drop 1 done → unmarked done ≡ done
@@ -322,7 +323,7 @@ unfolding unmarked
 no_mark [] is = cc
 no_mark (byte ∷ done) is = let first : byte ≡ 32 = cc in subst (λ b. unmarked (b ∷ done) ≡ b ∷ done) (sym first) refl
 
-pub own_line : (line : ShortText) (count : ℕ) → IsShort line count
+pub own_line : (line : ShortText) (count : ℕ) → IsShortLine line count
     → full_lines line.done
     ≡ cond (is_filled (words_here line.done)) (record { number = 1; words = words_here line.done } ∷ []) []
 own_line line count short = grind (arith, no_mark, lines_from_here, none_behind, no_lines)

@@ -1,7 +1,7 @@
 -- The lines of a file that is read in pieces.
 use Rattle.std.specs.Prelude.{◌≡◌, ◌≢◌, slice_get, false, ◌⊎◌, ℕ, ◌+◌, ◌<◌, ◌≤◌, Bool, if◌then◌else◌, not, true, List, [], ◌∷◌, ◌++◌, length, Option, Some, None, MatchOption}
 use Rattle.std.specs.List.{list_all}
-use Rattle.text_scan.specs.Lines.{Line, is_filled, cut, lines_from}
+use Rattle.text_scan.specs.Lines.{Line, is_filled, cut_lines, lines_from}
 use Rattle.text_scan.specs.Unread.{is_line_feed, words_here}
 use Rattle.file_pieces.specs.Reading.{Reading}
 use Rattle.file_pieces.specs.declared.file_lines.Taken.{Taken}
@@ -29,7 +29,7 @@ pub record IsFirstLine (lines : List Line) (number : ℕ) (short : List (List �
 pub record ReadsLine (number : ℕ) (bytes : List ℕ) (found : Option ℕ) (short : List (List ℕ)) (next : ℕ) (left : List ℕ) : Type 0 where
   pub lines : MatchOption found (lines_from number bytes ≡ lines_from next left)
       (λ n. IsFirstLine (lines_from number bytes) n short (lines_from next left))
-  pub count : number + length (cut bytes) ≡ next + length (cut left)
+  pub count : number + length (cut_lines bytes) ≡ next + length (cut_lines left)
   pub later : MatchOption found (number ≤ next) (λ n. number < next)
 
 -- Of these bytes, whose first line has the number `first`, blank lines were read, and the short line stands for what was read of the
@@ -39,7 +39,7 @@ pub record IsOn (first : ℕ) (all : List ℕ) (line : ShortText) (number : ℕ)
   pub stands : Stands line so_far
   pub alone : IsOneLine so_far
   pub lines : lines_from first all ≡ lines_from number (so_far ++ left)
-  pub count : first + length (cut all) ≡ number + length (cut (so_far ++ left))
+  pub count : first + length (cut_lines all) ≡ number + length (cut_lines (so_far ++ left))
   pub later : first ≤ number
 
 -- where the reading stands behind a byte: in a line, behind a line with words, or at the end
@@ -65,6 +65,6 @@ IsNumbered Open number begun place = number + (if begun then 1 else 0) ≤ place
 IsNumbered other number begun place = number ≤ place + 1
 
 -- the byte is the first of these bytes, and those are behind it; or it is not, and all are left
-abbrev pub Passes : Bool → ℕ → List ℕ → List ℕ → Type 0
-Passes true byte bytes left = bytes ≡ byte ∷ left
-Passes false byte bytes left = (left ≡ bytes) × (slice_get bytes 0 ≢ Some byte)
+abbrev pub PassesByte : Bool → ℕ → List ℕ → List ℕ → Type 0
+PassesByte true byte bytes left = bytes ≡ byte ∷ left
+PassesByte false byte bytes left = (left ≡ bytes) × (slice_get bytes 0 ≢ Some byte)

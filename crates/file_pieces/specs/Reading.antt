@@ -14,11 +14,11 @@ abbrev pub read_so_far : Reading → ℕ
 read_so_far reading = reading.place + length reading.kept
 
 -- the file's bytes that were not looked at yet
-abbrev pub left_of : Reading → List ℕ → List ℕ
-left_of reading file = drop reading.place file
+abbrev pub bytes_left : Reading → List ℕ → List ℕ
+bytes_left reading file = drop reading.place file
 
 -- It is this file that is read: what is kept are its bytes from the place on, and where the reading has ended they are all.
 pub record Reads (reading : Reading) (file : List ℕ) : Type 0 where
   pub within : read_so_far reading ≤ length file
-  pub kept : reading.kept ≡ take (length reading.kept) (left_of reading file)
+  pub kept : reading.kept ≡ take (length reading.kept) (bytes_left reading file)
   pub whole : reading.ended ≡ true → length file ≤ reading.place

@@ -32,7 +32,7 @@ is_lean (first ∷ []) = true
 is_lean (first ∷ second ∷ others) = not (first == 48 && is_digit second)
 
 -- what holds of every short line, of whose words so many have ended
-pub record IsShort (line : ShortText) (words : ℕ) : Type 0 where
+pub record IsShortLine (line : ShortText) (words : ℕ) : Type 0 where
   pub first : line.done ≡ 32 ∷ drop 1 line.done
   pub alone : list_all (λ byte. not (is_line_feed byte)) line.done ≡ true
   pub room : length line.done ≤ 1 + (MOST_BYTES + 1) * words

@@ -5,9 +5,9 @@ ghost use Rattle.surf_io.specs.Faults.{Rose};
 ghost use Rattle.surf_io.specs.Files.{file_of};
 ghost use Rattle.text_scan.specs.Lines.{is_filled, unmarked};
 ghost use Rattle.text_scan.specs.Unread.{words_here};
-ghost use Rattle.file_pieces.specs.Reading.{Reading, Reads, left_of, read_so_far};
+ghost use Rattle.file_pieces.specs.Reading.{Reading, Reads, bytes_left, read_so_far};
 ghost use Rattle.file_pieces.specs.ShortLines.{Stands};
-ghost use Rattle.file_pieces.specs.FileLines.{IsOneLine, ReadsLine, IsOn, StandsBehind, HasLine, TakesPlace, IsNumbered, Passes};
+ghost use Rattle.file_pieces.specs.FileLines.{IsOneLine, ReadsLine, IsOn, StandsBehind, HasLine, TakesPlace, IsNumbered, PassesByte};
 
 use crate::fault::{GatherFault, PieceFault};
 use crate::pieces::Pieces;
@@ -76,8 +76,8 @@ impl FileLines {
         ensures reads { IfOk result (λ _. IfSome (file_of (S.held shelf.old) name.now)
             (λ file. Reads self.old.reading file → Reads self.new.reading file)) }
         ensures line { IfOk result (λ found. IfSome (file_of (S.held shelf.old) name.now) (λ file. Reads self.old.reading file →
-            ReadsLine 1 (unmarked file) found (words_here line.new.done) self.new.number (left_of self.new.reading file)
-            × IfNone found (left_of self.new.reading file ≡ []))) }
+            ReadsLine 1 (unmarked file) found (words_here line.new.done) self.new.number (bytes_left self.new.reading file)
+            × IfNone found (bytes_left self.new.reading file ≡ []))) }
         ensures filled { IfOk result (λ found. OnSome found (is_filled (words_here line.new.done) ≡ true)) }
         ensures failed { result ≡ Err PieceFault.Failed → Rose (S.faults shelf.old) (S.faults shelf.new) }
         ensures too_large { result ≡ Err PieceFault.TooLarge → IfSome (file_of (S.held shelf.old) name.now)
@@ -101,8 +101,8 @@ impl FileLines {
         ensures reads { IfOk result (λ _. IfSome (file_of (S.held shelf.old) name.now)
             (λ file. Reads self.old.reading file → Reads self.new.reading file)) }
         ensures line { IfOk result (λ found. IfSome (file_of (S.held shelf.old) name.now) (λ file. Reads self.old.reading file →
-            ReadsLine self.old.number (left_of self.old.reading file) found (words_here line.new.done) self.new.number
-            (left_of self.new.reading file) × IfNone found (left_of self.new.reading file ≡ []))) }
+            ReadsLine self.old.number (bytes_left self.old.reading file) found (words_here line.new.done) self.new.number
+            (bytes_left self.new.reading file) × IfNone found (bytes_left self.new.reading file ≡ []))) }
         ensures filled { IfOk result (λ found. OnSome found (is_filled (words_here line.new.done) ≡ true)) }
         // Unless the file's end was met, nothing is read while a byte is kept.
         ensures lazy { IfOk result (λ found. self.new.reading.ended ≡ false → self.new.reading.place ≤ read_so_far self.old.reading
@@ -134,8 +134,9 @@ impl FileLines {
         requires filled { is_filled (words_here (take len self.old.reading.kept)) ≡ true }
         ensures reads { (file : List ℕ) → Reads self.old.reading file → Reads self.new.reading file }
         ensures line { (file : List ℕ) → Reads self.old.reading file →
-            ReadsLine self.old.number (left_of self.old.reading file) (Some self.old.number) (words_here (take len self.old.reading.kept))
-            self.new.number (left_of self.new.reading file) }
+            ReadsLine self.old.number (bytes_left self.old.reading file) (Some self.old.number)
+            (words_here (take len self.old.reading.kept))
+            self.new.number (bytes_left self.new.reading file) }
         ensures limit { self.new.reading.limit ≡ self.old.reading.limit }
     {
         let _ = self.pieces.place();
@@ -167,7 +168,7 @@ impl FileLines {
         into: &mut Vec<u8>,
     ) -> Result<(), GatherFault>
         ensures file { OnOk result (IfSome (file_of (S.held shelf.old) name.now) (λ file. Reads self.old.reading file →
-            Reads self.new.reading file × (into.new.items ≡ into.old.items ++ left_of self.old.reading file))) }
+            Reads self.new.reading file × (into.new.items ≡ into.old.items ++ bytes_left self.old.reading file))) }
         ensures ended { OnOk result ((self.new.reading.ended ≡ true) × (self.new.reading.kept ≡ [])) }
         ensures count { OnOk result (self.old.reading.place + length into.new.items ≡ self.new.reading.place + length into.old.items) }
         ensures failed { result ≡ Err (GatherFault.Piece PieceFault.Failed) → Rose (S.faults shelf.old) (S.faults shelf.new) }
@@ -193,7 +194,7 @@ fn pass_mark<S: Shelf>(
     requires line { Stands line.old [] }
     ensures reads { OnOk result (IfSome (file_of (S.held shelf.old) name.now) (λ file. Reads pieces.old file → Reads pieces.new file)) }
     ensures line { OnOk result (IfSome (file_of (S.held shelf.old) name.now) (λ file. Reads pieces.old file →
-        IsOn 1 (unmarked file) line.new 1 (left_of pieces.new file))) }
+        IsOn 1 (unmarked file) line.new 1 (bytes_left pieces.new file))) }
     ensures begun { OnOk result ((if line.new.begun then 1 else 0) ≤ pieces.new.place) }
     ensures failed { result ≡ Err PieceFault.Failed → Rose (S.faults shelf.old) (S.faults shelf.new) }
     ensures too_large { result ≡ Err PieceFault.TooLarge → IfSome (file_of (S.held shelf.old) name.now)
@@ -225,7 +226,7 @@ fn pass_byte<S: Shelf>(
     requires { byte ≢ 10 }
     ensures reads { OnOk result (IfSome (file_of (S.held shelf.old) name.now) (λ file. Reads pieces.old file → Reads pieces.new file)) }
     ensures passed { IfOk result (λ passed. IfSome (file_of (S.held shelf.old) name.now) (λ file. Reads pieces.old file →
-        Passes passed byte (left_of pieces.old file) (left_of pieces.new file))) }
+        PassesByte passed byte (bytes_left pieces.old file) (bytes_left pieces.new file))) }
     ensures line { IfOk result (λ passed. (bytes : List ℕ) → Stands line.old bytes
         → Stands line.new (if passed then bytes ++ byte ∷ [] else bytes)) }
     ensures place { IfOk result (λ passed. (if passed then 1 else 0) ≤ pieces.new.place) }
@@ -268,9 +269,9 @@ fn read_line<S: Shelf>(
     ensures reads { IfOk result (λ _. IfSome (file_of (S.held shelf.old) name.now)
         (λ file. Reads pieces.old file → Reads pieces.new file)) }
     ensures line { IfOk result (λ found. IfSome (file_of (S.held shelf.old) name.now) (λ file. Reads pieces.old file →
-        (first : ℕ) (all : List ℕ) → IsOn first all line.old number.old (left_of pieces.old file)
-        → ReadsLine first all found (words_here line.new.done) number.new (left_of pieces.new file)
-        × IfNone found (left_of pieces.new file ≡ []))) }
+        (first : ℕ) (all : List ℕ) → IsOn first all line.old number.old (bytes_left pieces.old file)
+        → ReadsLine first all found (words_here line.new.done) number.new (bytes_left pieces.new file)
+        × IfNone found (bytes_left pieces.new file ≡ []))) }
     ensures filled { IfOk result (λ found. OnSome found (is_filled (words_here line.new.done) ≡ true)) }
     ensures numbered { number.new ≤ pieces.new.place + 1 }
     ensures later { number.old ≤ number.new }
@@ -304,8 +305,8 @@ fn take_byte<S: Shelf>(
     ensures reads { IfOk result (λ _. IfSome (file_of (S.held shelf.old) name.now)
         (λ file. Reads pieces.old file → Reads pieces.new file)) }
     ensures line { IfOk result (λ taken. IfSome (file_of (S.held shelf.old) name.now) (λ file. Reads pieces.old file →
-        (first : ℕ) (all : List ℕ) → IsOn first all line.old number.old (left_of pieces.old file)
-        → StandsBehind taken first all line.new number.new (left_of pieces.new file))) }
+        (first : ℕ) (all : List ℕ) → IsOn first all line.old number.old (bytes_left pieces.old file)
+        → StandsBehind taken first all line.new number.new (bytes_left pieces.new file))) }
     ensures filled { IfOk result (λ taken. HasLine taken (words_here line.new.done)) }
     ensures numbered { IfOk result (λ taken. IsNumbered taken number.new line.new.begun pieces.new.place) }
     ensures failing { OnErr result ((number.new ≡ number.old) × (pieces.old.place ≤ pieces.new.place)) }

@@ -47,7 +47,7 @@ impl Model for Pieces {
 }
 
 impl Pieces {
-    ghost use Rattle.file_pieces.specs.Reading.{Reading, Reads, left_of, read_so_far};
+    ghost use Rattle.file_pieces.specs.Reading.{Reading, Reads, bytes_left, read_so_far};
 
     /// A place before the first byte of a file of at most `limit` bytes.
     pub fn new(alloc: Global, limit: u64) -> Result<Pieces, AllocError>
@@ -80,7 +80,8 @@ impl Pieces {
     #[inline(always)]
     pub fn next<S: Shelf>(&mut self, shelf: &mut S, name: &str) -> Result<Option<u8>, PieceFault>
         ensures byte { IfOk result (λ byte. IfSome (file_of (S.held shelf.old) name.now) (λ file. Reads self.old file →
-            Reads self.new file × MatchOption byte (left_of self.old file ≡ []) (λ b. left_of self.old file ≡ b ∷ left_of self.new file))) }
+            Reads self.new file × MatchOption byte (bytes_left self.old file ≡ [])
+            (λ b. bytes_left self.old file ≡ b ∷ bytes_left self.new file))) }
         ensures place { IfOk result (λ byte. MatchOption byte
             ((self.new.place ≡ self.old.place) × (self.new.kept ≡ []) × (self.new.ended ≡ true))
             (λ _. self.new.place ≡ self.old.place + 1)) }
@@ -103,7 +104,7 @@ impl Pieces {
     /// The next byte, which stays to be looked at. `None` at the end of the file.
     pub fn peek<S: Shelf>(&mut self, shelf: &mut S, name: &str) -> Result<Option<u8>, PieceFault>
         ensures byte { IfOk result (λ byte. IfSome (file_of (S.held shelf.old) name.now) (λ file. Reads self.old file →
-            Reads self.new file × (byte ≡ slice_get (left_of self.old file) 0))) }
+            Reads self.new file × (byte ≡ slice_get (bytes_left self.old file) 0))) }
         ensures kept { IfOk result (λ byte. byte ≡ slice_get self.new.kept 0) }
         ensures place { self.new.place ≡ self.old.place }
         // Nothing is read while a byte is kept.
@@ -146,7 +147,7 @@ impl Pieces {
         into: &mut Vec<u8>,
     ) -> Result<(), GatherFault>
         ensures file { OnOk result (IfSome (file_of (S.held shelf.old) name.now) (λ file. Reads self.old file →
-            Reads self.new file × (into.new.items ≡ into.old.items ++ left_of self.old file))) }
+            Reads self.new file × (into.new.items ≡ into.old.items ++ bytes_left self.old file))) }
         ensures ended { OnOk result ((self.new.ended ≡ true) × (self.new.kept ≡ [])) }
         ensures count { OnOk result (self.old.place + length into.new.items ≡ self.new.place + length into.old.items) }
         ensures later { self.old.place ≤ self.new.place }

@@ -38,14 +38,14 @@ pub struct ShortLine {
 }
 
 impl Model for ShortLine {
-    ghost use Rattle.file_pieces.specs.ShortLines.{ShortText, IsShort};
+    ghost use Rattle.file_pieces.specs.ShortLines.{ShortText, IsShortLine};
 
     ghost Value = { ShortText };
 
     ghost view = { λ a. record { done = a.done.items; word = a.word.items; closed = a.closed; begun = a.begun } };
 
     ghost invariant = { λ a.
-        IsShort (record { done = a.done.items; word = a.word.items; closed = a.closed; begun = a.begun }) a.words };
+        IsShortLine (record { done = a.done.items; word = a.word.items; closed = a.closed; begun = a.begun }) a.words };
 }
 
 impl ShortLine {

@@ -3,7 +3,7 @@ use Rattle.std.proofs.Common.{◌≡◌, ℕ, arith, refl, ◌∙◌, ap, ap₂,
 use Rattle.std.proofs.lemmas.Int.{ints}
 use Rattle.turn_words.specs.FormLaws.{led}
 use Rattle.flat_forms.specs.Vectors.{Vector, origin, plus, less, unit_step}
-use Rattle.flat_forms.specs.FlatStates.{IsEven, flat_next}
+use Rattle.flat_forms.specs.FlatStates.{IsEvenPoint, flat_next}
 use Rattle.flat_forms.specs.Pairs.{spokes_of, sum_of_pairs}
 use Rattle.flat_forms.specs.Lemmas.StepsInThePlane.{next-next, vertex-again}
 
@@ -20,7 +20,7 @@ plus-origin s = ap₂ vector (omega (arith, ints)) (omega (arith, ints))
 origin-plus : (s : Vector) → plus origin s ≡ s
 origin-plus s = ap₂ vector (omega (arith, ints)) (omega (arith, ints))
 
-pub leads-by : (places : List ℕ) (s : Vector) (pairs : List (ℕ × ℕ)) → IsEven s
+pub leads-by : (places : List ℕ) (s : Vector) (pairs : List (ℕ × ℕ)) → IsEvenPoint s
     → led flat_next places s (spokes_of pairs) ≡ plus s (sum_of_pairs pairs)
 leads-by places s [] even = plus-origin s
 leads-by places s (pair ∷ pairs) even =

@@ -13,12 +13,12 @@ abbrev pub end_of : List ℕ → Vector
 end_of spokes = led flat_next (0 ∷ 1 ∷ 2 ∷ 3 ∷ []) origin spokes
 
 -- the walk 0 1 2 0
-pub one_loop : end_of (3 ∷ 0 ∷ []) ≡ vector (negsuc 0) (negsuc 0)
-one_loop = refl
+pub one_loop_in_the_plane : end_of (3 ∷ 0 ∷ []) ≡ vector (negsuc 0) (negsuc 0)
+one_loop_in_the_plane = refl
 
 -- the walk 0 2 4 0
-pub another_loop : end_of (0 ∷ 2 ∷ []) ≡ vector (pos 2) (pos 0)
-another_loop = refl
+pub another_loop_in_the_plane : end_of (0 ∷ 2 ∷ []) ≡ vector (pos 2) (pos 0)
+another_loop_in_the_plane = refl
 
 -- the walk 0 1 2 3 4 5 6 0
 pub through_all_vertices : end_of (3 ∷ 0 ∷ 0 ∷ 1 ∷ 2 ∷ 1 ∷ []) ≡ vector (negsuc 0) (negsuc 2)
@@ -32,8 +32,8 @@ the_sum = refl
 pub to_a_middle : end_of (1 ∷ []) ≡ vector (pos 0) (pos 1)
 to_a_middle = refl
 
-pub there_and_back : end_of (1 ∷ 1 ∷ []) ≡ origin
-there_and_back = refl
+pub there_and_back_in_the_plane : end_of (1 ∷ 1 ∷ []) ≡ origin
+there_and_back_in_the_plane = refl
 
 -- the two sides of the quad on the spokes 0 and 2
 pub one_side : end_of (0 ∷ 1 ∷ []) ≡ vector (pos 1) (negsuc 0)

@@ -10,8 +10,8 @@ abbrev pub parity : Vector → ℕ
 parity state = unsigned_abs (state.x +ℤ state.y) % 2
 
 -- the path stands at the vertex
-abbrev pub IsEven : Vector → Type 0
-IsEven state = parity state ≡ 0
+abbrev pub IsEvenPoint : Vector → Type 0
+IsEvenPoint state = parity state ≡ 0
 
 -- where a spoke leads: its step is added at the vertex, and taken away in the middle
 abbrev pub flat_next : List ℕ → Vector → ℕ → Vector

@@ -1,7 +1,7 @@
 //! The form for the degree 4.
 ghost use Rattle.std.specs.Prelude.{◌≡◌, ◌<◌, ◌^◌, ◌↔◌, length, IsTrue, IsOk};
 ghost use Rattle.flat_forms.specs.Vectors.{origin, unit_step};
-ghost use Rattle.flat_forms.specs.FlatStates.{IsEven, IsFlatWheel, flat_next, size_of};
+ghost use Rattle.flat_forms.specs.FlatStates.{IsEvenPoint, IsFlatWheel, flat_next, size_of};
 
 use std::alloc::AllocError;
 use std::marker::Model;
@@ -48,7 +48,7 @@ impl Flat {
     /// Tells whether the walk stands at the vertex, and not in the middle of the polygon.
     fn is_at_vertex(&self) -> bool
         requires { size_of self.now < 2 ^ 62 }
-        ensures { IsTrue result ↔ IsEven self.now }
+        ensures { IsTrue result ↔ IsEvenPoint self.now }
     {
         (self.x + self.y).unsigned_abs() % 2 == 0
     }
@@ -57,7 +57,7 @@ impl Flat {
 impl Form for Flat {
     ghost use Rattle.std.specs.Prelude.{◌≡◌, ◌^◌, []};
     ghost use Rattle.flat_forms.specs.Vectors.{Vector, origin};
-    ghost use Rattle.flat_forms.specs.FlatStates.{IsEven, IsFlatWheel, flat_next, size_of};
+    ghost use Rattle.flat_forms.specs.FlatStates.{IsEvenPoint, IsFlatWheel, flat_next, size_of};
     ghost use Rattle.flat_forms.specs.Lemmas.FlatLaws.{flat_starts, flat_stays, flat_there_and_back, flat_across};
 
     ghost State = { Vector };
@@ -70,7 +70,7 @@ impl Form for Flat {
 
     ghost Belongs = { λ places _. IsFlatWheel places };
 
-    ghost IsAtVertex = { IsEven };
+    ghost IsAtVertex = { IsEvenPoint };
 
     ghost size = { size_of };
 

@@ -16,7 +16,7 @@ use Rattle.homology.specs.ArrayCertificates.{AreChainNumbers, AreCocycleNumbers,
 use Rattle.homology.specs.Chains.{boundary}
 use Rattle.homology.specs.Cocycles.{dart_number}
 use Rattle.homology.specs.Sums.{along, round, share, total}
-use Rattle.homology.specs.Tallies.{AreWithin, number_at}
+use Rattle.homology.specs.Tallies.{AreNumbersWithin, number_at}
 use Rattle.homology.specs.declared.certificate.TheConstants.{MOST_NUMBER}
 use Rattle.homology.proofs.SizeLemmas.{sent, size-opposite, size-sum}
 use Rattle.doubling.specs.Doubles.{double_of, mirror_face, rim_quads}
@@ -67,7 +67,7 @@ left_over a b h l =
 
 -- one face more is folded
 pub folded_more : (n f : ℕ) (first old : List ℤ) (a b : ℤ) → length old ≡ length first → n + n ≤ length first → f < n
-    → AreWithin MOST_NUMBER first
+    → AreNumbersWithin MOST_NUMBER first
     → ((k : ℕ) → k < f → number_at old k ≡ number_at first k +ℤ neg_ℤ (number_at first (n + k)))
     → ((k : ℕ) → f ≤ k → number_at old k ≡ number_at first k) → a ≡ get_or old f a → b ≡ get_or old (n + f) b
     → (length (set old f (to_z w64 (of_z w64 (to_z w64 (of_z w64 a) -ℤ to_z w64 (of_z w64 b))))) ≡ length first)

@@ -3,7 +3,7 @@ ghost use Rattle.std.specs.Prelude.{◌≡◌, ◌+◌, ◌<◌, ◌≤◌, ◌+
 ghost use Rattle.surf_model.specs.Walks.{IsWalk};
 ghost use Rattle.homology.specs.ArrayCertificates.{AreSmall, DoShow};
 ghost use Rattle.folded_homology.specs.FoldedNumbers.{AreFolded};
-ghost use Rattle.homology.specs.Tallies.{AreWithin, number_at};
+ghost use Rattle.homology.specs.Tallies.{AreNumbersWithin, number_at};
 ghost use Rattle.homology.specs.declared.certificate.TheConstants.{MOST_NUMBER};
 ghost use Rattle.doubling.specs.Doubles.{double_of};
 
@@ -33,9 +33,9 @@ pub fn fold(numbers: HomologyNumbers, faces: &Faces) -> HomologyNumbers
 /// For each of the first so many faces its number less that of its mirror, which stands so many places behind it.
 fn fold_chain(mut of_face: Vec<i64>, faces: usize) -> Vec<i64>
     requires mirrors { faces + faces ≤ length of_face.items }
-    requires small { AreWithin MOST_NUMBER of_face.items }
+    requires small { AreNumbersWithin MOST_NUMBER of_face.items }
     ensures count { length result.items ≡ faces }
-    ensures size { AreWithin (MOST_NUMBER + MOST_NUMBER) result.items }
+    ensures size { AreNumbersWithin (MOST_NUMBER + MOST_NUMBER) result.items }
     ensures numbers { (f : ℕ) → f < faces → number_at result.items f
         ≡ number_at of_face.items f +ℤ neg_ℤ (number_at of_face.items (faces + f)) }
 {

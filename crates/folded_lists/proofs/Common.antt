@@ -5,7 +5,7 @@ pub use Rattle.doubling.proofs.DoubleFaces.{IsRimQuad, double_size, kept_face, l
 pub use Rattle.doubling.proofs.FoldedMoves.{mirror_round, walk_folds}
 pub use Rattle.doubling.specs.Doubles.{double_of, mirror_face, rim_quad, rim_quads}
 pub use Rattle.doubling.specs.Folds.{fold, folded, steps_behind, without_repeats}
-pub use Rattle.folded_lists.specs.FoldedLists.{IsAllowedAt, IsEntry, IsMoveBelow, IsWithinPeak, LeadsFolded, along_edge}
+pub use Rattle.folded_lists.specs.FoldedLists.{IsAllowedAt, IsFoldedEntry, IsMoveBelow, LeadsFolded, StaysWithinPeak, along_edge}
 pub use Rattle.std.proofs.Common.{Bool, List, ap, append_assoc, arith, drop, false, get_or, inl, inr, length, map, max, not, refl, subst, suc, sym, take, true, zero, ℕ, [], ◌++◌, ◌+◌, ◌-◌, ◌<◌, ◌∙◌, ◌∷◌, ◌≡◌, ◌≢◌, ◌≤◌, ◌⊎◌}
 pub use Rattle.std.proofs.lemmas.Bool.{cases_eq, eq-eqb, ne_eqb}
 pub use Rattle.std.proofs.lemmas.List.{drop_all, drop_more, get_or-append-add, get_or-map, length-append, length-map, length-take, map-append, take_all, take_at, take_more}
@@ -16,7 +16,7 @@ pub use Rattle.surf_model.proofs.ReplacementLemmas.{by_replacing, length-corners
 pub use Rattle.surf_model.specs.FaceLists.{FaceList, IsFaceList, corners_from, face_at, is_edge, next_corner}
 pub use Rattle.surf_model.specs.Moves.{PeakedMoves, apply, apply_all, greatest_darts}
 pub use Rattle.surf_model.specs.PeakedLists.{LeadsAtPeak}
-pub use Rattle.surf_model.specs.Replacements.{IsReplacement, Replaces, place_of}
+pub use Rattle.surf_model.specs.Replacements.{IsReplacement, Replaces, place_of_move}
 pub use Rattle.surf_model.specs.Walks.{IsWalk, darts}
 pub use Rattle.surf_model.specs.declared.moves.Move.{Move}
 pub use Rattle.surf_model.specs.declared.moves.Move.TheVariants.{Across, Insert, Remove}

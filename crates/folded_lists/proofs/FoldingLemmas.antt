@@ -1,5 +1,5 @@
 -- A list of moves on the double, folded move by move.
-use Rattle.folded_lists.proofs.Common.{greatest_darts-more, greatest_darts-first, leads_nowhere, one_more, walk_folds, double_of, folded, IsMoveBelow, IsAllowedAt, IsEntry, IsWithinPeak, LeadsFolded, ◌≡◌, ℕ, ◌+◌, ◌<◌, ◌≤◌, max, List, [], ◌∷◌, ◌++◌, length, get_or, take, refl, ap, sym, ◌∙◌, subst, arith, drop, length-append, drop_all, drop_more, Some, MatchOption, Option, None, first_answer, stays_walk, FaceList, IsFaceList, PeakedMoves, apply, apply_all, greatest_darts, LeadsAtPeak, Replaces, place_of, IsWalk, darts, Move}
+use Rattle.folded_lists.proofs.Common.{greatest_darts-more, greatest_darts-first, leads_nowhere, one_more, walk_folds, double_of, folded, IsMoveBelow, IsAllowedAt, IsFoldedEntry, StaysWithinPeak, LeadsFolded, ◌≡◌, ℕ, ◌+◌, ◌<◌, ◌≤◌, max, List, [], ◌∷◌, ◌++◌, length, get_or, take, refl, ap, sym, ◌∙◌, subst, arith, drop, length-append, drop_all, drop_more, Some, MatchOption, Option, None, first_answer, stays_walk, FaceList, IsFaceList, PeakedMoves, apply, apply_all, greatest_darts, LeadsAtPeak, Replaces, place_of_move, IsWalk, darts, Move}
 use Rattle.folded_lists.proofs.FoldedParts.{length-folded}
 use Rattle.folded_lists.proofs.PartedMoves.{IsParted, entry_of, fold_goes, fold_stays, front_of, parted_by}
 
@@ -85,16 +85,16 @@ module _ (double : FaceList) (first : List ℕ) (list : PeakedMoves) (k : ℕ) (
         greatest_darts-first double next (drop (k + 1) list.moves),
       )
 
-  pub is_allowed : (peak : ℕ) → peak ≡ list.peak → IsWithinPeak double peak walk move
+  pub is_allowed : (peak : ℕ) → peak ≡ list.peak → StaysWithinPeak double peak walk move
   is_allowed peak is = record { next = told.0; leads = told.1; within = omega (arith, is, few_darts told.0 told.1) }
 
-pub first_entry : (count : ℕ) (walk : List ℕ) → 0 < length walk → IsEntry count walk 0 0
+pub first_entry : (count : ℕ) (walk : List ℕ) → 0 < length walk → IsFoldedEntry count walk 0 0
 first_entry count [] some = absurd (omega arith)
 first_entry count (x ∷ xs) some = record { within = some; below_is = refl }
 
 -- the entry at which a move acts
-pub acts_within : (mesh : FaceList) (peak : ℕ) (walk : List ℕ) (move : Move) → 0 < length walk → IsWithinPeak mesh peak walk move
-    → place_of move < length walk
+pub acts_within : (mesh : FaceList) (peak : ℕ) (walk : List ℕ) (move : Move) → 0 < length walk → StaysWithinPeak mesh peak walk move
+    → place_of_move move < length walk
 acts_within mesh peak walk move some h =
     let p = parted_by mesh walk h.next move some h.leads in
     omega (
@@ -106,7 +106,7 @@ acts_within mesh peak walk move some h =
     )
 
 module _ (mesh double : FaceList) (walk next : List ℕ) (move : Move) (e : apply double walk move ≡ Some next)
-    (above place : ℕ) (at : above ≡ place_of move) (entry : IsEntry mesh.count walk above place) where
+    (above place : ℕ) (at : above ≡ place_of_move move) (entry : IsFoldedEntry mesh.count walk above place) where
   p : IsParted double move walk next
   p = parted_by double walk next move (omega (arith, entry.within)) e
 
@@ -124,7 +124,7 @@ module _ (mesh double : FaceList) (walk next : List ℕ) (move : Move) (e : appl
       subst (λ (v : ℕ). IsAllowedAt double v move) (sym (is ∙ here_is))
       (record { rest = p.rest; others = p.others; replaces = p.replaces })
 
-  pub stays_entry : IsEntry mesh.count next above place
+  pub stays_entry : IsFoldedEntry mesh.count next above place
   stays_entry = record {
     within =
         omega (

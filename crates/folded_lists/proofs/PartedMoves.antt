@@ -1,5 +1,5 @@
 -- A walk that a move changes, parted where the move begins; and what that does to the fold.
-use Rattle.folded_lists.proofs.Common.{folded, IsMoveBelow, ◌≡◌, ℕ, ◌+◌, ◌<◌, List, [], ◌∷◌, ◌++◌, length, get_or, take, ap, sym, ◌∙◌, subst, arith, append_assoc, length-append, get_or-append-add, take_at, Some, by_replacing, FaceList, apply, IsReplacement, Replaces, place_of, Move, end_from}
+use Rattle.folded_lists.proofs.Common.{folded, IsMoveBelow, ◌≡◌, ℕ, ◌+◌, ◌<◌, List, [], ◌∷◌, ◌++◌, length, get_or, take, ap, sym, ◌∙◌, subst, arith, append_assoc, length-append, get_or-append-add, take_at, Some, by_replacing, FaceList, apply, IsReplacement, Replaces, place_of_move, Move, end_from}
 use Rattle.surf_model.proofs.WayBackLemmas.{AreAlike, alike, at_first}
 use Rattle.folded_lists.proofs.FoldedParts.{end-last, move_folds, same_fold}
 
@@ -12,7 +12,7 @@ pub record IsParted (mesh : FaceList) (move : Move) (walk next : List ℕ) : Typ
   pub after : List ℕ
   pub walk_is : walk ≡ (before ++ here ∷ []) ++ (rest ++ after)
   pub next_is : next ≡ (before ++ here ∷ []) ++ (others ++ after)
-  pub place : length before ≡ place_of move
+  pub place : length before ≡ place_of_move move
   pub ends : end_from here rest ≡ end_from here others
   pub replaces : Replaces mesh move (here ∷ rest) (here ∷ others)
 

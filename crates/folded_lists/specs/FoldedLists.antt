@@ -3,7 +3,7 @@ use Rattle.std.specs.Prelude.{◌≡◌, ℕ, ◌+◌, ◌<◌, ◌≤◌, Some,
 use Rattle.surf_model.specs.FaceLists.{FaceList}
 use Rattle.surf_model.specs.Moves.{PeakedMoves, apply}
 use Rattle.surf_model.specs.PeakedLists.{LeadsAtPeak}
-use Rattle.surf_model.specs.Replacements.{Replaces, place_of}
+use Rattle.surf_model.specs.Replacements.{Replaces, place_of_move}
 use Rattle.surf_model.specs.Walks.{IsWalk, darts}
 use Rattle.surf_model.specs.declared.moves.Move.{Move}
 use Rattle.doubling.specs.Doubles.{double_of}
@@ -17,7 +17,7 @@ pub record IsAllowedAt (mesh : FaceList) (here : ℕ) (move : Move) : Type 0 whe
 
 -- at this place the move does to the fold of a part of a walk what a move of the double does to the part
 pub record IsMoveBelow (mesh : FaceList) (place : ℕ) (part other : List ℕ) (move : Move) : Type 0 where
-  pub place_is : place_of move ≡ place
+  pub place_is : place_of_move move ≡ place
   pub replaces : Replaces mesh move (folded mesh.count part) (folded mesh.count other)
 
 -- of so many sides of a quad, from a corner on, those that lead along its edge or the mirror of that: every second one
@@ -31,12 +31,12 @@ LeadsFolded mesh first list below =
     (second : List ℕ) → IsWalk mesh second → LeadsAtPeak (double_of mesh) first list second → LeadsAtPeak mesh first below second
 
 -- the entry of a walk of the double at one place, and the place of the last entry of its fold up to there
-pub record IsEntry (count : ℕ) (walk : List ℕ) (above below : ℕ) : Type 0 where
+pub record IsFoldedEntry (count : ℕ) (walk : List ℕ) (above below : ℕ) : Type 0 where
   pub within : above < length walk
   pub below_is : below + 1 ≡ length (folded count (take (above + 1) walk))
 
 -- the move is allowed on the walk, and makes it no longer than the peak
-pub record IsWithinPeak (mesh : FaceList) (peak : ℕ) (walk : List ℕ) (move : Move) : Type 0 where
+pub record StaysWithinPeak (mesh : FaceList) (peak : ℕ) (walk : List ℕ) (move : Move) : Type 0 where
   pub next : List ℕ
   pub leads : apply mesh walk move ≡ Some next
   pub within : darts next ≤ peak

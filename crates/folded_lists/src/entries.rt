@@ -1,7 +1,7 @@
 //! Where an entry of a walk of the double is in the fold of that walk.
 ghost use Rattle.std.specs.Prelude.{◌≡◌, ◌+◌, ◌<◌, ◌≤◌, length, take, slice_index};
 ghost use Rattle.doubling.specs.Folds.{folded};
-ghost use Rattle.folded_lists.specs.FoldedLists.{IsEntry};
+ghost use Rattle.folded_lists.specs.FoldedLists.{IsFoldedEntry};
 
 use crate::below::fold;
 use move_checker::Tape;
@@ -16,9 +16,9 @@ pub(crate) struct Entry {
 
 /// The entry at another place of the walk. What lies between the two is read.
 pub(crate) fn go_to(count: u32, tape: &Tape, from: Entry, above: u32) -> Entry
-    requires from { IsEntry count tape.now.walk from.above from.below }
+    requires from { IsFoldedEntry count tape.now.walk from.above from.below }
     requires above { above < length tape.now.walk }
-    ensures entry { IsEntry count tape.now.walk result.above result.below }
+    ensures entry { IsFoldedEntry count tape.now.walk result.above result.below }
     ensures above { result.above ≡ above }
 {
     let below = if from.above <= above {

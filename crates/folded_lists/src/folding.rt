@@ -3,12 +3,12 @@ ghost use Rattle.std.specs.Prelude.{◌≡◌, ◌<◌, ◌≤◌, ◌^◌, ℕ,
 ghost use Rattle.surf_model.specs.Edges.{IsTableOf};
 ghost use Rattle.surf_model.specs.Moves.{apply};
 ghost use Rattle.surf_model.specs.PeakedLists.{LeadsAtPeak};
-ghost use Rattle.surf_model.specs.Replacements.{place_of};
+ghost use Rattle.surf_model.specs.Replacements.{place_of_move};
 ghost use Rattle.surf_model.specs.Walks.{IsWalk, darts};
 ghost use Rattle.surf_model.specs.declared.limits.TheConstants.{MOST_PEAK};
 ghost use Rattle.doubling.specs.Doubles.{double_of};
 ghost use Rattle.doubling.specs.Folds.{folded};
-ghost use Rattle.folded_lists.specs.FoldedLists.{IsEntry, IsWithinPeak, LeadsFolded};
+ghost use Rattle.folded_lists.specs.FoldedLists.{IsFoldedEntry, StaysWithinPeak, LeadsFolded};
 
 use crate::below::move_below;
 use crate::entries::{Entry, go_to, vertex};
@@ -70,9 +70,9 @@ fn step(
 ) -> Option<Move>
     requires double { double.now ≡ double_of faces.now }
     requires table { IsTableOf double.now sides.now }
-    requires entry { IsEntry faces.now.count tape.old.walk entry.old.above entry.old.below }
-    requires allowed { IsWithinPeak double.now tape.old.peak tape.old.walk mv }
-    ensures entry { IsEntry faces.now.count tape.new.walk entry.new.above entry.new.below }
+    requires entry { IsFoldedEntry faces.now.count tape.old.walk entry.old.above entry.old.below }
+    requires allowed { StaysWithinPeak double.now tape.old.peak tape.old.walk mv }
+    ensures entry { IsFoldedEntry faces.now.count tape.new.walk entry.new.above entry.new.below }
     ensures walk { apply double.now tape.old.walk mv ≡ Some tape.new.walk }
     ensures peak { tape.new.peak ≡ tape.old.peak }
     ensures below { MatchOption result (folded faces.now.count tape.new.walk ≡ folded faces.now.count tape.old.walk)
@@ -99,7 +99,7 @@ fn darts_after(faces: &Faces, before: u32, mv: Move) -> u32
 
 /// The place at which a move acts.
 fn place_of(mv: Move) -> u32
-    ensures { result ≡ place_of mv }
+    ensures { result ≡ place_of_move mv }
 {
     match mv {
         Move::Insert { at, .. } | Move::Remove { at, .. } | Move::Across { at, .. } => at,

@@ -1,5 +1,5 @@
 -- The way back along a list of moves: its peak, and the moves one by one.
-use Rattle.free_forms.proofs.Common.{greatest_darts-more, greatest_darts-none, greatest_darts-push, greatest_both, LeadsAtPeak, IsWithin, IsMoveOf, ◌≡◌, inl, inr, ℕ, zero, suc, ◌+◌, ◌<◌, ◌≤◌, max, List, [], ◌∷◌, ◌++◌, length, drop, refl, ap, sym, ◌∙◌, subst, arith, length-append, cases_eq, common_steps, drop_more, get_or_from_slice_get, All, Some, slice_get, first_answer, one_after_another, stays_walk, by_replacing, keeps_walk, undone, list_undone, FaceList, PeakedMoves, apply, apply_all, greatest_darts, inverse_of, sides_of_move, way_back, IsWalk, darts, Move, Insert, Remove, Across}
+use Rattle.free_forms.proofs.Common.{greatest_darts-more, greatest_darts-none, greatest_darts-push, greatest_both, LeadsAtPeak, IsListWithin, IsMoveOf, ◌≡◌, inl, inr, ℕ, zero, suc, ◌+◌, ◌<◌, ◌≤◌, max, List, [], ◌∷◌, ◌++◌, length, drop, refl, ap, sym, ◌∙◌, subst, arith, length-append, cases_eq, common_steps, drop_more, get_or_from_slice_get, All, Some, slice_get, first_answer, one_after_another, stays_walk, by_replacing, keeps_walk, undone, list_undone, FaceList, PeakedMoves, apply, apply_all, greatest_darts, inverse_of, sides_of_move, way_back, IsWalk, darts, Move, Insert, Remove, Across}
 
 -- the way back passes the same walks
 greatest_darts-back : (mesh : FaceList) (moves : List Move) (walk next : List ℕ) → IsWalk mesh walk → apply_all mesh walk moves ≡ Some next
@@ -88,9 +88,10 @@ length-way_back mesh (move ∷ moves) =
     )
 
 -- neither list is long, so neither is that of both
-pub both_within : (mesh : FaceList) {n m : ℕ} (most : ℕ) {list others : PeakedMoves} (whole : PeakedMoves) → IsWithin n list → IsWithin m
+pub both_within : (mesh : FaceList) {n m : ℕ} (most : ℕ) {list others : PeakedMoves} (whole : PeakedMoves) → IsListWithin n list
+    → IsListWithin m
     others → n + m ≤ most
     → whole.moves ≡ list.moves ++ way_back mesh others.moves
     → (length others.moves ≡ 0 → whole.peak ≡ list.peak) → (0 < length others.moves → whole.peak ≡ max list.peak others.peak)
-    → IsWithin most whole
+    → IsListWithin most whole
 both_within mesh most {list} {others} whole h k few moves none some = grind (arith, common_steps, length-way_back)

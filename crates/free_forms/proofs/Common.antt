@@ -9,12 +9,12 @@ pub use Rattle.connectivity.proofs.FirstFaults.{equal, equal_pairs, no_first_pai
 pub use Rattle.connectivity.proofs.RingLemmas.{HasPartner, IsAlone, alone_in_edge, partner_back, partner_below, partner_or_alone, partners_by_number}
 pub use Rattle.connectivity.specs.Joined.{AreLeastApart, EachVertexHasOneRing, IsLeastUsed, NoEdgeHasThreeSides}
 pub use Rattle.free_forms.specs.Normal.{IsNormal, IsNormalWalkOf}
-pub use Rattle.free_forms.specs.OpenFaults.{IsBoundaryEdge, IsFirstCrowded, IsFirstFault, IsLeastCrowdedEdge}
+pub use Rattle.free_forms.specs.OpenFaults.{IsBoundaryEdge, IsFirstCrowded, IsFirstOpenFault, IsLeastCrowdedEdge}
 pub use Rattle.free_forms.specs.OpenSurfaces.{HasBoundary, IsOpenSurface}
-pub use Rattle.free_forms.specs.Parents.{EndsOutside, HasParents, IsParentEdge, Joins, OpenView, expansion, parent_of}
-pub use Rattle.free_forms.specs.PeakedLists.{IsMoveOf, IsWithin, LeadsAtPeak}
-pub use Rattle.free_forms.specs.Reductions.{Expands, HasRoom, IsStep, IsTaken, IsWayAlong, ReductionView, SkipsSpur, StepsBack, StepsOn, darts_in, settled, state_of, whole}
-pub use Rattle.free_forms.specs.Searches.{Grows, IsClosedUpTo, IsReached, IsSearch, IsStartedUpTo, NeighboursReached, SearchView, bit, found_by, parent_in, with_side}
+pub use Rattle.free_forms.specs.Parents.{EndsOutside, HasFaceParents, IsParentEdge, Joins, OpenView, expansion, parent_of}
+pub use Rattle.free_forms.specs.PeakedLists.{IsListWithin, IsMoveOf, LeadsAtPeak}
+pub use Rattle.free_forms.specs.Reductions.{Expands, HasFaceRoom, IsStep, IsTaken, IsWayAlong, ReductionView, SkipsSpur, StepsBack, StepsOn, darts_in, settled, state_of, whole}
+pub use Rattle.free_forms.specs.Searches.{Grows, IsClosedUpTo, IsFaceReached, IsParentSearch, IsStartedUpTo, NeighboursReached, SearchView, bit, parent_in, view_of_search, with_side}
 pub use Rattle.free_forms.specs.declared.fault.OpenFault.{OpenFault}
 pub use Rattle.free_forms.specs.declared.fault.OpenFault.TheVariants.{Apart, EdgeSides, NoBoundary, NoFace, OutOfMemory, Pinched}
 pub use Rattle.free_forms.specs.declared.limits.TheConstants.{MOST_OPEN_DARTS, MOST_OPEN_SIDES, MOST_OPEN_STEPS}
@@ -50,4 +50,4 @@ pub use Rattle.surf_model.specs.declared.names.VertexName.{VertexName}
 pub use Rattle.walk_actions.proofs.Actions.{acts_exactly, crosses_any, moves_act_along, run_stays}
 pub use Rattle.walk_actions.proofs.Corners.{after_add, after_back, after_more, after_within, beyond_more, corners_apart, corners_beyond, next_back}
 pub use Rattle.walk_actions.proofs.Runs.{any_darts, each_any, each_any_of, each_dart, end_beyond, end_from, run-append, run-more, walked-round}
-pub use Rattle.walk_actions.specs.Actions.{ActsAlong, EachDart, FacesActAsNothing, beyond, run, walked}
+pub use Rattle.walk_actions.specs.Actions.{ActsAlong, EachDart, FacesActAsNothing, run, vertices_beyond, walked}

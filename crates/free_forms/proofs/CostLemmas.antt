@@ -1,5 +1,5 @@
 -- What a step costs: a move at most, and a dart at most; and less is to come by one at least.
-use Rattle.free_forms.proofs.Common.{OpenView, HasParents, parent_of, expansion, ReductionView, darts_in, IsTaken, IsStep, HasRoom, ◌≡◌, inl, inr, ℕ, suc, ◌+◌, ◌<◌, ◌≤◌, max, List, [], ◌∷◌, ◌++◌, length, ap, ◌∙◌, subst, arith, length-append, PeakedMoves, MOST_PEAK, Move, Remove, Across}
+use Rattle.free_forms.proofs.Common.{OpenView, HasFaceParents, parent_of, expansion, ReductionView, darts_in, IsTaken, IsStep, HasFaceRoom, ◌≡◌, inl, inr, ℕ, suc, ◌+◌, ◌<◌, ◌≤◌, max, List, [], ◌∷◌, ◌++◌, length, ap, ◌∙◌, subst, arith, length-append, PeakedMoves, MOST_PEAK, Move, Remove, Across}
 use Rattle.free_forms.proofs.Expansions.{expansion_size}
 use Rattle.free_forms.proofs.StepLemmas.{HasStepped, weight, weight_parent}
 use Rattle.free_forms.proofs.WeightLemmas.{weight_long}
@@ -66,9 +66,9 @@ stays_paid {surface} {most} {taken} {next} {new} paid is_taken stepped step =
     step_paid taken next new stepped.falls (subst (IsPaid surface most) is_taken paid) step
 
 -- and there is room for the next step
-pub has_room : {surface : OpenView} {most : ℕ} {old : ReductionView} (taken : ReductionView) (next : ℕ) → HasParents surface → IsPaid
+pub has_room : {surface : OpenView} {most : ℕ} {old : ReductionView} (taken : ReductionView) (next : ℕ) → HasFaceParents surface → IsPaid
     surface most old
-    → IsTaken old next taken → most ≤ MOST_PEAK → HasRoom surface taken next
+    → IsTaken old next taken → most ≤ MOST_PEAK → HasFaceRoom surface taken next
 has_room {surface} {most} taken next has paid is_taken few f l joined =
     let now : IsPaid surface most (record taken { coming = next ∷ taken.coming }) = subst (IsPaid surface most) is_taken paid in
     let way : List ℕ = expansion surface.mesh (parent_of surface f) taken.last in

@@ -1,5 +1,5 @@
 -- How many sides edges have, by the table of the mesh.
-use Rattle.free_forms.proofs.Common.{between_by_table, no_edge_no_side, before_by_table, IsFirstFault, IsFirstCrowded, IsLeastCrowdedEdge, IsBoundaryEdge, HasBoundary, EdgeSides, ◌≡◌, ◌≢◌, inl, inr, ℕ, ◌<◌, ◌≤◌, List, length, arith, cases_Bool, common_steps, sides_of_edge, Edge, IsTableOf, IsEdgeOf, edge_in, FaceList, is_edge, VertexName}
+use Rattle.free_forms.proofs.Common.{between_by_table, no_edge_no_side, before_by_table, IsFirstOpenFault, IsFirstCrowded, IsLeastCrowdedEdge, IsBoundaryEdge, HasBoundary, EdgeSides, ◌≡◌, ◌≢◌, inl, inr, ℕ, ◌<◌, ◌≤◌, List, length, arith, cases_Bool, common_steps, sides_of_edge, Edge, IsTableOf, IsEdgeOf, edge_in, FaceList, is_edge, VertexName}
 
 pub no_boundary_from_table : {mesh : FaceList} {table : List Edge} → IsTableOf mesh table
     → ((k : ℕ) → k < length table → length (edge_in table k).sides ≢ 1) → HasBoundary mesh → ⊥
@@ -27,5 +27,5 @@ least_crowded {mesh} {table} {k} h first =
 -- so it is the first fault, as it is read
 pub crowded_as_read : {mesh : FaceList} {table : List Edge} {k : ℕ} (low high : VertexName) (sides : ℕ) → 0 < length mesh.faces
     → IsTableOf mesh table → IsFirstCrowded table k → low.0 ≡ (edge_in table k).low → high.0 ≡ (edge_in table k).high
-    → sides ≡ length (edge_in table k).sides → IsFirstFault mesh (EdgeSides low high sides)
+    → sides ≡ length (edge_in table k).sides → IsFirstOpenFault mesh (EdgeSides low high sides)
 crowded_as_read low high sides some h first is_low is_high is_sides = grind (arith, common_steps, least_crowded)

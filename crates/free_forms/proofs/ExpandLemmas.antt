@@ -1,5 +1,5 @@
 -- What the code reads of a face whose parent is expanded, and that this is its expansion.
-use Rattle.free_forms.proofs.Common.{OpenView, HasParents, Joins, parent_of, Expands, IsWayAlong, ◌≡◌, ℕ, ◌+◌, ◌-◌, ◌<◌, Bool, true, eqb, max, List, [], ◌∷◌, ◌++◌, length, refl, ap, sym, ◌∙◌, subst, arith, length-append, reverse-append, length-reverse, length-map, cond, reverse, tail_of, FaceList, face_at, next_corner, PeakedMoves, numbers, Side, Across, VertexName, beyond}
+use Rattle.free_forms.proofs.Common.{OpenView, HasFaceParents, Joins, parent_of, Expands, IsWayAlong, ◌≡◌, ℕ, ◌+◌, ◌-◌, ◌<◌, Bool, true, eqb, max, List, [], ◌∷◌, ◌++◌, length, refl, ap, sym, ◌∙◌, subst, arith, length-append, reverse-append, length-reverse, length-map, cond, reverse, tail_of, FaceList, face_at, next_corner, PeakedMoves, numbers, Side, Across, VertexName, vertices_beyond}
 use Rattle.free_forms.proofs.Expansions.{length_beyond}
 use Rattle.free_forms.proofs.ParentEdgeLemmas.{way_found, expansion_read}
 
@@ -14,19 +14,19 @@ pub record IsRead (side : Side) (u corner : ℕ) (forward : Bool) (pending more 
   pub forward_is : forward ≡ eqb (tail_of mesh side) u
   pub corner_is : corner ≡ cond forward side.at (next_corner true (length (face_at mesh side.face.0)) side.at)
   pub pushed : numbers more
-      ≡ numbers pending ++ beyond (face_at mesh side.face.0) forward corner (length (face_at mesh side.face.0) - 1)
+      ≡ numbers pending ++ vertices_beyond (face_at mesh side.face.0) forward corner (length (face_at mesh side.face.0) - 1)
 
 pub pushed_length : {side : Side} {u corner : ℕ} {forward : Bool} {pending more : List VertexName} {mesh : FaceList}
     → IsRead side u corner forward pending more mesh → length more ≡ length pending + (length (face_at mesh side.face.0) - 1)
 pushed_length {side} {corner} {forward} {pending} {more} {mesh} h =
     let ring : List ℕ = face_at mesh side.face.0 in
     sym (length_numbers more) ∙ ap (λ (l : List ℕ). length l) h.pushed
-    ∙ length-append (numbers pending) (beyond ring forward corner (length ring - 1))
+    ∙ length-append (numbers pending) (vertices_beyond ring forward corner (length ring - 1))
     ∙ omega (arith, length_numbers pending, length_beyond ring forward corner (length ring - 1))
 
 pub expands_made : {surface : OpenView} {mesh : FaceList} {side : Side} (earlier : List VertexName) {pending more : List VertexName} {u : ℕ}
     (next : ℕ) {corner : ℕ} (at d : ℕ)
-    {forward : Bool} (old new : PeakedMoves) → HasParents surface → mesh ≡ surface.mesh → side.face.0 < length surface.mesh.faces
+    {forward : Bool} (old new : PeakedMoves) → HasFaceParents surface → mesh ≡ surface.mesh → side.face.0 < length surface.mesh.faces
     → side ≡ parent_of surface side.face.0 → Joins surface.mesh side u next → IsRead side u corner forward pending more mesh
     → at ≡ length earlier → d ≡ length earlier + length more
     → new ≡ record { moves = old.moves ++ Across at side.face corner forward 1 ∷ []; peak = max old.peak d }
@@ -40,7 +40,7 @@ expands_made {surface} {side} earlier {pending} {more} {u} next {corner} at d {f
     let way_of : IsWayAlong surface (parent_of surface f) u corner forward =
     subst (λ (s : Side). IsWayAlong surface s u corner forward) parent way in
     let ring : List ℕ = face_at surface.mesh f in
-    let behind : List ℕ = beyond ring forward corner (length ring - 1) in
+    let behind : List ℕ = vertices_beyond ring forward corner (length ring - 1) in
     record {
       face = f;
       corner = corner;

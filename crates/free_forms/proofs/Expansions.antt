@@ -1,5 +1,5 @@
 -- How darts act where a dart along a parent edge acts as its expansion does: what holds of every base, by which the other darts act.
-use Rattle.free_forms.proofs.Common.{partners_swap, OpenView, HasParents, EndsOutside, Joins, IsParentEdge, parent_of, expansion, ◌≡◌, ◌≢◌, ◌⊎◌, inl, inr, ℕ, zero, suc, ◌+◌, ◌-◌, ◌<◌, ◌≤◌, Bool, true, false, not, List, [], ◌∷◌, length, get_or, refl, ap, sym, ◌∙◌, subst, arith, cases_eq, cases_lt, eq-eqb, nat_tests, Option, Some, None, cond, if◌then◌else◌, step_within, ends_differ, corner_after, meet, joins_swap, IsSide, tail_of, head_of, FaceSide, face_at, next_corner, joins, ArePartners, Side, acts_exactly, run_stays, next_back, after_within, after_more, after_back, after_add, corners_apart, end_from, end_beyond, each_dart, each_any, run-more, walked-round, run, beyond, EachDart, ActsAlong, FacesActAsNothing}
+use Rattle.free_forms.proofs.Common.{partners_swap, OpenView, HasFaceParents, EndsOutside, Joins, IsParentEdge, parent_of, expansion, ◌≡◌, ◌≢◌, ◌⊎◌, inl, inr, ℕ, zero, suc, ◌+◌, ◌-◌, ◌<◌, ◌≤◌, Bool, true, false, not, List, [], ◌∷◌, length, get_or, refl, ap, sym, ◌∙◌, subst, arith, cases_eq, cases_lt, eq-eqb, nat_tests, Option, Some, None, cond, if◌then◌else◌, step_within, ends_differ, corner_after, meet, joins_swap, IsSide, tail_of, head_of, FaceSide, face_at, next_corner, joins, ArePartners, Side, acts_exactly, run_stays, next_back, after_within, after_more, after_back, after_add, corners_apart, end_from, end_beyond, each_dart, each_any, run-more, walked-round, run, vertices_beyond, EachDart, ActsAlong, FacesActAsNothing}
 
 -- each pair of vertices acts, also in lists that are no walks; states are told apart by equality
 abbrev pub AnyDart : ℕ → ℕ → Type 0
@@ -85,7 +85,7 @@ face_swap surface (suc n) u v =
     ap (λ (b : Bool). cond b (Some n) (parent_face surface n u v)) (joins_swap u v (whole_parent surface n))
     ∙ ap (cond (joins v u (whole_parent surface n)) (Some n)) (face_swap surface n u v)
 
-pub parent_in_mesh : {surface : OpenView} (f : ℕ) → HasParents surface → f < length surface.mesh.faces
+pub parent_in_mesh : {surface : OpenView} (f : ℕ) → HasFaceParents surface → f < length surface.mesh.faces
     → IsSide surface.mesh (parent_of surface f)
 parent_in_mesh f has l = record { face = l; place = has.within f l }
 
@@ -102,7 +102,7 @@ no_two_parents surface (suc n) f g partners h =
     no_two_parents surface n g f (partners_swap surface.mesh (parent_of surface f) (parent_of surface g) partners)
     (h (parent_of surface g) partners)
 
-one_face : {surface : OpenView} {u v f g : ℕ} → HasParents surface → IsFound surface u v f → IsFound surface u v g → f ≡ g
+one_face : {surface : OpenView} {u v f g : ℕ} → HasFaceParents surface → IsFound surface u v f → IsFound surface u v g → f ≡ g
 one_face {surface} {u} {v} {f} {g} has one other =
     elim (cases_eq f g) [
       | inl same ↦ same
@@ -115,7 +115,7 @@ one_face {surface} {u} {v} {f} {g} has one other =
           }) (has.outside f one.within))
     ]
 
-pub face_found : {surface : OpenView} {u v f : ℕ} → HasParents surface → IsFound surface u v f → parent_face_of surface u v ≡ Some f
+pub face_found : {surface : OpenView} {u v f : ℕ} → HasFaceParents surface → IsFound surface u v f → parent_face_of surface u v ≡ Some f
 face_found {surface} {u} {v} {f} has found = go (parent_face_of surface u v) refl
   where
     go : (o : Option ℕ) → parent_face_of surface u v ≡ o → o ≡ Some f
@@ -139,9 +139,9 @@ pub record Ends (surface : OpenView) (f u v : ℕ) : Type 0 where
   pub at_v : get_or (face_at surface.mesh f) to 0 ≡ v
   pub far : corner_after rising (length (face_at surface.mesh f)) from (length (face_at surface.mesh f) - 1) ≡ to
   pub way : expansion surface.mesh (parent_of surface f) u
-      ≡ beyond (face_at surface.mesh f) rising from (length (face_at surface.mesh f) - 1)
+      ≡ vertices_beyond (face_at surface.mesh f) rising from (length (face_at surface.mesh f) - 1)
   pub back : expansion surface.mesh (parent_of surface f) v
-      ≡ beyond (face_at surface.mesh f) (not rising) to (length (face_at surface.mesh f) - 1)
+      ≡ vertices_beyond (face_at surface.mesh f) (not rising) to (length (face_at surface.mesh f) - 1)
 
 -- all steps but one, and all steps but one the other way
 most_falling : (m t : ℕ) → t < m → corner_after false m t (m - 1) ≡ next_corner true m t
@@ -158,16 +158,16 @@ by_test_not test x y e = rw e refl
 
 pub from_tail : (surface : OpenView) (f u : ℕ) → tail_of surface.mesh (parent_of surface f) ≡ u
     → expansion surface.mesh (parent_of surface f) u
-    ≡ beyond (face_at surface.mesh f) false (parent_of surface f).at (length (face_at surface.mesh f) - 1)
+    ≡ vertices_beyond (face_at surface.mesh f) false (parent_of surface f).at (length (face_at surface.mesh f) - 1)
 from_tail surface f u is = by_test _ _ _ (eq-eqb (tail_of surface.mesh (parent_of surface f)) u is)
 
 pub from_head : (surface : OpenView) (f u : ℕ) → tail_of surface.mesh (parent_of surface f) ≢ u
     → expansion surface.mesh (parent_of surface f) u
-    ≡ beyond (face_at surface.mesh f) true (next_corner true (length (face_at surface.mesh f)) (parent_of surface f).at)
+    ≡ vertices_beyond (face_at surface.mesh f) true (next_corner true (length (face_at surface.mesh f)) (parent_of surface f).at)
     (length (face_at surface.mesh f) - 1)
 from_head surface f u isnt = grind (arith, by_test_not)
 
-pub length_beyond : (ring : List ℕ) (rising : Bool) (t k : ℕ) → length (beyond ring rising t k) ≡ k
+pub length_beyond : (ring : List ℕ) (rising : Bool) (t k : ℕ) → length (vertices_beyond ring rising t k) ≡ k
 length_beyond ring rising t zero = refl
 length_beyond ring rising t (suc k) = ap suc (length_beyond ring rising (next_corner rising (length ring) t) k)
 
@@ -176,7 +176,7 @@ pub expansion_size : (surface : OpenView) (f u : ℕ)
     → length (expansion surface.mesh (parent_of surface f) u) ≡ length (face_at surface.mesh f) - 1
 expansion_size surface f u = grind (arith, from_tail, length_beyond, from_head)
 
-pub ends_of : {surface : OpenView} {f u v : ℕ} → HasParents surface → IsFound surface u v f → Ends surface f u v
+pub ends_of : {surface : OpenView} {f u v : ℕ} → HasFaceParents surface → IsFound surface u v f → Ends surface f u v
 ends_of {surface} {f} {u} {v} has found =
     let side : Side = parent_of surface f in
     let ring : List ℕ = face_at surface.mesh f in
@@ -189,7 +189,7 @@ ends_of {surface} {f} {u} {v} has found =
     ]
 
 -- an expansion leads to the other end
-pub expansion_ends : {surface : OpenView} {f u v : ℕ} → HasParents surface → IsFound surface u v f
+pub expansion_ends : {surface : OpenView} {f u v : ℕ} → HasFaceParents surface → IsFound surface u v f
     → end_from u (expansion surface.mesh (parent_of surface f) u) ≡ v
 expansion_ends {surface} {f} {u} {v} has found =
     let e : Ends surface f u v = ends_of has found in
@@ -199,8 +199,8 @@ expansion_ends {surface} {f} {u} {v} has found =
 -- some steps round a face and as many back change nothing
 round_and_back : {State : Type 0} (act : State → ℕ → ℕ → State) (At : ℕ → State → Type 0) → ActsAnywhere act At
     → (ring : List ℕ) (rising : Bool) (t k : ℕ) → t < length ring → (s : State) → At (get_or ring t 0) s
-    → run act (run act s (get_or ring t 0) (beyond ring rising t k)) (get_or ring (corner_after rising (length ring) t k) 0)
-    (beyond ring (not rising) (corner_after rising (length ring) t k) k)
+    → run act (run act s (get_or ring t 0) (vertices_beyond ring rising t k)) (get_or ring (corner_after rising (length ring) t k) 0)
+    (vertices_beyond ring (not rising) (corner_after rising (length ring) t k) k)
     ≡ s
 round_and_back act At acts ring rising t zero l s at = refl
 round_and_back {State} act At acts ring rising t (suc k) l s at =
@@ -211,7 +211,7 @@ round_and_back {State} act At acts ring rising t (suc k) l s at =
     let along : State = act s (get_or ring t 0) (get_or ring next 0) in
     let near : corner_after (not rising) m far k ≡ next = after_back rising m next k next_in in
     let home : corner_after (not rising) m far (suc k) ≡ t = grind (arith, after_more, next_back) in
-    run-more act (run act along (get_or ring next 0) (beyond ring rising next k)) ring (not rising) far k
+    run-more act (run act along (get_or ring next 0) (vertices_beyond ring rising next k)) ring (not rising) far k
     ∙ ap (λ (x : State). act x (get_or ring (corner_after (not rising) m far k) 0)
     (get_or ring (corner_after (not rising) m far (suc k)) 0))
     (round_and_back act At acts ring rising next k next_in along (acts.stays _ _ s tt at))
@@ -220,7 +220,7 @@ round_and_back {State} act At acts ring rising t (suc k) l s at =
 
 -- an expansion and the way back along it change nothing
 pub expansion_back : {State : Type 0} (act : State → ℕ → ℕ → State) (At : ℕ → State → Type 0) → ActsAnywhere act At
-    → (surface : OpenView) (f u v : ℕ) → HasParents surface → IsFound surface u v f → (s : State) → At u s
+    → (surface : OpenView) (f u v : ℕ) → HasFaceParents surface → IsFound surface u v f → (s : State) → At u s
     → run act (run act s u (expansion surface.mesh (parent_of surface f) u)) v (expansion surface.mesh (parent_of surface f) v) ≡ s
 expansion_back {State} act At acts surface f u v has found s at =
     let e : Ends surface f u v = ends_of has found in
@@ -229,7 +229,7 @@ expansion_back {State} act At acts surface f u v has found s at =
     grind (arith, round_and_back)
 
 -- where there and back changes nothing by the base, and inside expansions, so it is one level up
-level_stays : {State : Type 0} {surface : OpenView} (base inner : State → ℕ → ℕ → State) (At : ℕ → State → Type 0) → HasParents surface
+level_stays : {State : Type 0} {surface : OpenView} (base inner : State → ℕ → ℕ → State) (At : ℕ → State → Type 0) → HasFaceParents surface
     → ActsAnywhere base At → ActsAnywhere inner At → (u v : ℕ) (o : Option ℕ) → parent_face_of surface u v ≡ o → (s : State) → At u s
     → At v (by_face surface base (λ f x. x) inner o s u v)
 level_stays base inner At has acts more u v None e s at = acts.stays u v s tt at
@@ -238,14 +238,14 @@ level_stays {surface} base inner At has acts more u v (Some f) e s at =
     subst (λ (x : ℕ). At x (run inner s u way)) (expansion_ends has (found_face surface u v f e))
     (run_stays AnyDart Equal inner At more s u way (each_any u way) at)
 
-level_back : {State : Type 0} {surface : OpenView} (base inner : State → ℕ → ℕ → State) (At : ℕ → State → Type 0) → HasParents surface
+level_back : {State : Type 0} {surface : OpenView} (base inner : State → ℕ → ℕ → State) (At : ℕ → State → Type 0) → HasFaceParents surface
     → ActsAnywhere base At → ActsAnywhere inner At → (u v : ℕ) (o : Option ℕ) → parent_face_of surface u v ≡ o → (s : State) → At u s
     → by_face surface base (λ f x. x) inner o (by_face surface base (λ f x. x) inner o s u v) v u ≡ s
 level_back base inner At has acts more u v None e s at = acts.back u v s tt at
 level_back {surface} base inner At has acts more u v (Some f) e s at = grind (arith, expansion_back, found_face)
 
 -- where there and back by the base changes nothing, so it is with expansions
-pub acting_acts : {State : Type 0} (surface : OpenView) (base : State → ℕ → ℕ → State) (At : ℕ → State → Type 0) → HasParents surface
+pub acting_acts : {State : Type 0} (surface : OpenView) (base : State → ℕ → ℕ → State) (At : ℕ → State → Type 0) → HasFaceParents surface
     → ActsAnywhere base At → (n : ℕ) → ActsAnywhere (acting surface base (λ f s. s) n) At
 acting_acts surface base At has acts zero = acts
 acting_acts {State} surface base At has acts (suc n) =
@@ -296,7 +296,7 @@ elsewhere : (rising : Bool) (m t k : ℕ) → t < m → 0 < k → k < m → corn
 elsewhere rising m t k l some few same = corners_apart rising m t 0 k l some (omega arith) (omega arith) (sym same)
 
 -- no place comes twice
-pub places_differ : {surface : OpenView} (f : ℕ) (rising : Bool) (i j : ℕ) → HasParents surface → f < length surface.mesh.faces → i < j
+pub places_differ : {surface : OpenView} (f : ℕ) (rising : Bool) (i j : ℕ) → HasFaceParents surface → f < length surface.mesh.faces → i < j
     → j + 1 < length (face_at surface.mesh f) → places_behind surface f rising j ≢ places_behind surface f rising i
 places_differ {surface} f rising i j has l less few same =
     let m : ℕ = length (face_at surface.mesh f) in
@@ -306,9 +306,10 @@ places_differ {surface} f rising i j has l less few same =
     (omega arith) (sym (ap (corner_after rising m t) far ∙ after_add rising m t (suc i) (j - i)) ∙ same)
 
 -- rising from the corner behind the parent
-along_rising : {surface : OpenView} (f j k c : ℕ) → HasParents surface → f < length surface.mesh.faces
+along_rising : {surface : OpenView} (f j k c : ℕ) → HasFaceParents surface → f < length surface.mesh.faces
     → suc j + k ≤ length (face_at surface.mesh f) → c ≡ places_behind surface f true j
-    → EachAlong surface f (places_behind surface f true) j (get_or (face_at surface.mesh f) c 0) (beyond (face_at surface.mesh f) true c k)
+    → EachAlong surface f (places_behind surface f true) j (get_or (face_at surface.mesh f) c 0)
+    (vertices_beyond (face_at surface.mesh f) true c k)
 along_rising f j zero c has l few is = tt
 along_rising {surface} f j (suc k) c has l few is =
     let ring : List ℕ = face_at surface.mesh f in
@@ -326,11 +327,11 @@ along_rising {surface} f j (suc k) c has l few is =
     )
 
 -- falling from the corner where the parent starts
-along_falling : {surface : OpenView} (f j k c : ℕ) → HasParents surface → f < length surface.mesh.faces
+along_falling : {surface : OpenView} (f j k c : ℕ) → HasFaceParents surface → f < length surface.mesh.faces
     → suc j + k ≤ length (face_at surface.mesh f)
     → c ≡ corner_after false (length (face_at surface.mesh f)) (parent_of surface f).at j → c < length (face_at surface.mesh f)
     → EachAlong surface f (places_behind surface f false) j (get_or (face_at surface.mesh f) c 0)
-    (beyond (face_at surface.mesh f) false c k)
+    (vertices_beyond (face_at surface.mesh f) false c k)
 along_falling f j zero c has l few is c_within = tt
 along_falling {surface} f j (suc k) c has l few is c_within =
     let ring : List ℕ = face_at surface.mesh f in
@@ -350,23 +351,23 @@ along_falling {surface} f j (suc k) c has l few is c_within =
     )
 
 -- each dart of an expansion goes along another side of the face, one after the other
-pub expansion_places : {surface : OpenView} {f u v : ℕ} → HasParents surface → IsFound surface u v f
+pub expansion_places : {surface : OpenView} {f u v : ℕ} → HasFaceParents surface → IsFound surface u v f
     → (rising : Bool) × EachAlong surface f (places_behind surface f rising) 0 u (expansion surface.mesh (parent_of surface f) u)
 expansion_places {surface} {f} {u} has found =
     grind (arith, head_of, ends_differ, parent_in_mesh, from_tail, along_falling, from_head, along_rising)
 
-expansion_along : {surface : OpenView} {f u v : ℕ} → HasParents surface → IsFound surface u v f
+expansion_along : {surface : OpenView} {f u v : ℕ} → HasFaceParents surface → IsFound surface u v f
     → EachDart (IsAlongOther surface f) u (expansion surface.mesh (parent_of surface f) u)
 expansion_along {surface} {f} {u} has found =
     let told = expansion_places has found in grind (arith, along_any)
 
 -- across that side lies a face whose parent it is
-pub across : {surface : OpenView} {f g place a b : ℕ} → HasParents surface → f < length surface.mesh.faces → IsAlong surface f place a b
+pub across : {surface : OpenView} {f g place a b : ℕ} → HasFaceParents surface → f < length surface.mesh.faces → IsAlong surface f place a b
     → IsFound surface a b g → ArePartners surface.mesh (parent_of surface g) (side_at f place)
 across {surface} {f} {g} {place} {a} {b} has l along found = grind (arith, parent_in_mesh, ends_same)
 
 -- and it is further from the outside
-further : {surface : OpenView} (n f : ℕ) {g a b : ℕ} → HasParents surface → f < length surface.mesh.faces → IsAlongOther surface f a b
+further : {surface : OpenView} (n f : ℕ) {g a b : ℕ} → HasFaceParents surface → f < length surface.mesh.faces → IsAlongOther surface f a b
     → IsFound surface a b g → EndsOutside surface (suc n) g → EndsOutside surface n f
 further n f has l along found outside = outside (side_at f along.0) (across has l along.1 found)
 
@@ -375,7 +376,7 @@ abbrev IsDeep : OpenView → ℕ → ℕ → ℕ → Type 0
 IsDeep surface n u v =
     (f : ℕ) → IsFound surface u v f → EndsOutside surface (length surface.mesh.faces - n) f → ⊥
 
-deep_on : {surface : OpenView} (n f a b : ℕ) → HasParents surface → f < length surface.mesh.faces
+deep_on : {surface : OpenView} (n f a b : ℕ) → HasFaceParents surface → f < length surface.mesh.faces
     → (EndsOutside surface (length surface.mesh.faces - suc n) f → ⊥) → IsAlongOther surface f a b → IsDeep surface n a b
 deep_on {surface} n f a b has l deep along g found outside =
     let count : ℕ = length surface.mesh.faces in
@@ -386,7 +387,7 @@ deep_on {surface} n f a b has l deep along g found outside =
       | inr more ↦ (let none : count - n ≡ 0 = omega arith in subst (λ (k : ℕ). EndsOutside surface k g) none outside)
     ]
 
-no_level : {State : Type 0} {surface : OpenView} (base inner : State → ℕ → ℕ → State) (enter : ℕ → State → State) → HasParents surface
+no_level : {State : Type 0} {surface : OpenView} (base inner : State → ℕ → ℕ → State) (enter : ℕ → State → State) → HasFaceParents surface
     → (u v : ℕ) → IsDeep surface 0 u v → (s : State) → (o : Option ℕ) → parent_face_of surface u v ≡ o
     → base s u v ≡ by_face surface base enter inner o s u v
 no_level base inner enter has u v deep s None e = refl
@@ -404,7 +405,7 @@ levels_agree surface base inner other enter u v agree s None e = refl
 levels_agree surface base inner other enter u v agree s (Some f) e = agree f (found_face surface u v f e) (enter f s)
 
 -- one level more changes nothing then
-level_more : {State : Type 0} (surface : OpenView) (base : State → ℕ → ℕ → State) (enter : ℕ → State → State) → HasParents surface
+level_more : {State : Type 0} (surface : OpenView) (base : State → ℕ → ℕ → State) (enter : ℕ → State → State) → HasFaceParents surface
     → (n u v : ℕ) → IsDeep surface n u v → (s : State) → acting surface base enter n s u v ≡ acting surface base enter (suc n) s u v
 level_more surface base enter has zero u v deep s = grind (arith, no_level)
 level_more {State} surface base enter has (suc n) u v deep s =
@@ -420,7 +421,8 @@ level_more {State} surface base enter has (suc n) u v deep s =
 abbrev pub act_fully : {State : Type 0} → OpenView → (State → ℕ → ℕ → State) → (ℕ → State → State) → State → ℕ → ℕ → State
 act_fully surface base enter = acting surface base enter (length surface.mesh.faces)
 
-pub enough_levels : {State : Type 0} {surface : OpenView} (base : State → ℕ → ℕ → State) (enter : ℕ → State → State) → HasParents surface
+pub enough_levels : {State : Type 0} {surface : OpenView} (base : State → ℕ → ℕ → State) (enter : ℕ → State → State)
+    → HasFaceParents surface
     → (u v : ℕ) (s : State)
     → act_fully surface base enter s u v
     ≡ by_face surface base enter (act_fully surface base enter) (parent_face_of surface u v) s u v
@@ -428,19 +430,19 @@ enough_levels {surface} base enter has u v s = grind (arith, level_more)
 
 -- a parent edge acts as its expansion
 pub acts_by_expansion : {State : Type 0} {surface : OpenView} (base : State → ℕ → ℕ → State) (enter : ℕ → State → State)
-    → HasParents surface
+    → HasFaceParents surface
     → {u v f : ℕ} (s : State) → IsFound surface u v f
     → act_fully surface base enter s u v
     ≡ run (act_fully surface base enter) (enter f s) u (expansion surface.mesh (parent_of surface f) u)
 acts_by_expansion {surface} base enter has {u} {v} s found = grind (arith, enough_levels, face_found)
 
 -- and another edge by the base
-pub acts_by_base : {State : Type 0} {surface : OpenView} (base : State → ℕ → ℕ → State) (enter : ℕ → State → State) → HasParents surface
+pub acts_by_base : {State : Type 0} {surface : OpenView} (base : State → ℕ → ℕ → State) (enter : ℕ → State → State) → HasFaceParents surface
     → (u v : ℕ) (s : State) → (IsParentEdge surface u v → ⊥) → act_fully surface base enter s u v ≡ base s u v
 acts_by_base {surface} base enter has u v s none = grind (arith, enough_levels, no_face_found)
 
 -- so once round each face from the corner behind its parent changes nothing
-pub faces_nothing : {State : Type 0} (surface : OpenView) (base : State → ℕ → ℕ → State) (At : ℕ → State → Type 0) → HasParents surface
+pub faces_nothing : {State : Type 0} (surface : OpenView) (base : State → ℕ → ℕ → State) (At : ℕ → State → Type 0) → HasFaceParents surface
     → ActsAnywhere base At → FacesActAsNothing surface.mesh Equal (act_fully surface base (λ f s. s)) At (λ f. Unit {0})
 faces_nothing {State} surface base At has acts = record {
   round = λ f l may. (
@@ -457,13 +459,13 @@ faces_nothing {State} surface base At has acts = record {
         let within : side.at < m = has.within f l in
         let differ : tail ≢ head = ends_differ surface.mesh side has.valid (parent_in_mesh f has l) in
         let found : IsFound surface head tail f = record { within = l; joined = inr (refl, refl) } in
-        let around : State = run act s head (beyond ring true next (m - 1)) in
+        let around : State = run act s head (vertices_beyond ring true next (m - 1)) in
         let rest : around ≡ act s head tail =
         sym (acts_by_expansion base (λ f x. x) has s found ∙ ap (run act s head) (from_head surface f head differ)) in
         let whole : m ≡ suc (m - 1) = omega arith in
         let most : corner_after true m next (m - 1) ≡ side.at = most_rising m side.at within in
         walked-round act s ring true next m
-        ∙ ap (λ (n : ℕ). run act s head (beyond ring true next n)) whole ∙ run-more act s ring true next (m - 1)
+        ∙ ap (λ (n : ℕ). run act s head (vertices_beyond ring true next n)) whole ∙ run-more act s ring true next (m - 1)
         ∙ ap (λ (c : ℕ). act around (get_or ring (corner_after true m next (m - 1)) 0) (get_or ring c 0))
         (after_more true m next (m - 1) ∙ ap (next_corner true m) most)
         ∙ ap (λ (c : ℕ). act around (get_or ring c 0) head) most

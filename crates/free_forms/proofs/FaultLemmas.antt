@@ -1,5 +1,5 @@
 -- First faults exclude each other, and an open surface.
-use Rattle.free_forms.proofs.Common.{equal, equal_pairs, one_pinch, same_name, NoEdgeHasThreeSides, IsLeastUsed, AreLeastApart, IsFirstFault, IsLeastCrowdedEdge, IsOpenSurface, OpenFault, NoFace, EdgeSides, NoBoundary, Pinched, Apart, OutOfMemory, ◌≡◌, ℕ, refl, arith, FaceList}
+use Rattle.free_forms.proofs.Common.{equal, equal_pairs, one_pinch, same_name, NoEdgeHasThreeSides, IsLeastUsed, AreLeastApart, IsFirstOpenFault, IsLeastCrowdedEdge, IsOpenSurface, OpenFault, NoFace, EdgeSides, NoBoundary, Pinched, Apart, OutOfMemory, ◌≡◌, ℕ, refl, arith, FaceList}
 
 not_few : {mesh : FaceList} {low high sides : ℕ} → IsLeastCrowdedEdge mesh low high sides → NoEdgeHasThreeSides mesh → ⊥
 not_few {low} {high} h few = omega (arith, h.number, h.crowded, few low high)
@@ -14,7 +14,7 @@ one_apart : {mesh : FaceList} {u v w : ℕ} → AreLeastApart mesh u v → AreLe
 one_apart {v} {w} h k = equal v w (λ less. h.apart (k.least v less h.used)) (λ more. k.apart (h.least w more k.used))
 
 -- there is at most one first fault
-pub one_fault : (mesh : FaceList) (fault other : OpenFault) → IsFirstFault mesh fault → IsFirstFault mesh other → fault ≡ other
+pub one_fault : (mesh : FaceList) (fault other : OpenFault) → IsFirstOpenFault mesh fault → IsFirstOpenFault mesh other → fault ≡ other
 one_fault mesh OutOfMemory other h k = absurd h
 one_fault mesh fault OutOfMemory h k = absurd k
 one_fault mesh NoFace NoFace h k = refl
@@ -44,7 +44,7 @@ one_fault mesh (Apart first second) (Pinched vertex) h k = absurd (k.vertex.pinc
 one_fault mesh (Apart u v) (Apart x y) h k = grind (arith, one_least, same_name, one_apart)
 
 -- an open surface has none
-pub no_fault : (mesh : FaceList) (fault : OpenFault) → IsOpenSurface mesh → IsFirstFault mesh fault → ⊥
+pub no_fault : (mesh : FaceList) (fault : OpenFault) → IsOpenSurface mesh → IsFirstOpenFault mesh fault → ⊥
 no_fault mesh NoFace surface h = omega (arith, surface.some_face)
 no_fault mesh (EdgeSides low high sides) surface h = not_few h.edge surface.few_sides
 no_fault mesh NoBoundary surface h = h.none surface.boundary

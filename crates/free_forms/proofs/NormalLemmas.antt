@@ -1,5 +1,5 @@
 -- Homotopic walks have one normal walk.
-use Rattle.free_forms.proofs.Common.{IsNormalWalkOf, OpenView, HasParents, IsParentEdge, ◌≡◌, ℕ, suc, ◌+◌, ◌<◌, List, [], ◌∷◌, ◌++◌, length, get_or, refl, ap, sym, ◌∙◌, subst, arith, ◌↔◌, first_answer, stays_walk, one_after_another, list_keeps_ends, list_undone, FaceList, apply, apply_all, Leads, Homotopic, way_back, IsWalk, Move, acts_exactly, moves_act_along, crosses_any, any_darts, each_any_of, run, walked, EachDart}
+use Rattle.free_forms.proofs.Common.{IsNormalWalkOf, OpenView, HasFaceParents, IsParentEdge, ◌≡◌, ℕ, suc, ◌+◌, ◌<◌, List, [], ◌∷◌, ◌++◌, length, get_or, refl, ap, sym, ◌∙◌, subst, arith, ◌↔◌, first_answer, stays_walk, one_after_another, list_keeps_ends, list_undone, FaceList, apply, apply_all, Leads, Homotopic, way_back, IsWalk, Move, acts_exactly, moves_act_along, crosses_any, any_darts, each_any_of, run, walked, EachDart}
 use Rattle.surf_model.proofs.StackLemmas.{put_on, all_put, put_keeps, same_equal, there_and_back, top_put}
 use Rattle.surf_model.specs.FreeWalks.{HasNoSpur}
 use Rattle.free_forms.proofs.Expansions.{AnyDart, Equal, ActsAnywhere, act_fully, acts_by_base, acting_acts, faces_nothing}
@@ -20,7 +20,7 @@ pub puts_act : ActsAnywhere put IsStackAt
 puts_act = grind (arith, acts_exactly, put, put_at, there_and_back)
 
 -- off the parent edges each vertex is put on
-pub puts_all : {surface : OpenView} → HasParents surface → (s : List ℕ) (u : ℕ) (vs : List ℕ)
+pub puts_all : {surface : OpenView} → HasFaceParents surface → (s : List ℕ) (u : ℕ) (vs : List ℕ)
     → EachDart (λ a b. IsParentEdge surface a b → ⊥) u vs → run (act_fully surface put (λ f x. x)) s u vs ≡ all_put s vs
 puts_all has s u [] h = refl
 puts_all {surface} has s u (v ∷ vs) h =
@@ -39,7 +39,8 @@ off_parents surface u (v ∷ vs) h = (
 )
 
 -- what a walk makes of a stack is what is left where its normal walk is put on
-walk_puts : {surface : OpenView} {walk : List ℕ} (other stack : List ℕ) → HasParents surface → 0 < length walk → IsNormalWalkOf surface walk
+walk_puts : {surface : OpenView} {walk : List ℕ} (other stack : List ℕ) → HasFaceParents surface → 0 < length walk
+    → IsNormalWalkOf surface walk
     other
     → 0 < length other → HasNoSpur stack
     → walked (act_fully surface put (λ f s. s)) (put_on stack (get_or walk 0 0)) walk ≡ all_put stack other
@@ -62,7 +63,7 @@ some_left mesh (move ∷ moves) walk next start e =
     some_left mesh moves told.0 next (stays_walk mesh walk told.0 move start told.1) told.2
 
 -- a walk has one normal walk
-pub one_normal : (surface : OpenView) (walk first second : List ℕ) → HasParents surface → 0 < length walk
+pub one_normal : (surface : OpenView) (walk first second : List ℕ) → HasFaceParents surface → 0 < length walk
     → IsNormalWalkOf surface walk first → IsNormalWalkOf surface walk second → first ≡ second
 one_normal surface walk first second has start one two =
     let some : 0 < length first = some_left surface.mesh one.homotopic.0 walk first start one.homotopic.1 in
@@ -71,7 +72,7 @@ one_normal surface walk first second has start one two =
     sym (walk_puts first stack has start one some clean) ∙ walk_puts second stack has start two any clean)
 
 -- two walks are homotopic exactly where their normal walks are equal
-pub by_normal_walks : (surface : OpenView) (walk other first second : List ℕ) → HasParents surface → IsWalk surface.mesh walk
+pub by_normal_walks : (surface : OpenView) (walk other first second : List ℕ) → HasFaceParents surface → IsWalk surface.mesh walk
     → IsWalk surface.mesh other → IsNormalWalkOf surface walk first → IsNormalWalkOf surface other second
     → Homotopic surface.mesh walk other ↔ (first ≡ second)
 by_normal_walks surface walk other first second has is_walk is_other one two =

@@ -1,5 +1,5 @@
 -- Below a dart each face is expanded once at most.
-use Rattle.free_forms.proofs.Common.{NoEdgeHasThreeSides, OpenView, HasParents, EndsOutside, parent_of, expansion, ◌≡◌, ◌≢◌, ◌⊎◌, inl, inr, ℕ, zero, suc, ◌+◌, ◌-◌, ◌<◌, ◌≤◌, true, List, [], ◌∷◌, length, get_or, refl, ap, sym, ◌∙◌, subst, arith, cases_eq, eq-eqb, nat_tests, get_or_default, Contains, Option, Some, None, filter, if◌then◌else◌, ◌==◌, Contains-filter, face_side_in, IsSide, tail_of, head_of, FaceList, FaceSide, face_at, all_sides, joins, ArePartners, Side, run}
+use Rattle.free_forms.proofs.Common.{NoEdgeHasThreeSides, OpenView, HasFaceParents, EndsOutside, parent_of, expansion, ◌≡◌, ◌≢◌, ◌⊎◌, inl, inr, ℕ, zero, suc, ◌+◌, ◌-◌, ◌<◌, ◌≤◌, true, List, [], ◌∷◌, length, get_or, refl, ap, sym, ◌∙◌, subst, arith, cases_eq, eq-eqb, nat_tests, get_or_default, Contains, Option, Some, None, filter, if◌then◌else◌, ◌==◌, Contains-filter, face_side_in, IsSide, tail_of, head_of, FaceList, FaceSide, face_at, all_sides, joins, ArePartners, Side, run}
 use Rattle.surf_model.proofs.NumberLemmas.{face_side}
 use Rattle.free_forms.proofs.Expansions.{EachAlong, IsAlong, IsFound, acting, by_face, parent_face_of, found_face, expansion_places, places_behind, places_differ, expansion_size, side_at, across}
 
@@ -79,14 +79,15 @@ none_again surface (suc most) k n f side few h crosses same =
     none_again surface most k next.0 f side (omega (arith, next.1, few)) (subst (λ (g : ℕ). EndsOutside surface next.0 g) same next.2)
     crosses same
 
-not_again : {surface : OpenView} (k f : ℕ) (side : Side) → HasParents surface → f < length surface.mesh.faces → CrossesTo surface k f side
+not_again : {surface : OpenView} (k f : ℕ) (side : Side) → HasFaceParents surface → f < length surface.mesh.faces
+    → CrossesTo surface k f side
     → side.face.0 ≡ f → ⊥
 not_again {surface} k f side has l =
     let n : ℕ = length surface.mesh.faces in
     none_again surface n k n f side (omega arith) (has.outside f l)
 
 -- a face is come to by one of its sides alone
-one_way : {surface : OpenView} (j k g : ℕ) (side other : Side) → HasParents surface → CrossesTo surface j g side
+one_way : {surface : OpenView} (j k g : ℕ) (side other : Side) → HasFaceParents surface → CrossesTo surface j g side
     → CrossesTo surface k g other → side.face.0 ≡ other.face.0 → side ≡ other
 one_way zero zero g side other has first second same = one_partner has.few_sides first second
 one_way zero (suc k) g side other has first second same =
@@ -135,7 +136,7 @@ record ComesTo (surface : OpenView) (g f : ℕ) (places : ℕ → ℕ) (i n : �
   count : ℕ
   crosses : CrossesTo surface count g (side_at f (places at))
 
-comes_to : {surface : OpenView} {g f place u v : ℕ} → HasParents surface → f < length surface.mesh.faces → IsAlong surface f place u v
+comes_to : {surface : OpenView} {g f place u v : ℕ} → HasFaceParents surface → f < length surface.mesh.faces → IsAlong surface f place u v
     → IsBelow surface g u v → (k : ℕ) × CrossesTo surface k g (side_at f place)
 comes_to {surface} {g} {f} {place} has l along below =
     let step : ArePartners surface.mesh (parent_of surface below.face) (side_at f place) = across has l along below.found in
@@ -149,7 +150,7 @@ comes_to {surface} {g} {f} {place} has l along below =
     ]
 
 -- along different sides of a face, if so below each of them
-once_along : {surface : OpenView} (g f n : ℕ) (places : ℕ → ℕ) (i : ℕ) (u : ℕ) (vs : List ℕ) (most : ℕ) → HasParents surface
+once_along : {surface : OpenView} (g f n : ℕ) (places : ℕ → ℕ) (i : ℕ) (u : ℕ) (vs : List ℕ) (most : ℕ) → HasFaceParents surface
     → f < length surface.mesh.faces → ((a b : ℕ) → a < b → b < most → places b ≢ places a)
     → ((a b : ℕ) (old : List ℕ) → OnceMore g old (listed surface n old a b) (IsBelow surface g a b))
     → EachAlong surface f places i u vs → i + length vs ≤ most → (old : List ℕ)
@@ -169,7 +170,7 @@ times_more g f faces same = rw (eq-eqb f g same) refl
 times_other : (g f : ℕ) (faces : List ℕ) → f ≢ g → times g (f ∷ faces) ≡ times g faces
 times_other g f faces other = grind (arith, nat_tests)
 
-once_entered : {surface : OpenView} (g n : ℕ) {u v f : ℕ} → HasParents surface
+once_entered : {surface : OpenView} (g n : ℕ) {u v f : ℕ} → HasFaceParents surface
     → ((a b : ℕ) (old : List ℕ) → OnceMore g old (listed surface n old a b) (IsBelow surface g a b))
     → (old : List ℕ) → IsFound surface u v f
     → OnceMore g old (run (listed surface n) (f ∷ old) u (expansion surface.mesh (parent_of surface f) u)) (IsBelow surface g u v)
@@ -186,18 +187,18 @@ once_entered {surface} g n {u} {f} has each old found =
       | inr other ↦ grind (arith, times_other, side_at)
     ]
 
-once_by_face : {surface : OpenView} (g n u v : ℕ) → HasParents surface
+once_by_face : {surface : OpenView} (g n u v : ℕ) → HasFaceParents surface
     → ((a b : ℕ) (old : List ℕ) → OnceMore g old (listed surface n old a b) (IsBelow surface g a b))
     → (old : List ℕ) (o : Option ℕ) → parent_face_of surface u v ≡ o
     → OnceMore g old (by_face surface list_on list_in (listed surface n) o old u v) (IsBelow surface g u v)
 once_by_face g n u v has each old None e = inl refl
 once_by_face {surface} g n u v has each old (Some f) e = once_entered g n has each old (found_face surface u v f e)
 
-once_below : {surface : OpenView} (g n : ℕ) → HasParents surface → (u v : ℕ) (old : List ℕ)
+once_below : {surface : OpenView} (g n : ℕ) → HasFaceParents surface → (u v : ℕ) (old : List ℕ)
     → OnceMore g old (listed surface n old u v) (IsBelow surface g u v)
 once_below g zero has u v old = inl refl
 once_below {surface} g (suc n) has u v old = once_by_face g n u v has (once_below g n has) old (parent_face_of surface u v) refl
 
 -- no face stands twice in the list
-pub listed_once : {surface : OpenView} (g n u v : ℕ) → HasParents surface → times g (listed surface n [] u v) ≤ 1
+pub listed_once : {surface : OpenView} (g n u v : ℕ) → HasFaceParents surface → times g (listed surface n [] u v) ≤ 1
 listed_once g n u v has = grind (arith, once_below)

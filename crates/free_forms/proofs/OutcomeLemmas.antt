@@ -1,11 +1,11 @@
 -- No face list is without the one or the other: it is an open surface, or it has a first fault. Nothing is decided for this.
-use Rattle.free_forms.proofs.Common.{no_edge_no_side, edge_differs, used_below, no_first_pair, no_first_used, up_to, NoEdgeHasThreeSides, EachVertexHasOneRing, IsLeastUsed, IsFirstFault, IsOpenSurface, HasBoundary, OpenFault, NoFace, EdgeSides, NoBoundary, Pinched, Apart, ◌≡◌, ◌⊎◌, inl, inr, ℕ, zero, suc, ◌<◌, ◌≤◌, true, length, refl, arith, cases_Bool, cases_lt, cases_eq, both_ways, sides_between_swap, FaceList, IsFaceList, is_used, HasOneRing, AreJoinedByWalk, sides_between}
+use Rattle.free_forms.proofs.Common.{no_edge_no_side, edge_differs, used_below, no_first_pair, no_first_used, up_to, NoEdgeHasThreeSides, EachVertexHasOneRing, IsLeastUsed, IsFirstOpenFault, IsOpenSurface, HasBoundary, OpenFault, NoFace, EdgeSides, NoBoundary, Pinched, Apart, ◌≡◌, ◌⊎◌, inl, inr, ℕ, zero, suc, ◌<◌, ◌≤◌, true, length, refl, arith, cases_Bool, cases_lt, cases_eq, both_ways, sides_between_swap, FaceList, IsFaceList, is_used, HasOneRing, AreJoinedByWalk, sides_between}
 use Rattle.connectivity.proofs.WalkLemmas.{walk_between_ends}
 use Rattle.surf_model.specs.Components.{EachTwoAreJoined}
 
 -- nothing is a first fault of the mesh
 abbrev HasNoFault : FaceList → Type 0
-HasNoFault mesh = (fault : OpenFault) → IsFirstFault mesh fault → ⊥
+HasNoFault mesh = (fault : OpenFault) → IsFirstOpenFault mesh fault → ⊥
 
 -- the edge of two vertices has few sides, where they are given the lower first
 abbrev IsFew : FaceList → ℕ → ℕ → Type 0
@@ -68,7 +68,7 @@ with_boundary {mesh} valid some few none no_surface rim =
     ])
 
 -- no face list is neither an open surface nor at fault
-pub open_or_fault : (mesh : FaceList) → IsFaceList mesh → (IsOpenSurface mesh → ⊥) → ((fault : OpenFault) → IsFirstFault mesh fault → ⊥)
+pub open_or_fault : (mesh : FaceList) → IsFaceList mesh → (IsOpenSurface mesh → ⊥) → ((fault : OpenFault) → IsFirstOpenFault mesh fault → ⊥)
     → ⊥
 open_or_fault mesh valid no_surface none =
     elim (cases_eq (length mesh.faces) 0) [

@@ -1,5 +1,5 @@
 -- The parent on an edge, found by the table of the mesh; and the way along it.
-use Rattle.free_forms.proofs.Common.{OpenView, HasParents, Joins, IsParentEdge, parent_of, expansion, IsWayAlong, ◌≡◌, ◌⊎◌, inl, ℕ, zero, suc, ◌-◌, ◌<◌, ◌≤◌, Bool, true, false, not, eqb, List, [], ◌∷◌, ◌++◌, length, get_or, refl, ap, sym, ◌∙◌, subst, arith, eqb-true, reverse-append, get_or_from_slice_get, All, Some, slice_get, reverse, cond, step_within, IsSideOfEdge, IsEdgeOfSide, side_of_edge, edge_has_side, edge_of_side, table_edge, ends_agree, corner_after, meet, IsSide, tail_of, Edge, IsTableOf, HasEnds, edge_in, FaceList, face_at, next_corner, Side, after_back, beyond_more, beyond}
+use Rattle.free_forms.proofs.Common.{OpenView, HasFaceParents, Joins, IsParentEdge, parent_of, expansion, IsWayAlong, ◌≡◌, ◌⊎◌, inl, ℕ, zero, suc, ◌-◌, ◌<◌, ◌≤◌, Bool, true, false, not, eqb, List, [], ◌∷◌, ◌++◌, length, get_or, refl, ap, sym, ◌∙◌, subst, arith, eqb-true, reverse-append, get_or_from_slice_get, All, Some, slice_get, reverse, cond, step_within, IsSideOfEdge, IsEdgeOfSide, side_of_edge, edge_has_side, edge_of_side, table_edge, ends_agree, corner_after, meet, IsSide, tail_of, Edge, IsTableOf, HasEnds, edge_in, FaceList, face_at, next_corner, Side, after_back, beyond_more, vertices_beyond}
 use Rattle.free_forms.proofs.Expansions.{ends_same, from_tail, from_head, parent_in_mesh}
 
 sides_meet : (t h u v low high : ℕ) → ((t ≡ low) × (h ≡ high)) ⊎ ((t ≡ high) × (h ≡ low))
@@ -22,7 +22,7 @@ side_of_found {mesh} {table} k j u v side h l ends few is =
     subst (IsSideOfEdge mesh edge) here (side_of_edge mesh edge j side (table_edge mesh table k h l) few) in grind (arith, sides_meet)
 
 -- vertices without an edge have no parent edge
-pub no_edge_no_parent : {surface : OpenView} {table : List Edge} (u v : ℕ) → HasParents surface → IsTableOf surface.mesh table
+pub no_edge_no_parent : {surface : OpenView} {table : List Edge} (u v : ℕ) → HasFaceParents surface → IsTableOf surface.mesh table
     → All (λ (edge : Edge). HasEnds u v edge → ⊥) table → IsParentEdge surface u v → ⊥
 no_edge_no_parent {surface} {table} u v has h none parent =
     let side : Side = parent_of surface parent.0 in
@@ -30,7 +30,7 @@ no_edge_no_parent {surface} {table} u v has h none parent =
     none found.edge _ found.in_table (ends_agree _ _ _ _ u v parent.2 found.ends)
 
 -- nor do those whose edge has no parent among its sides
-pub no_side_no_parent : {surface : OpenView} {table : List Edge} (k u v : ℕ) → HasParents surface → IsTableOf surface.mesh table
+pub no_side_no_parent : {surface : OpenView} {table : List Edge} (k u v : ℕ) → HasFaceParents surface → IsTableOf surface.mesh table
     → k < length table → HasEnds u v (edge_in table k)
     → ((j : ℕ) (d : Side) → j < length (edge_in table k).sides
     → get_or surface.places (get_or (edge_in table k).sides j d).face.0 0 ≡ (get_or (edge_in table k).sides j d).at → ⊥)
@@ -50,9 +50,9 @@ reverse_first x xs = reverse-append (x ∷ []) xs
 
 -- a way round a face, read backwards
 reverse_beyond : (ring : List ℕ) (rising : Bool) (c k : ℕ) → c < length ring
-    → reverse (beyond ring rising c (suc k))
+    → reverse (vertices_beyond ring rising c (suc k))
     ≡ get_or ring (corner_after rising (length ring) c (suc k)) 0
-    ∷ beyond ring (not rising) (corner_after rising (length ring) c (suc k)) k
+    ∷ vertices_beyond ring (not rising) (corner_after rising (length ring) c (suc k)) k
 reverse_beyond ring rising c zero l = refl
 reverse_beyond ring rising c (suc k) l =
     let m : ℕ = length ring in
@@ -60,14 +60,14 @@ reverse_beyond ring rising c (suc k) l =
     let within : next < m = step_within rising m c l in
     let far : ℕ = corner_after rising m next (suc k) in
     let near : corner_after (not rising) m far (suc k) ≡ next = after_back rising m next (suc k) within in
-    reverse_first (get_or ring next 0) (beyond ring rising next (suc k))
+    reverse_first (get_or ring next 0) (vertices_beyond ring rising next (suc k))
     ∙ ap (λ (w : List ℕ). w ++ get_or ring next 0 ∷ []) (reverse_beyond ring rising next k within)
     ∙ ap (λ (w : List ℕ). get_or ring far 0 ∷ w)
-    (ap (λ (x : ℕ). beyond ring (not rising) far k ++ get_or ring x 0 ∷ []) (sym near) ∙ sym (beyond_more ring (not rising) far k))
+    (ap (λ (x : ℕ). vertices_beyond ring (not rising) far k ++ get_or ring x 0 ∷ []) (sym near) ∙ sym (beyond_more ring (not rising) far k))
 
 -- all corners but one, read backwards
 pub reverse_others : (ring : List ℕ) (rising : Bool) (c : ℕ) → c < length ring → 2 ≤ length ring
-    → reverse (beyond ring rising c (length ring - 1)) ≡ beyond ring (not rising) c (length ring - 1)
+    → reverse (vertices_beyond ring rising c (length ring - 1)) ≡ vertices_beyond ring (not rising) c (length ring - 1)
 reverse_others ring rising c l some =
     let m : ℕ = length ring in
     let k : ℕ = m - 2 in
@@ -82,8 +82,8 @@ way_found surface side u corner true e is = inl (eqb-true (tail_of surface.mesh 
 way_found surface side u corner false e is = grind arith
 
 -- the vertices of the face but one, read backwards, are the expansion
-pub expansion_read : {surface : OpenView} (f u corner : ℕ) (forward : Bool) → HasParents surface → f < length surface.mesh.faces
+pub expansion_read : {surface : OpenView} (f u corner : ℕ) (forward : Bool) → HasFaceParents surface → f < length surface.mesh.faces
     → IsWayAlong surface (parent_of surface f) u corner forward
-    → reverse (beyond (face_at surface.mesh f) forward corner (length (face_at surface.mesh f) - 1))
+    → reverse (vertices_beyond (face_at surface.mesh f) forward corner (length (face_at surface.mesh f) - 1))
     ≡ expansion surface.mesh (parent_of surface f) u
 expansion_read {surface} f u corner forward has l way = grind (arith, reverse_others, from_tail, step_within, from_head)

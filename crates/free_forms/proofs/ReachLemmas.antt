@@ -1,5 +1,5 @@
 -- A search from the boundary of a connected surface reaches each face.
-use Rattle.free_forms.proofs.Common.{after_in_mesh, corner_used, sides_by_table, no_edge_no_side, HasSideBetween, side_between, IsOpenSurface, HasParents, SearchView, IsReached, IsSearch, IsClosedUpTo, IsStartedUpTo, ◌≡◌, inl, inr, ℕ, zero, suc, ◌+◌, ◌<◌, ◌≤◌, true, List, [], ◌∷◌, length, get_or, sym, ◌∙◌, subst, arith, cases_Bool, IsEdgeBetween, edge_between, IsSide, side_after, Edge, IsTableOf, edge_in, FaceList, IsFaceList, face_at, is_edge, IsPath, AreJoined, ArePartners, IsCornerAt, IsCornerOfSide, IsStepAround, darts, Side}
+use Rattle.free_forms.proofs.Common.{after_in_mesh, corner_used, sides_by_table, no_edge_no_side, HasSideBetween, side_between, IsOpenSurface, HasFaceParents, SearchView, IsFaceReached, IsParentSearch, IsClosedUpTo, IsStartedUpTo, ◌≡◌, inl, inr, ℕ, zero, suc, ◌+◌, ◌<◌, ◌≤◌, true, List, [], ◌∷◌, length, get_or, sym, ◌∙◌, subst, arith, cases_Bool, IsEdgeBetween, edge_between, IsSide, side_after, Edge, IsTableOf, edge_in, FaceList, IsFaceList, face_at, is_edge, IsPath, AreJoined, ArePartners, IsCornerAt, IsCornerOfSide, IsStepAround, darts, Side}
 use Rattle.free_forms.proofs.SearchLemmas.{reached_below, all_end_outside}
 
 -- a set of faces that steps across edges do not lead out of
@@ -78,13 +78,13 @@ all_in_set {mesh} In f g valid surface closed l is few =
     all_corners surface closed end to
 
 -- what the search reaches, once it has spread from each face that it reached
-closed_reached : {mesh : FaceList} {search : SearchView} → IsSearch mesh search → IsClosedUpTo mesh search (length search.order)
-    → IsClosedUnderSteps mesh (IsReached search)
+closed_reached : {mesh : FaceList} {search : SearchView} → IsParentSearch mesh search → IsClosedUpTo mesh search (length search.order)
+    → IsClosedUnderSteps mesh (IsFaceReached search)
 closed_reached {mesh} {search} h closed side other partners is = grind arith
 
 -- a search that has started on the boundary reaches some face
 some_reached : {mesh : FaceList} {table : List Edge} (search : SearchView) → IsTableOf mesh table → IsOpenSurface mesh
-    → IsStartedUpTo table search (length table) → (f : ℕ) × IsReached search f
+    → IsStartedUpTo table search (length table) → (f : ℕ) × IsFaceReached search f
 some_reached {mesh} {table} search h surface started =
     let u : ℕ = surface.boundary.0 in
     let v : ℕ = surface.boundary.1 in
@@ -99,12 +99,13 @@ some_reached {mesh} {table} search h surface started =
 
 -- so at the end each face has a parent
 pub parents_found : {mesh : FaceList} {table : List Edge} {search : SearchView} → IsFaceList mesh → IsTableOf mesh table
-    → IsOpenSurface mesh → IsSearch mesh search → IsStartedUpTo table search (length table)
-    → IsClosedUpTo mesh search (length search.order) → HasParents (record { mesh = mesh; places = search.places })
+    → IsOpenSurface mesh → IsParentSearch mesh search → IsStartedUpTo table search (length table)
+    → IsClosedUpTo mesh search (length search.order) → HasFaceParents (record { mesh = mesh; places = search.places })
 parents_found {mesh} {search} valid h surface is started closed =
     let first = some_reached search h surface started in
-    let each : (f : ℕ) → f < length mesh.faces → IsReached search f =
-    λ f l. all_in_set (IsReached search) first.0 f valid surface (closed_reached is closed) (reached_below first.0 is first.1) first.1 l in
+    let each : (f : ℕ) → f < length mesh.faces → IsFaceReached search f =
+    λ f l. all_in_set (IsFaceReached search) first.0 f valid surface (closed_reached is closed) (reached_below first.0 is first.1) first.1
+    l in
     record {
       valid = valid;
       few_sides = surface.few_sides;

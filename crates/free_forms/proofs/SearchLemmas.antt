@@ -1,9 +1,10 @@
 -- What a search of the faces has reached, as it goes on.
-use Rattle.free_forms.proofs.Common.{number_once, HasPartner, IsAlone, partner_or_alone, partners_by_number, alone_in_edge, partner_back, NoEdgeHasThreeSides, EndsOutside, SearchView, IsReached, IsSearch, Grows, NeighboursReached, IsClosedUpTo, IsStartedUpTo, with_side, parent_in, bit, ◌≡◌, ◌≢◌, ◌⊎◌, inl, inr, ℕ, zero, suc, ◌+◌, ◌<◌, ◌≤◌, Bool, true, false, List, [], ◌∷◌, ◌++◌, length, get_or, set, refl, ap, sym, ◌∙◌, subst, arith, length-append, cases_Bool, cases_eq, cases_lt, common_steps, length-set, get_or-set_same, get_or-set_other, sum_by-set, sum_by-cons, get_or_from_slice_get, sum_by, cond, Some, slice_get, IsSideOfEdge, side_of_edge, table_edge, IsSide, side_number, Edge, IsTableOf, edge_in, FaceList, face_at, ArePartners, Side}
+use Rattle.free_forms.proofs.Common.{number_once, HasPartner, IsAlone, partner_or_alone, partners_by_number, alone_in_edge, partner_back, NoEdgeHasThreeSides, EndsOutside, SearchView, IsFaceReached, IsParentSearch, Grows, NeighboursReached, IsClosedUpTo, IsStartedUpTo, with_side, parent_in, bit, ◌≡◌, ◌≢◌, ◌⊎◌, inl, inr, ℕ, zero, suc, ◌+◌, ◌<◌, ◌≤◌, Bool, true, false, List, [], ◌∷◌, ◌++◌, length, get_or, set, refl, ap, sym, ◌∙◌, subst, arith, length-append, cases_Bool, cases_eq, cases_lt, common_steps, length-set, get_or-set_same, get_or-set_other, sum_by-set, sum_by-cons, get_or_from_slice_get, sum_by, cond, Some, slice_get, IsSideOfEdge, side_of_edge, table_edge, IsSide, side_number, Edge, IsTableOf, edge_in, FaceList, face_at, ArePartners, Side}
 use Rattle.surf_model.specs.EdgeDarts.{IsNextInEdge}
 
 -- only faces of the mesh are reached
-pub reached_below : {mesh : FaceList} {search : SearchView} (f : ℕ) → IsSearch mesh search → IsReached search f → f < length mesh.faces
+pub reached_below : {mesh : FaceList} {search : SearchView} (f : ℕ) → IsParentSearch mesh search → IsFaceReached search f
+    → f < length mesh.faces
 reached_below {search} f h is = grind (arith, common_steps)
 
 few_bits : (marks : List Bool) → sum_by bit marks ≤ length marks
@@ -12,7 +13,7 @@ few_bits (true ∷ marks) = omega (arith, few_bits marks, sum_by-cons bit true m
 few_bits (false ∷ marks) = omega (arith, few_bits marks, sum_by-cons bit false marks)
 
 -- no more faces are reached than there are
-pub few_reached : {mesh : FaceList} {search : SearchView} → IsSearch mesh search → length search.order ≤ length mesh.faces
+pub few_reached : {mesh : FaceList} {search : SearchView} → IsParentSearch mesh search → length search.order ≤ length mesh.faces
 few_reached {search} h = omega (arith, h.counted, h.each_mark, few_bits search.reached)
 
 pub grows_refl : (search : SearchView) → Grows search search
@@ -23,9 +24,9 @@ grows_trans h k = grind arith
 
 -- what a search is once a side has been reached
 pub record IsMoreBy (mesh : FaceList) (old new : SearchView) (side : Side) : Type 0 where
-  pub search : IsSearch mesh new
+  pub search : IsParentSearch mesh new
   pub grows : Grows old new
-  pub reached : IsReached new side.face.0
+  pub reached : IsFaceReached new side.face.0
 
 -- the search with a face that was not reached before
 abbrev with_new : SearchView → Side → SearchView
@@ -43,30 +44,30 @@ by_mark search side b e = ap (λ (c : Bool). cond c search (with_new search side
 last_entry : (xs : List ℕ) (x : ℕ) → get_or (xs ++ x ∷ []) (length xs) 0 ≡ x
 last_entry xs x = grind (arith, common_steps)
 
-new_reached : {mesh : FaceList} {old : SearchView} (side : Side) → IsSearch mesh old → side.face.0 < length mesh.faces
-    → IsReached (with_new old side) side.face.0
+new_reached : {mesh : FaceList} {old : SearchView} (side : Side) → IsParentSearch mesh old → side.face.0 < length mesh.faces
+    → IsFaceReached (with_new old side) side.face.0
 new_reached {old} side h l = get_or-set_same old.reached side.face.0 true false (omega (arith, h.each_mark, l))
 
-stays_reached : (old : SearchView) (side : Side) (f : ℕ) → IsReached old f → get_or old.reached side.face.0 false ≡ false
-    → IsReached (with_new old side) f
+stays_reached : (old : SearchView) (side : Side) (f : ℕ) → IsFaceReached old f → get_or old.reached side.face.0 false ≡ false
+    → IsFaceReached (with_new old side) f
 stays_reached old side f is not = grind (arith, common_steps)
 
-was_reached : (old : SearchView) (side : Side) (f : ℕ) → f ≢ side.face.0 → IsReached (with_new old side) f → IsReached old f
+was_reached : (old : SearchView) (side : Side) (f : ℕ) → f ≢ side.face.0 → IsFaceReached (with_new old side) f → IsFaceReached old f
 was_reached old side f other is = sym (get_or-set_other old.reached side.face.0 f true false other) ∙ is
 
 new_grows : (old : SearchView) (side : Side) → get_or old.reached side.face.0 false ≡ false → Grows old (with_new old side)
 new_grows old side not = grind (arith, common_steps, stays_reached)
 
-new_search : {mesh : FaceList} {old : SearchView} {side : Side} → IsSearch mesh old → IsSide mesh side
-    → ((other : Side) → ArePartners mesh side other → IsReached old other.face.0) → get_or old.reached side.face.0 false ≡ false
-    → IsSearch mesh (with_new old side)
+new_search : {mesh : FaceList} {old : SearchView} {side : Side} → IsParentSearch mesh old → IsSide mesh side
+    → ((other : Side) → ArePartners mesh side other → IsFaceReached old other.face.0) → get_or old.reached side.face.0 false ≡ false
+    → IsParentSearch mesh (with_new old side)
 new_search {mesh} {old} {side} h is before not =
     let f : ℕ = side.face.0 in
     let new : SearchView = with_new old side in
     let n : ℕ = length old.order in
     let long : length new.order ≡ n + 1 = length-append old.order (f ∷ []) in
     let grows : Grows old new = new_grows old side not in
-    let apart : (g : ℕ) → IsReached old g → g ≢ f = λ g reached same.
+    let apart : (g : ℕ) → IsFaceReached old g → g ≢ f = λ g reached same.
     (let this : get_or old.reached f false ≡ true = ap (λ (x : ℕ). get_or old.reached x false) (sym same) ∙ reached in
     cc) in
     let place : (g : ℕ) → g ≢ f → get_or new.places g 0 ≡ get_or old.places g 0 =
@@ -87,11 +88,11 @@ new_search {mesh} {old} {side} h is before not =
             (at.0, omega (arith, at.1, long), grows.order at.0 at.1 ∙ at.2))
       ];
       in_marks = λ j l. elim (cases_lt j n) [
-        | inl less ↦ subst (IsReached new) (sym (grows.order j less)) (grows.reached (get_or old.order j 0) (h.in_marks j less))
+        | inl less ↦ subst (IsFaceReached new) (sym (grows.order j less)) (grows.reached (get_or old.order j 0) (h.in_marks j less))
         | inr more ↦
             (let last : n ≡ j = omega (arith, l, more, long) in
-            subst (λ (k : ℕ). IsReached new (get_or new.order k 0)) last
-            (subst (IsReached new) (sym (last_entry old.order f)) (new_reached side h is.face)))
+            subst (λ (k : ℕ). IsFaceReached new (get_or new.order k 0)) last
+            (subst (IsFaceReached new) (sym (last_entry old.order f)) (new_reached side h is.face)))
       ];
       within = λ g reached. elim (cases_eq g f) [
         | inl same ↦
@@ -121,8 +122,9 @@ new_search {mesh} {old} {side} h is before not =
     named f t = record { face = record { 0 = f }; at = t }
 
 -- a side is reached whose partners lie in faces that were reached before
-pub search_more : {mesh : FaceList} {old : SearchView} (new : SearchView) {side : Side} → IsSearch mesh old → IsSide mesh side
-    → ((other : Side) → ArePartners mesh side other → IsReached old other.face.0) → new ≡ with_side old side → IsMoreBy mesh old new side
+pub search_more : {mesh : FaceList} {old : SearchView} (new : SearchView) {side : Side} → IsParentSearch mesh old → IsSide mesh side
+    → ((other : Side) → ArePartners mesh side other → IsFaceReached old other.face.0) → new ≡ with_side old side
+    → IsMoreBy mesh old new side
 search_more {mesh} {old} new {side} h is before new_is =
     subst (λ (s : SearchView). IsMoreBy mesh old s side) (sym new_is) (elim (cases_Bool (get_or old.reached side.face.0 false)) [
       | inl marked ↦ grind (arith, by_mark, grows_refl)
@@ -143,7 +145,7 @@ pub started_stay : (table : List Edge) {old new : SearchView} (n : ℕ) → Grow
 started_stay table n grows h k d l few one = grows.reached _ (h k d l few one)
 
 -- crossing parents goes down the order, so it ends
-ends_outside : {mesh : FaceList} {search : SearchView} (n j : ℕ) → IsSearch mesh search → j < n → j < length search.order
+ends_outside : {mesh : FaceList} {search : SearchView} (n j : ℕ) → IsParentSearch mesh search → j < n → j < length search.order
     → EndsOutside (record { mesh = mesh; places = search.places }) n (get_or search.order j 0)
 ends_outside zero j h l few = absurd (omega arith)
 ends_outside {mesh} {search} (suc n) j h l few = λ other partners.
@@ -151,7 +153,7 @@ ends_outside {mesh} {search} (suc n) j h l few = λ other partners.
     subst (EndsOutside (record { mesh = mesh; places = search.places }) n) at.2
     (ends_outside n at.0 h (omega (arith, l, at.1)) (omega (arith, few, at.1)))
 
-pub all_end_outside : {mesh : FaceList} {search : SearchView} (f : ℕ) → IsSearch mesh search → IsReached search f
+pub all_end_outside : {mesh : FaceList} {search : SearchView} (f : ℕ) → IsParentSearch mesh search → IsFaceReached search f
     → EndsOutside (record { mesh = mesh; places = search.places }) (length mesh.faces) f
 all_end_outside {mesh} {search} f h is = grind (arith, ends_outside, few_reached)
 
@@ -174,11 +176,12 @@ side_of_one k side h l one is = (first_side k side h l one is).side_of
 
 -- the search that has started on the boundary edges up to edge n
 pub record HasStarted (mesh : FaceList) (table : List Edge) (search : SearchView) (n : ℕ) : Type 0 where
-  pub search_of : IsSearch mesh search
+  pub search_of : IsParentSearch mesh search
   pub started : IsStartedUpTo table search n
 
 started_more : (table : List Edge) (search : SearchView) (k : ℕ)
-    → ((d : Side) → k < length table → length (edge_in table k).sides ≡ 1 → IsReached search (get_or (edge_in table k).sides 0 d).face.0)
+    → ((d : Side) → k < length table → length (edge_in table k).sides ≡ 1
+    → IsFaceReached search (get_or (edge_in table k).sides 0 d).face.0)
     → IsStartedUpTo table search k → IsStartedUpTo table search (k + 1)
 started_more table search k here h j d l few one = grind arith
 
@@ -200,12 +203,12 @@ start_other {table} {search} {k} other from = grind (arith, started_more)
 
 -- the search that has gone on from the first sides of a face, up to place n
 pub record HasSpread (mesh : FaceList) (first search : SearchView) (f n : ℕ) : Type 0 where
-  pub search_of : IsSearch mesh search
+  pub search_of : IsParentSearch mesh search
   pub grows : Grows first search
   pub reached : NeighboursReached mesh search f n
 
 pub spread_more : {mesh : FaceList} {table : List Edge} {first old : SearchView} (new : SearchView) {f t dart next : ℕ} {other : Side}
-    → IsTableOf mesh table → NoEdgeHasThreeSides mesh → f < length mesh.faces → t < length (face_at mesh f) → IsReached first f
+    → IsTableOf mesh table → NoEdgeHasThreeSides mesh → f < length mesh.faces → t < length (face_at mesh f) → IsFaceReached first f
     → dart ≡ side_number mesh (record { face = record { 0 = f }; at = t }) → IsNextInEdge mesh table dart next
     → IsSide mesh other → side_number mesh other ≡ next
     → HasSpread mesh first old f t → new ≡ with_side old other → HasSpread mesh first new f (t + 1)
@@ -216,7 +219,7 @@ spread_more {mesh} {table} {old} new {f} {t} {dart} {next} {other} h few l place
     partner_or_alone mesh table side dart next h few is_side number follows in
     let more : IsMoreBy mesh old new other = elim found [
       | inl partner ↦
-          search_more new from.search_of is (λ back partners. subst (λ (s : Side). IsReached old s.face.0)
+          search_more new from.search_of is (λ back partners. subst (λ (s : Side). IsFaceReached old s.face.0)
           (sym (partner_back mesh side other back next partner (partners_by_number mesh side other next partner is other_is) partners))
           (from.grows.reached f reached)) new_is
       | inr alone ↦
@@ -224,11 +227,11 @@ spread_more {mesh} {table} {old} new {f} {t} {dart} {next} {other} h few l place
           search_more new from.search_of is
           (λ back partners. absurd (alone.1 back (subst (λ (s : Side). ArePartners mesh s back) same partners))) new_is)
     ] in
-    let here : (partner : Side) → ArePartners mesh side partner → IsReached new partner.face.0 = λ partner partners. elim found [
+    let here : (partner : Side) → ArePartners mesh side partner → IsFaceReached new partner.face.0 = λ partner partners. elim found [
       | inl has ↦
           (let this : other ≡ partner =
           has.only other (partners_by_number mesh side other next has is other_is) ∙ sym (has.only partner partners) in
-          subst (λ (s : Side). IsReached new s.face.0) this more.reached)
+          subst (λ (s : Side). IsFaceReached new s.face.0) this more.reached)
       | inr alone ↦ absurd (alone.1 partner partners)
     ] in
     record {

@@ -1,5 +1,5 @@
 -- What a step of a reduction does: the moves lead on, the normal part stays normal, and less is to come.
-use Rattle.free_forms.proofs.Common.{one_more, IsNormal, OpenView, HasParents, Joins, IsParentEdge, parent_of, expansion, LeadsAtPeak, ReductionView, settled, whole, IsTaken, StepsBack, StepsOn, SkipsSpur, Expands, IsWayAlong, IsStep, ◌≡◌, ◌≢◌, inl, inr, ℕ, zero, suc, ◌+◌, ◌-◌, ◌<◌, ◌≤◌, Bool, not, max, List, [], ◌∷◌, ◌++◌, length, get_or, refl, ap, sym, ◌∙◌, subst, arith, append_assoc, length-append, cases_lt, common_steps, get_or_append_left, Option, Some, None, step_within, ends_differ, by_replacing, head_of, FaceList, face_at, corners_from, PeakedMoves, apply, darts, Side, Move, Remove, Across, after_back, corners_beyond, run-append, run}
+use Rattle.free_forms.proofs.Common.{one_more, IsNormal, OpenView, HasFaceParents, Joins, IsParentEdge, parent_of, expansion, LeadsAtPeak, ReductionView, settled, whole, IsTaken, StepsBack, StepsOn, SkipsSpur, Expands, IsWayAlong, IsStep, ◌≡◌, ◌≢◌, inl, inr, ℕ, zero, suc, ◌+◌, ◌-◌, ◌<◌, ◌≤◌, Bool, not, max, List, [], ◌∷◌, ◌++◌, length, get_or, refl, ap, sym, ◌∙◌, subst, arith, append_assoc, length-append, cases_lt, common_steps, get_or_append_left, Option, Some, None, step_within, ends_differ, by_replacing, head_of, FaceList, face_at, corners_from, PeakedMoves, apply, darts, Side, Move, Remove, Across, after_back, corners_beyond, run-append, run}
 use Rattle.free_forms.proofs.Expansions.{act_fully, acting, by_face, parent_face_of, acts_by_base, acts_by_expansion, IsFound, expansion_ends, from_tail, from_head, parent_in_mesh}
 
 -- how much is to come: each dart counts as many as its expansion comes to, and one more if it has one
@@ -43,12 +43,12 @@ level_counts surface (suc n) s u v =
     face_counts surface (acting surface count_on count_in n) (level_counts surface n) (parent_face_of surface u v) s u v
 
 -- a dart off the parent edges counts one
-weight_free : {surface : OpenView} (u v : ℕ) (vs : List ℕ) → HasParents surface → (IsParentEdge surface u v → ⊥)
+weight_free : {surface : OpenView} (u v : ℕ) (vs : List ℕ) → HasFaceParents surface → (IsParentEdge surface u v → ⊥)
     → weight surface u (v ∷ vs) ≡ suc (weight surface v vs)
 weight_free {surface} u v vs has free = grind (arith, acts_by_base, run_from, count_from)
 
 -- a dart along a parent edge counts one more than its expansion
-pub weight_parent : {surface : OpenView} {f u v : ℕ} (vs : List ℕ) → HasParents surface → IsFound surface u v f
+pub weight_parent : {surface : OpenView} {f u v : ℕ} (vs : List ℕ) → HasFaceParents surface → IsFound surface u v f
     → weight surface u (v ∷ vs) ≡ suc (weight surface u (expansion surface.mesh (parent_of surface f) u ++ vs))
 weight_parent {surface} {f} {u} {v} vs has found =
     let act : ℕ → ℕ → ℕ → ℕ = act_fully surface count_on count_in in
@@ -144,7 +144,7 @@ spur_goes mesh front rest here via =
       replaces = (here, refl, refl);
     })
 
-stepped_back : {surface : OpenView} {first : List ℕ} {old : ReductionView} {next : ℕ} {new : ReductionView} → HasParents surface
+stepped_back : {surface : OpenView} {first : List ℕ} {old : ReductionView} {next : ℕ} {new : ReductionView} → HasFaceParents surface
     → LeadsAtPeak surface.mesh first old.list (old.front ++ old.last ∷ next ∷ old.coming) → IsNormal surface (settled old)
     → StepsBack old next new → HasStepped surface first old next new
 stepped_back {surface} {first} {old} {next} {new} has leads normal step =
@@ -186,7 +186,7 @@ stepped_back {surface} {first} {old} {next} {new} has leads normal step =
           omega (arith, fewer, same));
     }
 
-stepped_on : {surface : OpenView} {first : List ℕ} {old : ReductionView} {next : ℕ} {new : ReductionView} → HasParents surface
+stepped_on : {surface : OpenView} {first : List ℕ} {old : ReductionView} {next : ℕ} {new : ReductionView} → HasFaceParents surface
     → LeadsAtPeak surface.mesh first old.list (old.front ++ old.last ∷ next ∷ old.coming) → IsNormal surface (settled old)
     → StepsOn surface old next new → HasStepped surface first old next new
 stepped_on {surface} {first} {old} {next} has leads normal step =
@@ -206,12 +206,12 @@ record IsWay (surface : OpenView) (f u v corner : ℕ) (forward : Bool) : Type 0
   around : corners_from (face_at surface.mesh f) (not forward) corner (length (face_at surface.mesh f) - 1)
       ≡ u ∷ expansion surface.mesh (parent_of surface f) u
 
-way_along : {surface : OpenView} {f u v : ℕ} (corner : ℕ) (forward : Bool) → HasParents surface → IsFound surface u v f
+way_along : {surface : OpenView} {f u v : ℕ} (corner : ℕ) (forward : Bool) → HasFaceParents surface → IsFound surface u v f
     → IsWayAlong surface (parent_of surface f) u corner forward → IsWay surface f u v corner forward
 way_along {surface} {f} {u} {v} corner forward has found way =
     grind (arith, head_of, ends_differ, parent_in_mesh, corners_beyond, from_tail, after_back, step_within, from_head)
 
-face_crossed : {surface : OpenView} {f u v : ℕ} (corner : ℕ) (forward : Bool) (front rest : List ℕ) → HasParents surface
+face_crossed : {surface : OpenView} {f u v : ℕ} (corner : ℕ) (forward : Bool) (front rest : List ℕ) → HasFaceParents surface
     → IsFound surface u v f → IsWayAlong surface (parent_of surface f) u corner forward
     → apply surface.mesh (front ++ u ∷ v ∷ rest) (Across (length front) (record { 0 = f }) corner forward 1)
     ≡ Some (front ++ u ∷ (expansion surface.mesh (parent_of surface f) u ++ rest))
@@ -231,7 +231,7 @@ face_crossed {surface} {f} {u} {v} corner forward front rest has found way =
       replaces = (found.within, w.within, omega (arith, w.within), sym w.along, sym w.around);
     })
 
-has_expanded : {surface : OpenView} {first : List ℕ} {old : ReductionView} {next : ℕ} {new : ReductionView} → HasParents surface
+has_expanded : {surface : OpenView} {first : List ℕ} {old : ReductionView} {next : ℕ} {new : ReductionView} → HasFaceParents surface
     → LeadsAtPeak surface.mesh first old.list (old.front ++ old.last ∷ next ∷ old.coming) → IsNormal surface (settled old)
     → Expands surface old next new → HasStepped surface first old next new
 has_expanded {surface} {first} {old} {next} {new} has leads normal step =
@@ -300,7 +300,8 @@ has_skipped {surface} {first} {old} {next} {new} leads normal step =
     }
 
 -- each step does so
-pub has_stepped : {surface : OpenView} {first : List ℕ} (old taken : ReductionView) (next : ℕ) (new : ReductionView) → HasParents surface
+pub has_stepped : {surface : OpenView} {first : List ℕ} (old taken : ReductionView) (next : ℕ) (new : ReductionView)
+    → HasFaceParents surface
     → LeadsAtPeak surface.mesh first old.list (whole old) → IsNormal surface (settled old) → IsTaken old next taken
     → IsStep surface taken next new → HasStepped surface first taken next new
 has_stepped {surface} {first} old taken next new has leads normal is_taken step =

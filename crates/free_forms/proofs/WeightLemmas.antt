@@ -1,6 +1,6 @@
 -- A dart weighs one, and as much as the faces that are expanded below it have sides but one each. So it weighs no more than the mesh has
 -- sides.
-use Rattle.free_forms.proofs.Common.{OpenView, HasParents, parent_of, expansion, ◌≡◌, inl, inr, ℕ, zero, suc, ◌+◌, ◌-◌, ◌*◌, ◌<◌, ◌≤◌, List, [], ◌∷◌, length, take, refl, ap, sym, ◌∙◌, arith, cases_eq, eq-eqb, nat_tests, take_more, take_all, sum_by-cons, sum_by_push, All, Option, Some, None, sum_by, FaceList, face_at, total_sides, run}
+use Rattle.free_forms.proofs.Common.{OpenView, HasFaceParents, parent_of, expansion, ◌≡◌, inl, inr, ℕ, zero, suc, ◌+◌, ◌-◌, ◌*◌, ◌<◌, ◌≤◌, List, [], ◌∷◌, length, take, refl, ap, sym, ◌∙◌, arith, cases_eq, eq-eqb, nat_tests, take_more, take_all, sum_by-cons, sum_by_push, All, Option, Some, None, sum_by, FaceList, face_at, total_sides, run}
 use Rattle.std.proofs.lemmas.List.Elements.{All-nil, All-cons}
 use Rattle.free_forms.proofs.Expansions.{acting, by_face, parent_face_of, found_face, expansion_size}
 use Rattle.free_forms.proofs.OnceLemmas.{list_on, list_in, listed, times, listed_once}
@@ -150,7 +150,7 @@ sum_faces mesh (suc n) some l =
     omega (arith, more, sum_faces mesh n some (omega arith), some n (omega arith))
 
 -- a dart and all faces weigh no more than one and all sides
-pub dart_bound : {surface : OpenView} (u v : ℕ) → HasParents surface
+pub dart_bound : {surface : OpenView} (u v : ℕ) → HasFaceParents surface
     → counted surface (length surface.mesh.faces) 0 u v + length surface.mesh.faces ≤ total_sides surface.mesh + 1
 dart_bound {surface} u v has =
     let mesh : FaceList = surface.mesh in
@@ -169,7 +169,7 @@ dart_bound {surface} u v has =
     )
 
 -- so the weight of a way is at most that of its darts
-pub weight_bound : {surface : OpenView} (most u : ℕ) (vs : List ℕ) → HasParents surface → 0 < most → total_sides surface.mesh ≤ most
+pub weight_bound : {surface : OpenView} (most u : ℕ) (vs : List ℕ) → HasFaceParents surface → 0 < most → total_sides surface.mesh ≤ most
     → weight surface u vs ≤ length vs * most
 weight_bound {surface} most u vs has some few = omega (arith, go 0 u vs)
   where

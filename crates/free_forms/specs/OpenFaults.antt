@@ -17,7 +17,7 @@ pub record IsLeastCrowdedEdge (mesh : FaceList) (low high sides : ℕ) : Type 0 
   pub least : (a b : ℕ) → a < b → IsPairBefore a b low high → sides_between mesh a b ≤ 2
 
 -- an edge is at fault, where there is a face
-pub record IsEdgeFault (mesh : FaceList) (low high sides : ℕ) : Type 0 where
+pub record IsOpenEdgeFault (mesh : FaceList) (low high sides : ℕ) : Type 0 where
   pub some_face : 0 < length mesh.faces
   pub edge : IsLeastCrowdedEdge mesh low high sides
 
@@ -28,7 +28,7 @@ pub record IsBoundaryFault (mesh : FaceList) : Type 0 where
   pub none : HasBoundary mesh → ⊥
 
 -- a vertex is pinched, where there is a boundary too
-pub record IsPinchFault (mesh : FaceList) (v : ℕ) : Type 0 where
+pub record IsOpenPinchFault (mesh : FaceList) (v : ℕ) : Type 0 where
   pub some_face : 0 < length mesh.faces
   pub few_sides : NoEdgeHasThreeSides mesh
   pub boundary : HasBoundary mesh
@@ -43,13 +43,13 @@ pub record IsApartFault (mesh : FaceList) (u v : ℕ) : Type 0 where
   pub vertices : AreLeastApart mesh u v
 
 -- the condition of the fault is the first that fails, and its element is the least; want of memory is no fault of the mesh
-abbrev pub IsFirstFault : FaceList → OpenFault → Type 0
-IsFirstFault mesh NoFace = length mesh.faces ≡ 0
-IsFirstFault mesh (EdgeSides low high sides) = IsEdgeFault mesh low.0 high.0 sides
-IsFirstFault mesh NoBoundary = IsBoundaryFault mesh
-IsFirstFault mesh (Pinched vertex) = IsPinchFault mesh vertex.0
-IsFirstFault mesh (Apart vertex other) = IsApartFault mesh vertex.0 other.0
-IsFirstFault mesh OutOfMemory = ⊥
+abbrev pub IsFirstOpenFault : FaceList → OpenFault → Type 0
+IsFirstOpenFault mesh NoFace = length mesh.faces ≡ 0
+IsFirstOpenFault mesh (EdgeSides low high sides) = IsOpenEdgeFault mesh low.0 high.0 sides
+IsFirstOpenFault mesh NoBoundary = IsBoundaryFault mesh
+IsFirstOpenFault mesh (Pinched vertex) = IsOpenPinchFault mesh vertex.0
+IsFirstOpenFault mesh (Apart vertex other) = IsApartFault mesh vertex.0 other.0
+IsFirstOpenFault mesh OutOfMemory = ⊥
 
 -- the first edge of a table that has three or more sides
 pub record IsFirstCrowded (table : List Edge) (k : ℕ) : Type 0 where

@@ -5,7 +5,7 @@ use Rattle.surf_model.specs.Darts.{tail_of, head_of}
 use Rattle.surf_model.specs.Surfaces.{ArePartners}
 use Rattle.surf_model.specs.declared.edges.Side.{Side}
 use Rattle.connectivity.specs.Joined.{NoEdgeHasThreeSides}
-use Rattle.walk_actions.specs.Actions.{beyond}
+use Rattle.walk_actions.specs.Actions.{vertices_beyond}
 
 -- a mesh, and for each face the place of its parent among its sides
 pub record OpenView : Type 0 where
@@ -23,7 +23,7 @@ EndsOutside surface zero f = ⊥
 EndsOutside surface (suc n) f = (other : Side) → ArePartners surface.mesh (parent_of surface f) other → EndsOutside surface n other.face.0
 
 -- each face has a parent, and no way across parents goes round
-pub record HasParents (surface : OpenView) : Type 0 where
+pub record HasFaceParents (surface : OpenView) : Type 0 where
   pub valid : IsFaceList surface.mesh
   pub few_sides : NoEdgeHasThreeSides surface.mesh
   pub each_face : length surface.places ≡ length surface.mesh.faces
@@ -43,5 +43,5 @@ abbrev pub expansion : FaceList → Side → ℕ → List ℕ
 expansion mesh side u =
     let ring = face_at mesh side.face.0 in
     if tail_of mesh side == u
-    then beyond ring false side.at (length ring - 1)
-    else beyond ring true (next_corner true (length ring) side.at) (length ring - 1)
+    then vertices_beyond ring false side.at (length ring - 1)
+    else vertices_beyond ring true (next_corner true (length ring) side.at) (length ring - 1)

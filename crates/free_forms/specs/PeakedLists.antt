@@ -7,7 +7,7 @@ use Rattle.surf_model.specs.declared.moves.Move.{Move}
 use Rattle.surf_model.specs.declared.moves.Move.TheVariants.{Insert, Remove, Across}
 
 -- the moves are no more than n, and neither is the peak
-pub record IsWithin (n : ℕ) (list : PeakedMoves) : Type 0 where
+pub record IsListWithin (n : ℕ) (list : PeakedMoves) : Type 0 where
   pub moves : length list.moves ≤ n
   pub peak : list.peak ≤ n
 

@@ -94,8 +94,8 @@ pub record Expands (surface : OpenView) (old : ReductionView) (next : ℕ) (new 
       }
 
 -- there is room for the face of a parent edge that the next step goes along
-abbrev pub HasRoom : OpenView → ReductionView → ℕ → Type 0
-HasRoom surface state next =
+abbrev pub HasFaceRoom : OpenView → ReductionView → ℕ → Type 0
+HasFaceRoom surface state next =
     (f : ℕ) → f < length surface.mesh.faces → Joins surface.mesh (parent_of surface f) state.last next
     → darts_in state + length (face_at surface.mesh f) ≤ MOST_PEAK
 

@@ -14,12 +14,12 @@ pub record SearchView : Type 0 where
   pub places : List ℕ
 
 -- what a search has come to
-abbrev pub found_by : Search → SearchView
-found_by search = record { order = search.order.items; reached = search.reached.items; places = search.places.items }
+abbrev pub view_of_search : Search → SearchView
+view_of_search search = record { order = search.order.items; reached = search.reached.items; places = search.places.items }
 
 -- a face is reached
-abbrev pub IsReached : SearchView → ℕ → Type 0
-IsReached search f = IsTrue (slice_index_or search.reached f false)
+abbrev pub IsFaceReached : SearchView → ℕ → Type 0
+IsFaceReached search f = IsTrue (slice_index_or search.reached f false)
 
 -- the search once the face of a side is reached by that side: nothing changes where it was reached before
 abbrev pub with_side : SearchView → Side → SearchView
@@ -41,13 +41,13 @@ abbrev pub bit : Bool → ℕ
 bit b = if b then 1 else 0
 
 -- crossing the parent of a face leads to a face that was reached before it
-pub record IsSearch (mesh : FaceList) (search : SearchView) : Type 0 where
+pub record IsParentSearch (mesh : FaceList) (search : SearchView) : Type 0 where
   pub each_place : length search.places ≡ length mesh.faces
   pub each_mark : length search.reached ≡ length mesh.faces
   pub counted : sum_by bit search.reached ≡ length search.order
-  pub in_order : (f : ℕ) → IsReached search f → (j : ℕ) × (j < length search.order) × (slice_index search.order j ≡ f)
-  pub in_marks : (j : ℕ) → j < length search.order → IsReached search (slice_index search.order j)
-  pub within : (f : ℕ) → IsReached search f → slice_index search.places f < length (face_at mesh f)
+  pub in_order : (f : ℕ) → IsFaceReached search f → (j : ℕ) × (j < length search.order) × (slice_index search.order j ≡ f)
+  pub in_marks : (j : ℕ) → j < length search.order → IsFaceReached search (slice_index search.order j)
+  pub within : (f : ℕ) → IsFaceReached search f → slice_index search.places f < length (face_at mesh f)
   pub falls : (j : ℕ) (other : Side) → j < length search.order
       → ArePartners mesh (parent_in mesh search (slice_index search.order j)) other
       → (i : ℕ) × (i < j) × (slice_index search.order i ≡ other.face.0)
@@ -56,13 +56,13 @@ pub record IsSearch (mesh : FaceList) (search : SearchView) : Type 0 where
 pub record Grows (old new : SearchView) : Type 0 where
   pub more : length old.order ≤ length new.order
   pub order : (j : ℕ) → j < length old.order → slice_index new.order j ≡ slice_index old.order j
-  pub reached : (f : ℕ) → IsReached old f → IsReached new f
+  pub reached : (f : ℕ) → IsFaceReached old f → IsFaceReached new f
 
 -- across the first sides of a face, up to place n, all faces are reached
 abbrev pub NeighboursReached : FaceList → SearchView → ℕ → ℕ → Type 0
 NeighboursReached mesh search f n =
     (t : ℕ) (other : Side) → t < n → t < length (face_at mesh f) → ArePartners mesh (record { face = record { 0 = f }; at = t }) other
-    → IsReached search other.face.0
+    → IsFaceReached search other.face.0
 
 -- the same of the first faces in order
 abbrev pub IsClosedUpTo : FaceList → SearchView → ℕ → Type 0
@@ -74,4 +74,4 @@ IsClosedUpTo mesh search n =
 abbrev pub IsStartedUpTo : List Edge → SearchView → ℕ → Type 0
 IsStartedUpTo table search n =
     (k : ℕ) (d : Side) → k < n → k < length table → length (edge_in table k).sides ≡ 1
-    → IsReached search (slice_index_or (edge_in table k).sides 0 d).face.0
+    → IsFaceReached search (slice_index_or (edge_in table k).sides 0 d).face.0

@@ -2,7 +2,7 @@
 ghost use Rattle.std.specs.Prelude.{◌≡◌, ◌≢◌, ◌⊎◌, ◌≤◌, ℕ, ◌<◌, length, Err, OnOk, IfErr, IfSome, IfNone};
 ghost use Rattle.surf_model.specs.Edges.{IsTableOf, edge_in};
 ghost use Rattle.free_forms.specs.OpenSurfaces.{IsOpenSurface};
-ghost use Rattle.free_forms.specs.OpenFaults.{IsFirstFault, IsFirstCrowded, IsBoundaryEdge};
+ghost use Rattle.free_forms.specs.OpenFaults.{IsFirstOpenFault, IsFirstCrowded, IsBoundaryEdge};
 
 use crate::fault::OpenFault;
 use connectivity::{pinched_vertex, vertices_apart};
@@ -16,10 +16,10 @@ use surf_model::{EdgeName, Faces, Sides};
 pub fn check_open(alloc: Global, faces: &Faces, sides: &Sides) -> Result<(), OpenFault>
     requires { IsTableOf faces.now sides.now }
     ensures surface { OnOk result (IsOpenSurface faces.now) }
-    ensures fault { IfErr result (λ fault. (fault ≡ OpenFault.OutOfMemory) ⊎ IsFirstFault faces.now fault) }
+    ensures fault { IfErr result (λ fault. (fault ≡ OpenFault.OutOfMemory) ⊎ IsFirstOpenFault faces.now fault) }
     // An open surface is refused, and another fault than the first is named, for want of memory alone.
     ensures accepted { IsOpenSurface faces.now → IfErr result (λ fault. fault ≡ OpenFault.OutOfMemory) }
-    ensures refused { (fault : OpenFault) → IsFirstFault faces.now fault
+    ensures refused { (fault : OpenFault) → IsFirstOpenFault faces.now fault
         → (result ≡ Err fault) ⊎ (result ≡ Err OpenFault.OutOfMemory) }
 {
     meet_conditions(alloc, faces, sides)
@@ -29,7 +29,7 @@ pub fn check_open(alloc: Global, faces: &Faces, sides: &Sides) -> Result<(), Ope
 fn meet_conditions(alloc: Global, faces: &Faces, sides: &Sides) -> Result<(), OpenFault>
     requires { IsTableOf faces.now sides.now }
     ensures surface { OnOk result (IsOpenSurface faces.now) }
-    ensures fault { IfErr result (λ fault. (fault ≡ OpenFault.OutOfMemory) ⊎ IsFirstFault faces.now fault) }
+    ensures fault { IfErr result (λ fault. (fault ≡ OpenFault.OutOfMemory) ⊎ IsFirstOpenFault faces.now fault) }
 {
     if faces.len() == 0 {
         return Err(OpenFault::NoFace);

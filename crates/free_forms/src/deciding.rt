@@ -4,7 +4,7 @@ ghost use Rattle.surf_model.specs.FaceLists.{total_sides};
 ghost use Rattle.surf_model.specs.Moves.{Homotopic};
 ghost use Rattle.surf_model.specs.Walks.{IsWalk, HaveCommonEnds, darts};
 ghost use Rattle.free_forms.specs.Normal.{IsNormalWalkOf};
-ghost use Rattle.free_forms.specs.Parents.{HasParents};
+ghost use Rattle.free_forms.specs.Parents.{HasFaceParents};
 ghost use Rattle.free_forms.specs.declared.limits.TheConstants.{MOST_OPEN_SIDES, MOST_OPEN_DARTS};
 
 use crate::open_mesh::OpenMesh;
@@ -19,7 +19,7 @@ pub fn normal(alloc: Global, mesh: &OpenMesh, walk: &Walk) -> Result<Walk, Alloc
     requires few { darts walk.now ≤ MOST_OPEN_DARTS }
     ensures normal { IfOk result (λ other. IsNormalWalkOf mesh.now walk.now other) }
     // What holds of every open mesh.
-    ensures parents { OnOk result (HasParents mesh.now) }
+    ensures parents { OnOk result (HasFaceParents mesh.now) }
 {
     let reduced = reduce(alloc, mesh, walk)?;
     reduced.into_walk(alloc)

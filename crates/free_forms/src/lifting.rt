@@ -4,7 +4,7 @@ ghost use Rattle.surf_model.specs.FaceLists.{total_sides};
 ghost use Rattle.surf_model.specs.Moves.{Homotopic};
 ghost use Rattle.surf_model.specs.Rewriting.{sides_of_move, way_back};
 ghost use Rattle.surf_model.specs.Walks.{IsWalk, HaveCommonEnds, darts, AreWalkPair};
-ghost use Rattle.free_forms.specs.PeakedLists.{LeadsAtPeak, IsWithin, IsMoveOf};
+ghost use Rattle.free_forms.specs.PeakedLists.{LeadsAtPeak, IsListWithin, IsMoveOf};
 ghost use Rattle.free_forms.specs.declared.limits.TheConstants.{MOST_OPEN_SIDES, MOST_OPEN_DARTS, MOST_OPEN_STEPS};
 
 use crate::deciding::are_equal;
@@ -32,7 +32,7 @@ pub fn lift_open(
     ensures moves { IfOk result (λ found. MatchOption found
         (Homotopic mesh.now.mesh first.now second.now → ⊥)
         (λ list. LeadsAtPeak mesh.now.mesh first.now list second.now)) }
-    ensures short { IfOk result (λ found. IfSome found (λ list. IsWithin MOST_OPEN_STEPS list)) }
+    ensures short { IfOk result (λ found. IfSome found (λ list. IsListWithin MOST_OPEN_STEPS list)) }
 {
     let common = CommonDarts::of(first, second);
     let near = common.between(alloc, first)?;
@@ -58,7 +58,7 @@ fn lift_by_normal_walks(
         (Homotopic mesh.now.mesh first.now second.now → ⊥)
         (λ list. LeadsAtPeak mesh.now.mesh first.now list second.now)) }
     ensures short { IfOk result (λ found. IfSome found
-        (λ list. IsWithin ((darts first.now + darts second.now) * MOST_OPEN_SIDES) list)) }
+        (λ list. IsListWithin ((darts first.now + darts second.now) * MOST_OPEN_SIDES) list)) }
 {
     let one = reduce(alloc, mesh, first)?;
     let two = reduce(alloc, mesh, second)?;

@@ -2,7 +2,7 @@
 ghost use Rattle.std.specs.Prelude.{◌≡◌, ◌<◌, length, IfOk, IfSome, IfNone};
 ghost use Rattle.surf_model.specs.Edges.{IsTableOf};
 ghost use Rattle.free_forms.specs.OpenSurfaces.{IsOpenSurface};
-ghost use Rattle.free_forms.specs.Parents.{HasParents, IsParentEdge, Joins, parent_of};
+ghost use Rattle.free_forms.specs.Parents.{HasFaceParents, IsParentEdge, Joins, parent_of};
 
 use crate::search::parent_places;
 use std::alloc::{AllocError, Global};
@@ -37,7 +37,7 @@ impl OpenMesh {
         requires table { IsTableOf faces sides }
         requires surface { IsOpenSurface faces }
         ensures mesh { IfOk result (λ surface. surface.mesh ≡ faces) }
-        ensures parents { IfOk result (λ surface. HasParents surface) }
+        ensures parents { IfOk result (λ surface. HasFaceParents surface) }
     {
         let places = parent_places(alloc, &faces, &sides)?;
         Ok(OpenMesh {
@@ -52,7 +52,7 @@ impl OpenMesh {
         requires { face.0 < length self.now.mesh.faces }
         ensures parent { result ≡ parent_of self.now face.0 }
         // What holds of every open mesh: crossing parents ends outside.
-        ensures parents { HasParents self.now }
+        ensures parents { HasFaceParents self.now }
     {
         Side {
             face,
@@ -64,7 +64,7 @@ impl OpenMesh {
     pub fn faces(&self) -> &Faces
         ensures mesh { result.now ≡ self.now.mesh }
         // What holds of every open mesh.
-        ensures parents { HasParents self.now }
+        ensures parents { HasFaceParents self.now }
     {
         &self.faces
     }
@@ -76,7 +76,7 @@ impl OpenMesh {
         ensures joined { IfSome result (λ side. Joins self.now.mesh side u.0 v.0) }
         ensures none { IfNone result (IsParentEdge self.now u.0 v.0 → ⊥) }
         // What holds of every open mesh.
-        ensures parents { HasParents self.now }
+        ensures parents { HasFaceParents self.now }
     {
         let Some(edge) = self.sides.between(u, v) else {
             return None;

@@ -6,10 +6,10 @@ ghost use Rattle.surf_model.specs.Vertices.{numbers};
 ghost use Rattle.surf_model.specs.Walks.{darts};
 ghost use Rattle.surf_model.specs.declared.limits.TheConstants.{MOST_PEAK};
 ghost use Rattle.free_forms.specs.Normal.{IsNormal};
-ghost use Rattle.free_forms.specs.Parents.{HasParents, Joins, parent_of};
-ghost use Rattle.walk_actions.specs.Actions.{beyond};
-ghost use Rattle.free_forms.specs.PeakedLists.{LeadsAtPeak, IsWithin};
-ghost use Rattle.free_forms.specs.Reductions.{state_of, settled, whole, darts_in, IsTaken, StepsBack, SkipsSpur, IsWayAlong, Expands, IsStep, HasRoom};
+ghost use Rattle.free_forms.specs.Parents.{HasFaceParents, Joins, parent_of};
+ghost use Rattle.walk_actions.specs.Actions.{vertices_beyond};
+ghost use Rattle.free_forms.specs.PeakedLists.{LeadsAtPeak, IsListWithin};
+ghost use Rattle.free_forms.specs.Reductions.{state_of, settled, whole, darts_in, IsTaken, StepsBack, SkipsSpur, IsWayAlong, Expands, IsStep, HasFaceRoom};
 ghost use Rattle.free_forms.specs.declared.limits.TheConstants.{MOST_OPEN_SIDES, MOST_OPEN_DARTS};
 
 use crate::open_mesh::OpenMesh;
@@ -35,10 +35,10 @@ pub(crate) fn reduce(alloc: Global, mesh: &OpenMesh, walk: &Walk) -> Result<Redu
     ensures leads { IfOk result (λ reduction. LeadsAtPeak mesh.now.mesh walk.now (state_of reduction).list (whole (state_of reduction))) }
     ensures normal { IfOk result (λ reduction. IsNormal mesh.now (whole (state_of reduction))) }
     ensures few { IfOk result (λ reduction. darts_in (state_of reduction) ≤ MOST_PEAK) }
-    ensures short { IfOk result (λ reduction. IsWithin (darts walk.now * MOST_OPEN_SIDES) (state_of reduction).list) }
+    ensures short { IfOk result (λ reduction. IsListWithin (darts walk.now * MOST_OPEN_SIDES) (state_of reduction).list) }
     ensures done { IfOk result (λ reduction. (state_of reduction).coming ≡ []) }
     // What holds of every open mesh.
-    ensures parents { OnOk result (HasParents mesh.now) }
+    ensures parents { OnOk result (HasFaceParents mesh.now) }
 {
     // The proof reads what holds of every open mesh.
     let _ = mesh.faces();
@@ -113,10 +113,10 @@ fn take(reduction: &mut Reduction) -> Option<VertexName>
 /// a parent edge, or puts the vertex on.
 fn step(reduction: &mut Reduction, mesh: &OpenMesh, next: VertexName) -> Result<(), AllocError>
     requires few { darts_in (state_of reduction.old) < MOST_PEAK }
-    requires room { HasRoom mesh.now (state_of reduction.old) next.0 }
+    requires room { HasFaceRoom mesh.now (state_of reduction.old) next.0 }
     ensures step { OnOk result (IsStep mesh.now (state_of reduction.old) next.0 (state_of reduction.new)) }
     // What holds of every open mesh.
-    ensures parents { OnOk result (HasParents mesh.now) }
+    ensures parents { OnOk result (HasFaceParents mesh.now) }
 {
     let parent = mesh.parent_between(reduction.last, next);
     if came_from(reduction, next) {
@@ -201,7 +201,7 @@ fn expand(
     requires face { side.face.0 < length mesh.now.mesh.faces }
     requires parent { side ≡ parent_of mesh.now side.face.0 }
     requires joined { Joins mesh.now.mesh side (state_of reduction.old).last next.0 }
-    requires room { HasRoom mesh.now (state_of reduction.old) next.0 }
+    requires room { HasFaceRoom mesh.now (state_of reduction.old) next.0 }
     ensures { OnOk result (Expands mesh.now (state_of reduction.old) next.0 (state_of reduction.new)) }
 {
     let faces = mesh.faces();
@@ -243,7 +243,7 @@ fn push_others(
     requires face { face.0 < length faces.now.faces }
     requires corner { corner < length (face_at faces.now face.0) }
     ensures { OnOk result (numbers pending.new.items
-        ≡ numbers pending.old.items ++ beyond (face_at faces.now face.0) forward corner (length (face_at faces.now face.0) - 1)) }
+        ≡ numbers pending.old.items ++ vertices_beyond (face_at faces.now face.0) forward corner (length (face_at faces.now face.0) - 1)) }
 {
     let size = faces.sides(face);
     let mut at = corner;

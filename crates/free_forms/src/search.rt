@@ -4,8 +4,8 @@ ghost use Rattle.surf_model.specs.FaceLists.{face_at};
 ghost use Rattle.surf_model.specs.Edges.{IsTableOf};
 ghost use Rattle.connectivity.specs.Joined.{NoEdgeHasThreeSides};
 ghost use Rattle.free_forms.specs.OpenSurfaces.{IsOpenSurface};
-ghost use Rattle.free_forms.specs.Parents.{HasParents};
-ghost use Rattle.free_forms.specs.Searches.{found_by, with_side, IsReached, IsSearch, Grows};
+ghost use Rattle.free_forms.specs.Parents.{HasFaceParents};
+ghost use Rattle.free_forms.specs.Searches.{view_of_search, with_side, IsFaceReached, IsParentSearch, Grows};
 ghost use Rattle.free_forms.specs.Searches.{NeighboursReached, IsClosedUpTo, IsStartedUpTo};
 
 use std::alloc::{AllocError, Global};
@@ -30,7 +30,7 @@ pub(crate) fn parent_places(
 ) -> Result<Vec<u32>, AllocError>
     requires table { IsTableOf faces.now sides.now }
     requires surface { IsOpenSurface faces.now }
-    ensures { IfOk result (λ places. HasParents (record { mesh = faces.now; places = places.items })) }
+    ensures { IfOk result (λ places. HasFaceParents (record { mesh = faces.now; places = places.items })) }
 {
     let count = faces.len() as usize;
     let mut search = Search {
@@ -46,9 +46,9 @@ pub(crate) fn parent_places(
 /// Reaches the faces on the boundary, by rising boundary edge.
 fn start(search: &mut Search, faces: &Faces, sides: &Sides) -> Result<(), AllocError>
     requires table { IsTableOf faces.now sides.now }
-    requires search { IsSearch faces.now (found_by search.old) }
-    ensures search { OnOk result (IsSearch faces.now (found_by search.new)) }
-    ensures started { OnOk result (IsStartedUpTo sides.now (found_by search.new) (length sides.now)) }
+    requires search { IsParentSearch faces.now (view_of_search search.old) }
+    ensures search { OnOk result (IsParentSearch faces.now (view_of_search search.new)) }
+    ensures started { OnOk result (IsStartedUpTo sides.now (view_of_search search.new) (length sides.now)) }
 {
     for edge in 0..sides.len() {
         if sides.sides_of(EdgeName(edge)) == 1 {
@@ -62,10 +62,10 @@ fn start(search: &mut Search, faces: &Faces, sides: &Sides) -> Result<(), AllocE
 fn spread(search: &mut Search, faces: &Faces, sides: &Sides) -> Result<(), AllocError>
     requires table { IsTableOf faces.now sides.now }
     requires few { NoEdgeHasThreeSides faces.now }
-    requires search { IsSearch faces.now (found_by search.old) }
-    ensures search { OnOk result (IsSearch faces.now (found_by search.new)) }
-    ensures grows { OnOk result (Grows (found_by search.old) (found_by search.new)) }
-    ensures closed { OnOk result (IsClosedUpTo faces.now (found_by search.new) (length search.new.order.items)) }
+    requires search { IsParentSearch faces.now (view_of_search search.old) }
+    ensures search { OnOk result (IsParentSearch faces.now (view_of_search search.new)) }
+    ensures grows { OnOk result (Grows (view_of_search search.old) (view_of_search search.new)) }
+    ensures closed { OnOk result (IsClosedUpTo faces.now (view_of_search search.new) (length search.new.order.items)) }
 {
     let mut at = 0;
     while at < search.order.len() {
@@ -85,11 +85,11 @@ fn spread_from(
 ) -> Result<(), AllocError>
     requires table { IsTableOf faces.now sides.now }
     requires few { NoEdgeHasThreeSides faces.now }
-    requires search { IsSearch faces.now (found_by search.old) }
-    requires face { IsReached (found_by search.old) face.0 }
-    ensures search { OnOk result (IsSearch faces.now (found_by search.new)) }
-    ensures grows { OnOk result (Grows (found_by search.old) (found_by search.new)) }
-    ensures reached { OnOk result (NeighboursReached faces.now (found_by search.new) face.0 (length (face_at faces.now face.0))) }
+    requires search { IsParentSearch faces.now (view_of_search search.old) }
+    requires face { IsFaceReached (view_of_search search.old) face.0 }
+    ensures search { OnOk result (IsParentSearch faces.now (view_of_search search.new)) }
+    ensures grows { OnOk result (Grows (view_of_search search.old) (view_of_search search.new)) }
+    ensures reached { OnOk result (NeighboursReached faces.now (view_of_search search.new) face.0 (length (face_at faces.now face.0))) }
 {
     for at in 0..faces.sides(face) {
         // On the boundary this is the side itself, whose face is reached.
@@ -103,7 +103,7 @@ fn spread_from(
 fn reach(search: &mut Search, side: Side) -> Result<(), AllocError>
     requires mark { side.face.0 < length search.old.reached.items }
     requires place { side.face.0 < length search.old.places.items }
-    ensures { OnOk result (found_by search.new ≡ with_side (found_by search.old) side) }
+    ensures { OnOk result (view_of_search search.new ≡ with_side (view_of_search search.old) side) }
 {
     let face = side.face.0 as usize;
     if search.reached[face] {

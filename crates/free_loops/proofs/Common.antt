@@ -2,7 +2,7 @@
 pub use Rattle.closed_walks.proofs.FreeStepLemmas.{closes, end_is, end_of, on, parts_turn, turn}
 pub use Rattle.closed_walks.proofs.MovedSteps.{freely}
 pub use Rattle.closed_walks.specs.FreeHomotopy.{FreelyHomotopic, IsClosedWalk}
-pub use Rattle.flat_forms.specs.FlatStates.{IsEven, IsFlatWheel, flat_next}
+pub use Rattle.flat_forms.specs.FlatStates.{IsEvenPoint, IsFlatWheel, flat_next}
 pub use Rattle.flat_forms.specs.Pairs.{spokes_of, sum_of_pairs}
 pub use Rattle.flat_forms.specs.Vectors.{Vector, less, origin, plus, unit_step}
 pub use Rattle.free_loops.specs.CyclicForms.{IsCyclicFormOf}

@@ -1,6 +1,6 @@
 -- On a torus closed walks with one sum are freely homotopic: the second one is made a walk from the start of the first, along a way
 -- there and back, which changes no sum.
-use Rattle.free_loops.proofs.Common.{on, parts_turn, freely, FreelyHomotopic, IsEven, IsFlatWheel, flat_next, spokes_of, sum_of_pairs, Vector, origin, plus, less, unit_step, OrientedMesh, IsOrientedSurface, quad_path_in_pairs, flat_wheel_of_good, IsGood, LabellingView, spokes, quad_path, in_pairs, behind, there_and_home, home_and_there, back, homotopy, IsWay, way_walk, way_on, way_home, start_used, up, tree_ways, PolygonView, IsCutFrom, polygon_good, labelling_from, ◌≡◌, ℕ, List, [], ◌∷◌, ◌++◌, refl, ap, ap₂, sym, ◌∙◌, subst, arith, append_assoc, ℤ, append-nil, FaceList, IsFaceList, Homotopic, SplitView, IsSplit, led}
+use Rattle.free_loops.proofs.Common.{on, parts_turn, freely, FreelyHomotopic, IsEvenPoint, IsFlatWheel, flat_next, spokes_of, sum_of_pairs, Vector, origin, plus, less, unit_step, OrientedMesh, IsOrientedSurface, quad_path_in_pairs, flat_wheel_of_good, IsGood, LabellingView, spokes, quad_path, in_pairs, behind, there_and_home, home_and_there, back, homotopy, IsWay, way_walk, way_on, way_home, start_used, up, tree_ways, PolygonView, IsCutFrom, polygon_good, labelling_from, ◌≡◌, ℕ, List, [], ◌∷◌, ◌++◌, refl, ap, ap₂, sym, ◌∙◌, subst, arith, append_assoc, ℤ, append-nil, FaceList, IsFaceList, Homotopic, SplitView, IsSplit, led}
 use Rattle.flat_forms.proofs.SumsOfPairs.{leads-by}
 use Rattle.flat_forms.specs.Lemmas.FlatLaws.{flat_stays, flat_there_and_back, flat_across}
 use Rattle.flat_forms.specs.Lemmas.StepsInThePlane.{next-next, vertex-again}
@@ -10,16 +10,16 @@ use Rattle.quad_system.proofs.FlatWordLemmas.{one_sum}
 use Rattle.std.proofs.lemmas.Int.{ints}
 use Rattle.free_loops.proofs.ClosedLoopLemmas.{way_ends, common_ends}
 
-even_after : (places : List ℕ) (s : Vector) (pairs : List (ℕ × ℕ)) → IsEven s → IsEven (led flat_next places s (spokes_of pairs))
+even_after : (places : List ℕ) (s : Vector) (pairs : List (ℕ × ℕ)) → IsEvenPoint s → IsEvenPoint (led flat_next places s (spokes_of pairs))
 even_after places s [] even = even
 even_after places s (pair ∷ pairs) even =
-    subst (λ z. IsEven (led flat_next places z (spokes_of pairs))) (sym (next-next places s pair.0 pair.1 even))
+    subst (λ z. IsEvenPoint (led flat_next places z (spokes_of pairs))) (sym (next-next places s pair.0 pair.1 even))
     (even_after places (less (plus s (unit_step pair.0)) (unit_step pair.1)) pairs (vertex-again s pair.0 pair.1 even))
 
 plus_turned : (s a b : Vector) → plus (plus s a) b ≡ plus (plus s b) a
 plus_turned s a b = ap₂ (λ (x y : ℤ). record { x = x; y = y }) (omega (arith, ints)) (omega (arith, ints))
 
-pairs_turned : (places : List ℕ) (s : Vector) (pairs others : List (ℕ × ℕ)) → IsEven s
+pairs_turned : (places : List ℕ) (s : Vector) (pairs others : List (ℕ × ℕ)) → IsEvenPoint s
     → led flat_next places (led flat_next places s (spokes_of pairs)) (spokes_of others)
     ≡ led flat_next places (led flat_next places s (spokes_of others)) (spokes_of pairs)
 pairs_turned places s pairs others even =
@@ -40,7 +40,7 @@ module _ (mesh : FaceList) (labelling : LabellingView) where
   abbrev run : Vector → List ℕ → Vector
   run s walk = led flat_next labelling.places s (quad_path mesh labelling walk)
 
-  walks_turned : (s : Vector) (walk other : List ℕ) → IsEven s → run (run s walk) other ≡ run (run s other) walk
+  walks_turned : (s : Vector) (walk other : List ℕ) → IsEvenPoint s → run (run s walk) other ≡ run (run s other) walk
   walks_turned s walk other even =
       subst (λ (p : List ℕ). led flat_next labelling.places (led flat_next labelling.places s p) (quad_path mesh labelling other)
       ≡ led flat_next labelling.places (run s other) p) (quad_path_in_pairs mesh labelling walk)
@@ -51,12 +51,12 @@ module _ (mesh : FaceList) (labelling : LabellingView) where
       pairs : List ℕ
       pairs = spokes_of (in_pairs (quad_path mesh labelling walk))
 
-  run_even : (s : Vector) (walk : List ℕ) → IsEven s → IsEven (run s walk)
+  run_even : (s : Vector) (walk : List ℕ) → IsEvenPoint s → IsEvenPoint (run s walk)
   run_even s walk even =
-      subst (λ (p : List ℕ). IsEven (led flat_next labelling.places s p)) (quad_path_in_pairs mesh labelling walk)
+      subst (λ (p : List ℕ). IsEvenPoint (led flat_next labelling.places s p)) (quad_path_in_pairs mesh labelling walk)
       (even_after labelling.places s (in_pairs (quad_path mesh labelling walk)) even)
 
-  flat_laws : PutLaws labelling.places flat_next (λ _. IsFlatWheel labelling.places) IsEven
+  flat_laws : PutLaws labelling.places flat_next (λ _. IsFlatWheel labelling.places) IsEvenPoint
   flat_laws = record {
     stays = λ x i b l. flat_stays.belongs labelling.places x i b l;
     vertex = λ x i j b e l m. flat_stays.at_vertex labelling.places x i j b e l m;
@@ -80,7 +80,7 @@ module _ (mesh : FaceList) (labelling : LabellingView) where
       let state : Vector = run origin (v ∷ others) in
       let gone : Homotopic mesh (u ∷ (rest ++ back u rest)) (u ∷ []) = there_and_home (homotopy mesh) u v rest way in
       let kept : run state (u ∷ (rest ++ back u rest)) ≡ state =
-      moves_keep mesh labelling flat_next (λ _. IsFlatWheel labelling.places) IsEven flat_laws valid good gone.0
+      moves_keep mesh labelling flat_next (λ _. IsFlatWheel labelling.places) IsEvenPoint flat_laws valid good gone.0
       (u ∷ (rest ++ back u rest)) (u ∷ []) (way_walk mesh u u (rest ++ back u rest) (way_on mesh u v u rest (back u rest) way home)) gone.1
       state
       (flat_wheel_of_good mesh labelling good four, run_even origin (v ∷ others) refl) in

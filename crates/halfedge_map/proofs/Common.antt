@@ -3,7 +3,7 @@ pub use Rattle.halfedge_map.specs.DartMaps.{IsDartOfSide, StartsAtCorner, darts_
 unfoldable pub use Rattle.halfedge_map.specs.DartMaps.{dart_at_corner, edge_of, end_corner_of, euler_of, face_of, next_of, origin_of, side_of, start_corner_of, target_of, twin_of, used_vertices}
 pub use Rattle.halfedge_map.specs.Orbits.{IsReached, after_steps}
 pub use Rattle.halfedge_map.specs.OrientedMeshes.{IsOrientedSurface, OrientedMesh}
-pub use Rattle.halfedge_map.specs.RotationSystems.{HasDart, IsDartFrom, IsDartStep, IsEdgeWithEnds, IsRotationSystem, NamesAll, rotations_of}
+pub use Rattle.halfedge_map.specs.RotationSystems.{HasSomeDart, IsDartFrom, IsDartStep, IsEdgeWithEnds, IsRotationSystem, NamesAll, rotations_of}
 pub use Rattle.halfedge_map.specs.StoredDarts.{KeepOrigins, ListNexts, ListOrigins, signed}
 pub use Rattle.std.proofs.Common.{Bool, List, ap, arith, cond, eqb, false, get_or, inl, inr, length, not, of_z, pos, refl, subst, suc, sym, to_z, true, w64, zero, ℕ, [], ◌&&◌, ◌++◌, ◌+ℤ◌, ◌+◌, ◌-ℤ◌, ◌-◌, ◌<◌, ◌^◌, ◌||◌, ◌∙◌, ◌∷◌, ◌≡◌, ◌≢◌, ◌≤◌, ◌⊎◌}
 pub use Rattle.std.proofs.lemmas.Bool.{and_from, and_parts, both_ways, cases_Bool, cases_lt, cond-false, cond-true, eq-eqb, eqb-true}

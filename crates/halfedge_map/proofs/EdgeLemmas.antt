@@ -3,7 +3,7 @@ use Rattle.halfedge_map.proofs.Common.{darts_of, side_of, origin_of, target_of, 
 use Rattle.std.proofs.lemmas.Option.{slice_get_within, get_or_from_slice_get}
 use Rattle.surf_model.proofs.PartnerLemmas.{IsSideOfEdge, side_of_edge, table_edge, edge_sides_rise}
 use Rattle.surf_model.proofs.TableLemmas.{edge_from_table}
-use Rattle.surf_model.specs.EdgeDarts.{IsNextInEdge, darts_of as edge_darts_of}
+use Rattle.surf_model.specs.EdgeDarts.{IsNextInEdge, edge_darts_of}
 use Rattle.halfedge_map.proofs.NumberLemmas.{IsNumberOf, number_below}
 use Rattle.halfedge_map.proofs.DartLemmas.{side_at, numbered}
 use Rattle.halfedge_map.proofs.ListLemmas.{IsFirstBelow, first_passes}

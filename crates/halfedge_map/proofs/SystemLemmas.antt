@@ -1,5 +1,5 @@
 -- The darts of a surface make a rotation system.
-use Rattle.halfedge_map.proofs.Common.{darts_of, face_of, origin_of, next_of, start_corner_of, dart_at_corner, StartsAtCorner, OrientedMesh, IsOrientedSurface, rotations_of, IsRotationSystem, HasDart, NamesAll, ℕ, ◌<◌, [], length, sym, ◌∙◌, subst, arith, IsFaceList, IsFace, face_at}
+use Rattle.halfedge_map.proofs.Common.{darts_of, face_of, origin_of, next_of, start_corner_of, dart_at_corner, StartsAtCorner, OrientedMesh, IsOrientedSurface, rotations_of, IsRotationSystem, HasSomeDart, NamesAll, ℕ, ◌<◌, [], length, sym, ◌∙◌, subst, arith, IsFaceList, IsFace, face_at}
 use Rattle.halfedge_map.proofs.NumberLemmas.{HasPlace, placed}
 use Rattle.halfedge_map.proofs.OrbitLemmas.{reached_keeps}
 use Rattle.halfedge_map.proofs.DartLemmas.{next_within, next_injective, next_permutes, face-next, face_reached, origin-next, origin_at}
@@ -45,7 +45,7 @@ face_below s d l =
     let p : HasPlace s.mesh d = placed s.mesh d l in
     subst (λ f. f < length s.mesh.faces) (sym (face_at_number s p.face p.place d p.numbered)) p.numbered.face
 
-face_has_dart : (s : OrientedMesh) → IsFaceList s.mesh → (f : ℕ) → f < length s.mesh.faces → HasDart s (face_of s) f
+face_has_dart : (s : OrientedMesh) → IsFaceList s.mesh → (f : ℕ) → f < length s.mesh.faces → HasSomeDart s (face_of s) f
 face_has_dart s h f l =
     let is_face : IsFace s.mesh.count (face_at s.mesh f) = h.faces f [] l in
     let first : StartsAtCorner s f 0 (dart_at_corner s f 0) = dart_starts s f 0 l (omega (arith, is_face.polygon)) in

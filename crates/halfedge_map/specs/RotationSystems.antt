@@ -65,8 +65,8 @@ pub record IsRotationSystem (maps : Rotations) : Type 0 where
   pub connected : (d e : ℕ) → d < maps.darts → e < maps.darts → AreJoined (IsDartStep maps) (maps.origin d) (maps.origin e)
 
 -- some dart has this for its vertex, face or edge
-abbrev pub HasDart : OrientedMesh → (ℕ → ℕ) → ℕ → Type 0
-HasDart surface of_dart x = (dart : ℕ) × (dart < darts_of surface) × (of_dart dart ≡ x)
+abbrev pub HasSomeDart : OrientedMesh → (ℕ → ℕ) → ℕ → Type 0
+HasSomeDart surface of_dart x = (dart : ℕ) × (dart < darts_of surface) × (of_dart dart ≡ x)
 
 -- the origins of darts are the used vertices, their faces all faces, and their edges all edges of the table
 pub record NamesAll (surface : OrientedMesh) : Type 0 where
@@ -74,6 +74,6 @@ pub record NamesAll (surface : OrientedMesh) : Type 0 where
   pub vertex_used : (d : ℕ) → d < darts_of surface → is_used surface.mesh (origin_of surface d) ≡ true
   pub face_below : (d : ℕ) → d < darts_of surface → face_of surface d < length surface.mesh.faces
   pub edge_below : (d : ℕ) → d < darts_of surface → edge_of surface d < length surface.table
-  pub each_vertex : (v : ℕ) → is_used surface.mesh v ≡ true → HasDart surface (origin_of surface) v
-  pub each_face : (f : ℕ) → f < length surface.mesh.faces → HasDart surface (face_of surface) f
-  pub each_edge : (e : ℕ) → e < length surface.table → HasDart surface (edge_of surface) e
+  pub each_vertex : (v : ℕ) → is_used surface.mesh v ≡ true → HasSomeDart surface (origin_of surface) v
+  pub each_face : (f : ℕ) → f < length surface.mesh.faces → HasSomeDart surface (face_of surface) f
+  pub each_edge : (e : ℕ) → e < length surface.table → HasSomeDart surface (edge_of surface) e

@@ -1,5 +1,5 @@
 -- What is accepted of an array, and that nothing else is.
-use Rattle.homology.proofs.Common.{AreChainNumbers, AreCocycleNumbers, IsChain, IsCocycle, Separates, AreWithin, IsChainVerdict, IsCocycleVerdict, MOST_NUMBER, HomologyVerdict, Face, Sum, Zero, Accepted, ◌≡◌, ℕ, List, refl, ap, arith, ℤ, ◌↔◌, FaceList}
+use Rattle.homology.proofs.Common.{AreChainNumbers, AreCocycleNumbers, IsChain, IsCocycle, Separates, AreNumbersWithin, IsChainVerdict, IsCocycleVerdict, MOST_NUMBER, HomologyVerdict, Face, Sum, Zero, Accepted, ◌≡◌, ℕ, List, refl, ap, arith, ℤ, ◌↔◌, FaceList}
 use Rattle.homology.specs.ArrayVerdicts.{IsArrayChainVerdict, IsArrayCocycleVerdict}
 use Rattle.homology.specs.declared.array_check.ArrayVerdict.{ArrayVerdict}
 use Rattle.homology.specs.declared.array_check.ArrayVerdict.TheVariants.{Count, Large, Uneven, Judged}
@@ -16,7 +16,7 @@ judged_chain mesh of_face first second Zero h chain = absurd h
 judged_chain mesh of_face first second Accepted h chain = refl
 
 only_chain : (mesh : FaceList) (first second : List ℕ) (numbers : List ℤ) (v : ArrayVerdict)
-    → IsArrayChainVerdict mesh first second numbers v → AreChainNumbers mesh first second numbers → AreWithin MOST_NUMBER numbers
+    → IsArrayChainVerdict mesh first second numbers v → AreChainNumbers mesh first second numbers → AreNumbersWithin MOST_NUMBER numbers
     → v ≡ Judged Accepted
 only_chain mesh first second numbers Count h are small = absurd (h are.each_face)
 only_chain mesh first second numbers (Large place) h are small = absurd (omega (arith, h.1.large, small.each place))
@@ -25,7 +25,7 @@ only_chain mesh first second numbers (Judged v) h are small = ap Judged (judged_
 
 pub chain_accepted : (mesh : FaceList) (first second : List ℕ) (numbers : List ℤ) (v : ArrayVerdict)
     → IsArrayChainVerdict mesh first second numbers v
-    → (v ≡ Judged Accepted) ↔ (AreChainNumbers mesh first second numbers × AreWithin MOST_NUMBER numbers)
+    → (v ≡ Judged Accepted) ↔ (AreChainNumbers mesh first second numbers × AreNumbersWithin MOST_NUMBER numbers)
 chain_accepted mesh first second numbers v h = grind (arith, only_chain)
 
 -- and neither has a cocycle that separates
@@ -38,7 +38,7 @@ judged_cocycle mesh of_edge first second Zero h is apart = absurd (apart h.1)
 judged_cocycle mesh of_edge first second Accepted h is apart = refl
 
 only_cocycle : (mesh : FaceList) (first second : List ℕ) (numbers : List ℤ) (v : ArrayVerdict)
-    → IsArrayCocycleVerdict mesh first second numbers v → AreCocycleNumbers mesh first second numbers → AreWithin MOST_NUMBER numbers
+    → IsArrayCocycleVerdict mesh first second numbers v → AreCocycleNumbers mesh first second numbers → AreNumbersWithin MOST_NUMBER numbers
     → v ≡ Judged Accepted
 only_cocycle mesh first second numbers Count h are small = grind (arith, length-side_numbers)
 only_cocycle mesh first second numbers (Large place) h are small = absurd (omega (arith, h.1.large, small.each place))
@@ -47,5 +47,5 @@ only_cocycle mesh first second numbers (Judged v) h are small = grind (arith, ju
 
 pub cocycle_accepted : (mesh : FaceList) (first second : List ℕ) (numbers : List ℤ) (v : ArrayVerdict)
     → IsArrayCocycleVerdict mesh first second numbers v
-    → (v ≡ Judged Accepted) ↔ (AreCocycleNumbers mesh first second numbers × AreWithin MOST_NUMBER numbers)
+    → (v ≡ Judged Accepted) ↔ (AreCocycleNumbers mesh first second numbers × AreNumbersWithin MOST_NUMBER numbers)
 cocycle_accepted mesh first second numbers v h = grind (arith, only_cocycle)

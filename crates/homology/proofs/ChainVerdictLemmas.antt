@@ -1,5 +1,5 @@
 -- The verdict on a chain, from what is left at each edge.
-use Rattle.homology.proofs.Common.{IsChain, boundary, count_difference, along, share, number_at, GrewBy, AreWithin, AreNumbersOf, IsLeft, IsBalancedAt, IsLeastUnbalanced, ◌≡◌, ◌≢◌, ℕ, zero, suc, ◌<◌, ◌≤◌, List, [], ◌∷◌, length, refl, sym, subst, arith, ℤ, pos, negsuc, nat_tests, ints, IsTrue, neg_ℤ, unsigned_abs, replicate, IsEdgeBetween, edge_between, same_pair, table_pair, place_before, Edge, IsTableOf, IsPairBefore, edge_in, FaceList, is_edge}
+use Rattle.homology.proofs.Common.{IsChain, boundary, count_difference, along, share, number_at, GrewBy, AreNumbersWithin, AreTableNumbers, IsLeft, IsBalancedAt, IsLeastUnbalanced, ◌≡◌, ◌≢◌, ℕ, zero, suc, ◌<◌, ◌≤◌, List, [], ◌∷◌, length, refl, sym, subst, arith, ℤ, pos, negsuc, nat_tests, ints, IsTrue, neg_ℤ, unsigned_abs, replicate, IsEdgeBetween, edge_between, same_pair, table_pair, place_before, Edge, IsTableOf, IsPairBefore, edge_in, FaceList, is_edge}
 
 -- faces with the same numbers have the same boundary
 pub boundary_agrees : (mesh : FaceList) (one other : ℕ → ℤ) (low high : ℕ) → ((f : ℕ) → one f ≡ other f)
@@ -8,7 +8,6 @@ boundary_agrees mesh one other low high same = grind arith
 
 module _ (mesh : FaceList) (table : List Edge) (of_face listed : ℕ → ℤ) (first second : List ℕ) (rest : List ℤ)
     (h : IsTableOf mesh table) (same : (f : ℕ) → of_face f ≡ listed f) (left : IsLeft mesh table of_face first second rest) where
-
   something_left : (k : ℕ) → k < length table → number_at rest k ≢ pos 0
       → IsBalancedAt mesh listed first second (edge_in table k).low (edge_in table k).high → ⊥
   something_left k l some even = grind (arith, boundary_agrees)
@@ -55,19 +54,19 @@ pub given_walks : (table : List Edge) (first second : List ℕ) (old one two : L
     → length old ≡ length table → ((k : ℕ) → number_at old k ≡ pos 0)
     → GrewBy table (λ low high. along (share (pos 1) low high) first) old one
     → GrewBy table (λ low high. along (share (negsuc 0) low high) second) one two
-    → AreNumbersOf table two (count_difference first second)
+    → AreTableNumbers table two (count_difference first second)
 given_walks table first second old one two long none given back = grind (arith, along-back)
 
 -- and the faces taken
 pub left_over : (mesh : FaceList) (table : List Edge) (of_face : ℕ → ℤ) (first second : List ℕ) (counts rest : List ℤ)
-    → AreNumbersOf table counts (count_difference first second)
+    → AreTableNumbers table counts (count_difference first second)
     → GrewBy table (λ low high. neg_ℤ (boundary mesh of_face low high)) counts rest → IsLeft mesh table of_face first second rest
 left_over mesh table of_face first second counts rest are taken = grind arith
 
-pub zeros_within : (numbers : List ℤ) → ((k : ℕ) → number_at numbers k ≡ pos 0) → AreWithin 0 numbers
+pub zeros_within : (numbers : List ℤ) → ((k : ℕ) → number_at numbers k ≡ pos 0) → AreNumbersWithin 0 numbers
 zeros_within numbers h = record { each = λ k. subst (λ z. unsigned_abs z ≤ 0) (sym (h k)) (omega arith) }
 
-pub within_more : (a b : ℕ) (numbers : List ℤ) → AreWithin a numbers → a ≤ b → AreWithin b numbers
+pub within_more : (a b : ℕ) (numbers : List ℤ) → AreNumbersWithin a numbers → a ≤ b → AreNumbersWithin b numbers
 within_more a b numbers h l = record { each = λ k. omega (arith, h.each k, l) }
 
 pub number_at-zeros : (n k : ℕ) → number_at (replicate n (pos 0)) k ≡ pos 0

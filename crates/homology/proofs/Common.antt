@@ -4,7 +4,7 @@ pub use Rattle.homology.specs.Certificates.{AreEdgeNumbers, AreFaceNumbers, edge
 pub use Rattle.homology.specs.Chains.{IsChain, boundary, count_difference, count_of, crossing, net_crossings}
 pub use Rattle.homology.specs.Cocycles.{IsCocycle, Separates, dart_number, edge_sum, face_sum, separation}
 pub use Rattle.homology.specs.Sums.{along, round, share, total}
-pub use Rattle.homology.specs.Tallies.{AreNumbersOf, AreWithin, GrewBy, IsLeft, face_share, number_at, turned}
+pub use Rattle.homology.specs.Tallies.{AreNumbersWithin, AreTableNumbers, GrewBy, IsLeft, face_share, number_at, signed_from}
 pub use Rattle.homology.specs.Verdicts.{HasEdge, HasFace, IsBalancedAt, IsChainVerdict, IsCocycleVerdict, IsFirstAgainst, IsLeastOpen, IsLeastUnbalanced, IsVerdict}
 pub use Rattle.homology.specs.declared.certificate.EdgeNumber.{EdgeNumber}
 pub use Rattle.homology.specs.declared.certificate.FaceNumber.{FaceNumber}

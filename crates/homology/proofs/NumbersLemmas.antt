@@ -1,5 +1,5 @@
 -- The numbers of a certificate, written into an array line by line.
-use Rattle.homology.proofs.Common.{listed_number, face_number, edge_number, AreFaceNumbers, AreEdgeNumbers, number_at, AreWithin, AreNumbersOf, EdgeNumber, FaceNumber, MOST_NUMBER, ◌≡◌, ◌≢◌, ◌⊎◌, inl, inr, ℕ, suc, ◌+◌, ◌<◌, ◌≤◌, Bool, true, false, ◌&&◌, List, [], ◌∷◌, ◌++◌, length, get_or, set, take, refl, ap, sym, ◌∙◌, subst, arith, ℤ, pos, cases_Bool, cases_eq, nat_tests, common_steps, get_or-set_same, get_or-set_other, take_more, get_or_from_slice_get, All, Some, slice_get, unsigned_abs, if◌then◌else◌, ◌==◌, same_pair, Edge, IsTableOf, IsPairBefore, HasEnds, edge_in, FaceList}
+use Rattle.homology.proofs.Common.{listed_number, face_number, edge_number, AreFaceNumbers, AreEdgeNumbers, number_at, AreNumbersWithin, AreTableNumbers, EdgeNumber, FaceNumber, MOST_NUMBER, ◌≡◌, ◌≢◌, ◌⊎◌, inl, inr, ℕ, suc, ◌+◌, ◌<◌, ◌≤◌, Bool, true, false, ◌&&◌, List, [], ◌∷◌, ◌++◌, length, get_or, set, take, refl, ap, sym, ◌∙◌, subst, arith, ℤ, pos, cases_Bool, cases_eq, nat_tests, common_steps, get_or-set_same, get_or-set_other, take_more, get_or_from_slice_get, All, Some, slice_get, unsigned_abs, if◌then◌else◌, ◌==◌, same_pair, Edge, IsTableOf, IsPairBefore, HasEnds, edge_in, FaceList}
 use Rattle.std.proofs.Math.Seq.{get_or-take}
 use Rattle.homology.proofs.TallyLemmas.{few_taken, apart}
 
@@ -86,7 +86,7 @@ face_written lines k f line old new valid l here room is was =
     is was
 
 pub faces_small : (lines : List FaceNumber) (numbers : List ℤ) → AreFaceNumbers lines
-    → ((f : ℕ) → number_at numbers f ≡ face_number lines f) → AreWithin MOST_NUMBER numbers
+    → ((f : ℕ) → number_at numbers f ≡ face_number lines f) → AreNumbersWithin MOST_NUMBER numbers
 faces_small lines numbers valid h = grind (arith, listed_small)
 
 -- whether a line is that of an edge
@@ -124,5 +124,5 @@ edge_written mesh table lines k e f line old new h valid l here le lf ends long 
     is was
 
 pub edges_small : (table : List Edge) (lines : List EdgeNumber) (numbers : List ℤ) → AreEdgeNumbers lines
-    → AreNumbersOf table numbers (edge_number lines) → AreWithin MOST_NUMBER numbers
+    → AreTableNumbers table numbers (edge_number lines) → AreNumbersWithin MOST_NUMBER numbers
 edges_small table lines numbers valid h = grind (arith, common_steps, listed_small, number_at)

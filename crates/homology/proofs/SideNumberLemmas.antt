@@ -1,7 +1,7 @@
 -- The numbers of sides, side by side.
-use Rattle.homology.proofs.Common.{side_numbers, dart_number, AreNumbersOf, AreWithin, number_at, turned, ◌≡◌, ◌≢◌, inl, inr, ℕ, zero, suc, ◌+◌, ◌<◌, ◌≤◌, ◌-◌, ◌&&◌, List, [], ◌∷◌, ◌++◌, length, get_or, take, ap, sym, ◌∙◌, arith, ℤ, pos, nat_tests, common_steps, get_or-map, length-map, ◌==◌, if◌then◌else◌, neg_ℤ, unsigned_abs, Contains, AllPairs, face_side, length-all_sides, HasSideEnds, IsSideOfEdge, side_of_edge, table_edge, head_of, tail_of, IsSide, side_number, IsPairBefore, Edge, IsTableOf, HasEnds, edge_in, FaceList, FaceSide, all_sides, face_at, total_sides, Side}
+use Rattle.homology.proofs.Common.{side_numbers, dart_number, AreTableNumbers, AreNumbersWithin, number_at, signed_from, ◌≡◌, ◌≢◌, inl, inr, ℕ, zero, suc, ◌+◌, ◌<◌, ◌≤◌, ◌-◌, ◌&&◌, List, [], ◌∷◌, ◌++◌, length, get_or, take, ap, sym, ◌∙◌, arith, ℤ, pos, nat_tests, common_steps, get_or-map, length-map, ◌==◌, if◌then◌else◌, neg_ℤ, unsigned_abs, Contains, AllPairs, face_side, length-all_sides, HasSideEnds, IsSideOfEdge, side_of_edge, table_edge, head_of, tail_of, IsSide, side_number, IsPairBefore, Edge, IsTableOf, HasEnds, edge_in, FaceList, FaceSide, all_sides, face_at, total_sides, Side}
 use Rattle.surf_model.proofs.SideNumberLemmas.{side_of_number-is}
-use Rattle.surf_model.specs.EdgeDarts.{darts_of}
+use Rattle.surf_model.specs.EdgeDarts.{edge_darts_of}
 use Rattle.homology.proofs.CocycleVerdictLemmas.{dart_is}
 
 -- ---- from numbers of the edges to those of the sides
@@ -19,7 +19,7 @@ record IsNumbered (mesh : FaceList) (edge : Edge) (d : ℕ) : Type 0 where
   number : side_number mesh side ≡ d
 
 numbered : (mesh : FaceList) (table : List Edge) (d e : ℕ) → IsTableOf mesh table → e < length table
-    → Contains (darts_of mesh (edge_in table e)) d → IsNumbered mesh (edge_in table e) d
+    → Contains (edge_darts_of mesh (edge_in table e)) d → IsNumbered mesh (edge_in table e) d
 numbered mesh table d e h l has =
     let edge : Edge = edge_in table e in
     let none : Side = record { face = record { 0 = 0 }; at = 0 } in
@@ -46,10 +46,10 @@ of_side_at mesh of_edge d none side in_mesh is l =
 
 -- what the edges give to a side
 pub side_is : (mesh : FaceList) (table : List Edge) (numbers : List ℤ) (of_edge : ℕ → ℕ → ℤ) (d e u : ℕ) (r : ℤ)
-    → IsTableOf mesh table → AreNumbersOf table numbers of_edge → d < total_sides mesh → e < length table
-    → Contains (darts_of mesh (edge_in table e)) d
+    → IsTableOf mesh table → AreTableNumbers table numbers of_edge → d < total_sides mesh → e < length table
+    → Contains (edge_darts_of mesh (edge_in table e)) d
     → ((side : Side) → IsSide mesh side → side_number mesh side ≡ d → u ≡ tail_of mesh side)
-    → r ≡ turned (number_at numbers e) (edge_in table e) u → get_or (side_numbers mesh of_edge) d r ≡ r
+    → r ≡ signed_from (number_at numbers e) (edge_in table e) u → get_or (side_numbers mesh of_edge) d r ≡ r
 side_is mesh table numbers of_edge d e u r h are l el has tail is =
     let found : IsNumbered mesh (edge_in table e) d = numbered mesh table d e h el has in
     let side : Side = found.side in
@@ -67,8 +67,8 @@ pub side_more : (mesh : FaceList) (of_edge : ℕ → ℕ → ℤ) (old new : Lis
 side_more mesh of_edge old new d r l last grown was = grind (arith, common_steps, length-side_numbers)
 
 -- a small number put last
-pub within_pushed : (bound : ℕ) (old new : List ℤ) (r : ℤ) → AreWithin bound old → unsigned_abs r ≤ bound → new ≡ old ++ r ∷ []
-    → AreWithin bound new
+pub within_pushed : (bound : ℕ) (old new : List ℤ) (r : ℤ) → AreNumbersWithin bound old → unsigned_abs r ≤ bound → new ≡ old ++ r ∷ []
+    → AreNumbersWithin bound new
 within_pushed bound old new r h l is = grind (arith, common_steps, number_at)
 
 -- ---- from numbers of the sides to those of the edges
@@ -136,5 +136,5 @@ number_in_at (edge ∷ edges) (number ∷ numbers) (suc k) rising long l =
     (rising 0 (suc k) none (omega arith) l))
 
 pub are_numbers_in : (mesh : FaceList) (table : List Edge) (numbers : List ℤ) → IsTableOf mesh table → length numbers ≡ length table
-    → AreNumbersOf table numbers (number_in table numbers)
+    → AreTableNumbers table numbers (number_in table numbers)
 are_numbers_in mesh table numbers h long = record { long = long; each = λ k l. number_in_at table numbers k h.rising long l }

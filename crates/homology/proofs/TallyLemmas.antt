@@ -1,5 +1,5 @@
 -- A dart gives to one entry of a tally what it gives to each edge of the table.
-use Rattle.homology.proofs.Common.{boundary, total, along, share, number_at, turned, GrewBy, AreWithin, face_share, MOST_NUMBER, ◌≡◌, ◌≢◌, ◌⊎◌, inl, inr, ℕ, zero, suc, ◌+◌, ◌-◌, ◌*◌, ◌^◌, ◌<◌, ◌≤◌, true, List, [], ◌∷◌, ◌++◌, length, get_or, set, take, refl, ap, sym, ◌∙◌, subst, arith, ℤ, pos, ◌+ℤ◌, cases_eq, cases_lt, nat_tests, common_steps, ints, get_or-set_same, get_or-set_other, length-set, get_or_default, get_or_past, range_with_len, neg_ℤ, unsigned_abs, map, Contains, Any, face_side, length-sides_of_face, sides_of_face-more, sides_up_to, sides_up_to-none, sides_up_to-more, sides_up_to-all, length-sides_up_to, side_of_edge, IsEdgeBetween, edge_between, tail_of, head_of, Edge, IsTableOf, IsPairBefore, HasEnds, edge_in, FaceList, FaceSide, HasFileSize, face_at, sides_of_face, is_edge, IsWalk, Side}
+use Rattle.homology.proofs.Common.{boundary, total, along, share, number_at, signed_from, GrewBy, AreNumbersWithin, face_share, MOST_NUMBER, ◌≡◌, ◌≢◌, ◌⊎◌, inl, inr, ℕ, zero, suc, ◌+◌, ◌-◌, ◌*◌, ◌^◌, ◌<◌, ◌≤◌, true, List, [], ◌∷◌, ◌++◌, length, get_or, set, take, refl, ap, sym, ◌∙◌, subst, arith, ℤ, pos, ◌+ℤ◌, cases_eq, cases_lt, nat_tests, common_steps, ints, get_or-set_same, get_or-set_other, length-set, get_or_default, get_or_past, range_with_len, neg_ℤ, unsigned_abs, map, Contains, Any, face_side, length-sides_of_face, sides_of_face-more, sides_up_to, sides_up_to-none, sides_up_to-more, sides_up_to-all, length-sides_up_to, side_of_edge, IsEdgeBetween, edge_between, tail_of, head_of, Edge, IsTableOf, IsPairBefore, HasEnds, edge_in, FaceList, FaceSide, HasFileSize, face_at, sides_of_face, is_edge, IsWalk, Side}
 use Rattle.surf_model.specs.declared.limits.TheConstants.{MOST_SIDES}
 use Rattle.homology.proofs.SizeLemmas.{size-sum, size-opposite, size-share, size-along, size-total}
 
@@ -22,7 +22,7 @@ total-more number (x ∷ xs) ys =
     omega (arith, ints, more)
 
 turned-share : (amount : ℤ) (edge : Edge) (u v : ℕ) → edge.low < edge.high → HasEnds u v edge
-    → turned amount edge u ≡ share amount edge.low edge.high u v
+    → signed_from amount edge u ≡ share amount edge.low edge.high u v
 turned-share amount edge u v up ends = grind (arith, nat_tests)
 
 pub other-share : (amount : ℤ) (edge other : Edge) (u v : ℕ) → edge.low < edge.high → other.low < other.high → HasEnds u v edge
@@ -40,7 +40,7 @@ apart mesh table j k h lj lk differ = grind arith
 pub grown : (mesh : FaceList) (table : List Edge) (given wanted : ℕ → ℕ → ℤ) (old now new : List ℤ) (e u v : ℕ) (amount : ℤ)
     → IsTableOf mesh table → e < length table → HasEnds u v (edge_in table e) → length now ≡ length table → GrewBy table given old now
     → ((low high : ℕ) → wanted low high ≡ given low high +ℤ share amount low high u v)
-    → new ≡ set now e (number_at now e +ℤ turned amount (edge_in table e) u) → GrewBy table wanted old new
+    → new ≡ set now e (number_at now e +ℤ signed_from amount (edge_in table e) u) → GrewBy table wanted old new
 grown mesh table given wanted old now new e u v amount h l ends long grew more is = record {
   long = ap (λ (xs : List ℤ). length xs) is ∙ length-set now e _ ∙ grew.long;
   each = λ k lk.
@@ -49,12 +49,12 @@ grown mesh table given wanted old now new e u v amount h l ends long grew more i
       let was = grew.each k lk in
       elim (cases_eq k e) [
         | inl same ↦
-            let there : number_at new k ≡ number_at now e +ℤ turned amount (edge_in table e) u =
+            let there : number_at new k ≡ number_at now e +ℤ signed_from amount (edge_in table e) u =
             ap (λ (xs : List ℤ). number_at xs k) is ∙ ap (λ j. number_at
-            (set now e (number_at now e +ℤ turned amount (edge_in table e) u)) j) same
+            (set now e (number_at now e +ℤ signed_from amount (edge_in table e) u)) j) same
             ∙ get_or-set_same now e _ (pos 0) (omega arith) in
             let here : number_at now e ≡ number_at now k = ap (λ j. number_at now j) (sym same) in
-            let gives : turned amount (edge_in table e) u ≡ share amount edge.low edge.high u v =
+            let gives : signed_from amount (edge_in table e) u ≡ share amount edge.low edge.high u v =
             turned-share amount (edge_in table e) u v (h.edges e _ l).ordered ends
             ∙ ap (λ j. share amount (edge_in table j).low (edge_in table j).high u v) (sym same) in
             omega (arith, ints, there, here, gives, want, was)
@@ -70,7 +70,7 @@ grown mesh table given wanted old now new e u v amount h l ends long grew more i
 
 -- how large an entry became
 pub grown_size : (table : List Edge) (given : ℕ → ℕ → ℤ) (old now : List ℤ) (e bound more : ℕ) → GrewBy table given old now
-    → e < length table → AreWithin bound old
+    → e < length table → AreNumbersWithin bound old
     → unsigned_abs (given (edge_in table e).low (edge_in table e).high) ≤ more → unsigned_abs (number_at now e) ≤ bound + more
 grown_size table given old now e bound more grew l within few = grind (arith, size-sum, number_at)
 
@@ -83,7 +83,7 @@ pub walk_step : (mesh : FaceList) (table : List Edge) (walk : List ℕ) (k : ℕ
     → IsTableOf mesh table → e < length table → HasEnds u v (edge_in table e) → length now ≡ length table
     → GrewBy table (λ low high. along (share amount low high) (take (suc k) walk)) old now → k + 1 < length walk
     → u ≡ get_or walk k 0 → v ≡ get_or walk (k + 1) 0 → sent ≡ amount
-    → new ≡ set now e (number_at now e +ℤ turned sent (edge_in table e) u)
+    → new ≡ set now e (number_at now e +ℤ signed_from sent (edge_in table e) u)
     → GrewBy table (λ low high. along (share amount low high) (take (suc (k + 1)) walk)) old new
 walk_step mesh table walk k amount sent old now new e u v h l ends long grew few u_is v_is same is =
     let higher : k + 1 ≡ suc k = omega arith in
@@ -142,7 +142,7 @@ pub face_step : (mesh : FaceList) (table : List Edge) (f t : ℕ) (amount sent :
     → length now ≡ length table
     → GrewBy table (λ low high. shares_of amount low high (take t (sides_of_face f (face_at mesh f)))) old now
     → t < length (face_at mesh f) → u ≡ get_or (face_at mesh f) t 0 → sent ≡ amount
-    → new ≡ set now e (number_at now e +ℤ turned sent (edge_in table e) u)
+    → new ≡ set now e (number_at now e +ℤ signed_from sent (edge_in table e) u)
     → GrewBy table (λ low high. shares_of amount low high (take (t + 1) (sides_of_face f (face_at mesh f)))) old new
 face_step mesh table f t amount sent old now new e u h l has long grew few u_is same is =
     let side : Side = record { face = record { 0 = f }; at = t } in
@@ -209,7 +209,7 @@ walk_edge mesh table walk k u v h w few u_is v_is =
 -- how large the entries are once so many darts were given
 pub walk_size : (table : List Edge) (walk : List ℕ) (k : ℕ) (amount : ℤ) (old now : List ℤ) (bound : ℕ)
     → GrewBy table (λ low high. along (share amount low high) (take (suc k) walk)) old now → length old ≡ length table
-    → AreWithin bound old → unsigned_abs amount ≤ 1 → k < 2 ^ 31 → AreWithin (bound + 2 ^ 31) now
+    → AreNumbersWithin bound old → unsigned_abs amount ≤ 1 → k < 2 ^ 31 → AreNumbersWithin (bound + 2 ^ 31) now
 walk_size table walk k amount old now bound grew long within small few = record {
   each = λ e. elim (cases_lt e (length table)) [
     | inl l ↦
@@ -228,7 +228,8 @@ walk_size table walk k amount old now bound grew long within small few = record 
 
 -- there is room for one more dart
 pub walk_room : (table : List Edge) (walk : List ℕ) (k : ℕ) (amount : ℤ) (old now : List ℤ) (e : ℕ)
-    → GrewBy table (λ low high. along (share amount low high) (take (suc k) walk)) old now → e < length table → AreWithin (2 ^ 32) old
+    → GrewBy table (λ low high. along (share amount low high) (take (suc k) walk)) old now → e < length table
+    → AreNumbersWithin (2 ^ 32) old
     → unsigned_abs amount ≤ 1 → k < 2 ^ 32 → unsigned_abs (number_at now e) + unsigned_abs amount < 2 ^ 62
 walk_room table walk k amount old now e grew l within small few =
     let number : ℕ → ℕ → ℤ = share amount (edge_in table e).low (edge_in table e).high in
@@ -243,7 +244,7 @@ face_few mesh f small few = grind (arith, common_steps, length-sides_up_to, side
 
 -- there is room for one more side
 pub face_room : (table : List Edge) (sides : List FaceSide) (t : ℕ) (amount : ℤ) (old now : List ℤ) (e : ℕ)
-    → GrewBy table (λ low high. shares_of amount low high (take t sides)) old now → e < length table → AreWithin (2 ^ 60) old
+    → GrewBy table (λ low high. shares_of amount low high (take t sides)) old now → e < length table → AreNumbersWithin (2 ^ 60) old
     → unsigned_abs amount ≤ MOST_NUMBER → t ≤ MOST_SIDES → unsigned_abs (number_at now e) + unsigned_abs amount < 2 ^ 62
 face_room table sides t amount old now e grew l within small few =
     let number : FaceSide → ℤ = λ side. share amount (edge_in table e).low (edge_in table e).high side.tail side.head in
@@ -254,7 +255,7 @@ face_room table sides t amount old now e grew l within small few =
 -- there is room for one more face
 pub faces_room : (mesh : FaceList) (table : List Edge) (of_face : List ℤ) (n : ℕ) (old now : List ℤ) → HasFileSize mesh
     → GrewBy table (λ low high. neg_ℤ (shares_up_to mesh of_face n low high)) old now → length old ≡ length table
-    → AreWithin (2 ^ 33) old → AreWithin MOST_NUMBER of_face → AreWithin (2 ^ 60) now
+    → AreNumbersWithin (2 ^ 33) old → AreNumbersWithin MOST_NUMBER of_face → AreNumbersWithin (2 ^ 60) now
 faces_room mesh table of_face n old now limits grew long within small = record {
   each = λ k. elim (cases_lt k (length table)) [
     | inl l ↦

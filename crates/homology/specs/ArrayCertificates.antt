@@ -3,7 +3,7 @@ use Rattle.std.specs.Prelude.{◌≡◌, ℕ, List, length, map, ℤ}
 use Rattle.surf_model.specs.FaceLists.{FaceList, FaceSide, all_sides}
 use Rattle.homology.specs.Chains.{IsChain}
 use Rattle.homology.specs.Cocycles.{IsCocycle, Separates, dart_number}
-use Rattle.homology.specs.Tallies.{AreWithin, number_at}
+use Rattle.homology.specs.Tallies.{AreNumbersWithin, number_at}
 use Rattle.homology.specs.declared.array.HomologyNumbers.{HomologyNumbers}
 use Rattle.homology.specs.declared.array.HomologyNumbers.TheVariants.{Chain, Cocycle}
 use Rattle.homology.specs.declared.certificate.TheConstants.{MOST_NUMBER}
@@ -31,5 +31,5 @@ DoShow mesh first second (Cocycle numbers) = AreCocycleNumbers mesh first second
 
 -- and none is larger in size than a number of a certificate may be
 abbrev pub AreSmall : HomologyNumbers → Type 0
-AreSmall (Chain numbers) = AreWithin MOST_NUMBER numbers.items
-AreSmall (Cocycle numbers) = AreWithin MOST_NUMBER numbers.items
+AreSmall (Chain numbers) = AreNumbersWithin MOST_NUMBER numbers.items
+AreSmall (Cocycle numbers) = AreNumbersWithin MOST_NUMBER numbers.items

@@ -2,7 +2,7 @@
 use Rattle.std.specs.Prelude.{◌≡◌, ◌≢◌, ℕ, ◌<◌, ◌≤◌, List, length, ℤ, unsigned_abs}
 use Rattle.surf_model.specs.FaceLists.{FaceList, total_sides}
 use Rattle.homology.specs.ArrayCertificates.{side_numbers}
-use Rattle.homology.specs.Tallies.{AreWithin, number_at}
+use Rattle.homology.specs.Tallies.{AreNumbersWithin, number_at}
 use Rattle.homology.specs.Verdicts.{IsChainVerdict, IsCocycleVerdict}
 use Rattle.homology.specs.declared.array_check.ArrayVerdict.{ArrayVerdict}
 use Rattle.homology.specs.declared.array_check.ArrayVerdict.TheVariants.{Count, Large, Uneven, Judged}
@@ -20,7 +20,8 @@ IsArrayChainVerdict mesh first second numbers Count = length numbers ≢ length 
 IsArrayChainVerdict mesh first second numbers (Large place) = (length numbers ≡ length mesh.faces) × IsFirstLarge numbers place
 IsArrayChainVerdict mesh first second numbers Uneven = ⊥
 IsArrayChainVerdict mesh first second numbers (Judged verdict) =
-    (length numbers ≡ length mesh.faces) × AreWithin MOST_NUMBER numbers × IsChainVerdict mesh (number_at numbers) first second verdict
+    (length numbers ≡ length mesh.faces) × AreNumbersWithin MOST_NUMBER numbers
+    × IsChainVerdict mesh (number_at numbers) first second verdict
 
 -- numbers of the edges give the sides these numbers
 abbrev pub AreEven : FaceList → List ℤ → Type 0
@@ -32,7 +33,7 @@ abbrev pub IsArrayCocycleVerdict : FaceList → (first second : List ℕ) → (n
 IsArrayCocycleVerdict mesh first second numbers Count = length numbers ≢ total_sides mesh
 IsArrayCocycleVerdict mesh first second numbers (Large place) = (length numbers ≡ total_sides mesh) × IsFirstLarge numbers place
 IsArrayCocycleVerdict mesh first second numbers Uneven =
-    (length numbers ≡ total_sides mesh) × AreWithin MOST_NUMBER numbers × (AreEven mesh numbers → ⊥)
+    (length numbers ≡ total_sides mesh) × AreNumbersWithin MOST_NUMBER numbers × (AreEven mesh numbers → ⊥)
 IsArrayCocycleVerdict mesh first second numbers (Judged verdict) =
-    (length numbers ≡ total_sides mesh) × AreWithin MOST_NUMBER numbers × AreEven mesh numbers
+    (length numbers ≡ total_sides mesh) × AreNumbersWithin MOST_NUMBER numbers × AreEven mesh numbers
     × ((of_edge : ℕ → ℕ → ℤ) → numbers ≡ side_numbers mesh of_edge → IsCocycleVerdict mesh of_edge first second verdict)

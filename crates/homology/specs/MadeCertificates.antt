@@ -12,9 +12,9 @@ TakesFace (Chain lines) face = All (λ (line : FaceNumber). line.face.0 < face) 
 TakesFace (Cocycle lines) face = ⊥
 
 -- the chain with the number of that face last
-abbrev pub with_face : HomologyCert → (face : ℕ) → ℤ → HomologyCert
-with_face (Chain lines) face number = Chain (lines ++ record { face = record { 0 = face }; number = number } ∷ [])
-with_face (Cocycle lines) face number = Cocycle lines
+abbrev pub with_face_number : HomologyCert → (face : ℕ) → ℤ → HomologyCert
+with_face_number (Chain lines) face number = Chain (lines ++ record { face = record { 0 = face }; number = number } ∷ [])
+with_face_number (Cocycle lines) face number = Cocycle lines
 
 -- a cocycle of edges before this one, which has room for it
 abbrev pub TakesEdge : HomologyCert → (low high : ℕ) → Type 0

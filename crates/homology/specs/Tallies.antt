@@ -10,8 +10,8 @@ abbrev pub number_at : List ℤ → ℕ → ℤ
 number_at numbers k = slice_index_or numbers k (pos 0)
 
 -- the amount, with a minus sign for a dart that does not start at the lower vertex of its edge
-abbrev pub turned : ℤ → Edge → ℕ → ℤ
-turned amount edge from = if from == edge.low then amount else neg_ℤ amount
+abbrev pub signed_from : ℤ → Edge → ℕ → ℤ
+signed_from amount edge from = if from == edge.low then amount else neg_ℤ amount
 
 -- the number of each edge grew by what is given to that edge
 pub record GrewBy (table : List Edge) (given : ℕ → ℕ → ℤ) (old new : List ℤ) : Type 0 where
@@ -19,7 +19,7 @@ pub record GrewBy (table : List Edge) (given : ℕ → ℕ → ℤ) (old new : L
   pub each : (k : ℕ) → k < length table → number_at new k ≡ number_at old k +ℤ given (edge_in table k).low (edge_in table k).high
 
 -- no number is larger than this in size
-pub record AreWithin (bound : ℕ) (numbers : List ℤ) : Type 0 where
+pub record AreNumbersWithin (bound : ℕ) (numbers : List ℤ) : Type 0 where
   pub each : (k : ℕ) → unsigned_abs (number_at numbers k) ≤ bound
 
 -- what the sides of a face give to an edge
@@ -28,7 +28,7 @@ face_share mesh amount f low high =
     total (map (λ (side : FaceSide). share amount low high side.tail side.head) (sides_of_face f (face_at mesh f)))
 
 -- the numbers of the edges of a table, where an edge of two vertices, the lower first, has this number
-pub record AreNumbersOf (table : List Edge) (numbers : List ℤ) (of_edge : ℕ → ℕ → ℤ) : Type 0 where
+pub record AreTableNumbers (table : List Edge) (numbers : List ℤ) (of_edge : ℕ → ℕ → ℤ) : Type 0 where
   pub long : length numbers ≡ length table
   pub each : (k : ℕ) → k < length table → number_at numbers k ≡ of_edge (edge_in table k).low (edge_in table k).high
 

@@ -3,7 +3,7 @@ ghost use Rattle.std.specs.Prelude.{IfOk, IfNone, IfSome};
 ghost use Rattle.surf_model.specs.Edges.{IsTableOf};
 ghost use Rattle.surf_model.specs.Walks.{IsWalk};
 ghost use Rattle.homology.specs.ArrayVerdicts.{IsArrayChainVerdict, IsArrayCocycleVerdict, IsFirstLarge};
-ghost use Rattle.homology.specs.Tallies.{AreWithin};
+ghost use Rattle.homology.specs.Tallies.{AreNumbersWithin};
 ghost use Rattle.homology.specs.declared.certificate.TheConstants.{MOST_NUMBER};
 
 use crate::certificate::MOST_NUMBER;
@@ -94,7 +94,7 @@ pub fn check_cocycle_array(
 /// The first number that is too large in size.
 fn first_large(numbers: &[i64]) -> Option<usize>
     ensures some { IfSome result (IsFirstLarge numbers.now) }
-    ensures none { IfNone result (AreWithin MOST_NUMBER numbers.now) }
+    ensures none { IfNone result (AreNumbersWithin MOST_NUMBER numbers.now) }
 {
     for place in 0..numbers.len() {
         if numbers[place].unsigned_abs() > u64::from(MOST_NUMBER) {

@@ -158,7 +158,7 @@ pub enum HomologyCert {
 
 impl HomologyCert {
     ghost use Rattle.std.specs.Prelude.{◌≡◌, [], if◌then◌else◌};
-    ghost use Rattle.homology.specs.MadeCertificates.{TakesEdge, TakesFace, with_edge, with_face};
+    ghost use Rattle.homology.specs.MadeCertificates.{TakesEdge, TakesFace, with_edge, with_face_number};
     ghost use Rattle.homology.specs.declared.certificate.HomologyCert.TheVariants.{Chain, Cocycle};
 
     /// A chain or a cocycle with no numbers. It takes no memory.
@@ -176,7 +176,7 @@ impl HomologyCert {
     pub fn push_face(&mut self, face: u32, number: i64) -> Result<(), AllocError>
         requires chain { TakesFace self.old face }
         requires small { unsigned_abs number ≤ MOST_NUMBER }
-        ensures ok { OnOk result (self.new ≡ with_face self.old face number) }
+        ensures ok { OnOk result (self.new ≡ with_face_number self.old face number) }
         ensures err { OnErr result (self.new ≡ self.old) }
     {
         match self {

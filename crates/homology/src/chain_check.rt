@@ -1,7 +1,7 @@
 //! Whether a chain tells two walks apart at every edge.
 ghost use Rattle.std.specs.Prelude.{◌≡◌, ℕ, ℤ, length, IfOk};
 ghost use Rattle.surf_model.specs.Edges.{IsTableOf};
-ghost use Rattle.homology.specs.Tallies.{AreWithin, number_at};
+ghost use Rattle.homology.specs.Tallies.{AreNumbersWithin, number_at};
 ghost use Rattle.homology.specs.Verdicts.{IsChainVerdict, IsVerdict};
 ghost use Rattle.homology.specs.declared.certificate.TheConstants.{MOST_NUMBER};
 ghost use Rattle.homology.specs.declared.certificate.HomologyCert.TheVariants.{Chain};
@@ -37,7 +37,7 @@ pub(crate) fn judge_faces(
 ) -> Result<HomologyVerdict, AllocError>
     requires table { IsTableOf walks.faces.now walks.sides.now }
     requires each_face { length of_face.now ≡ length walks.faces.now.faces }
-    requires small { AreWithin MOST_NUMBER of_face.now }
+    requires small { AreNumbersWithin MOST_NUMBER of_face.now }
     ensures { IfOk result (λ verdict. (number : ℕ → ℤ) → ((f : ℕ) → number_at of_face.now f ≡ number f)
         → IsChainVerdict walks.entry.faces.now number walks.entry.first.now walks.entry.second.now verdict) }
 {

@@ -5,7 +5,7 @@ ghost use Rattle.surf_model.specs.Walks.{IsWalk};
 ghost use Rattle.homology.specs.Sums.{along};
 ghost use Rattle.homology.specs.Cocycles.{dart_number, face_sum, IsCocycle};
 ghost use Rattle.homology.specs.Verdicts.{IsCocycleVerdict, IsLeastOpen, IsVerdict};
-ghost use Rattle.homology.specs.Tallies.{AreWithin, AreNumbersOf};
+ghost use Rattle.homology.specs.Tallies.{AreNumbersWithin, AreTableNumbers};
 ghost use Rattle.homology.specs.declared.certificate.HomologyCert.TheVariants.{Cocycle};
 ghost use Rattle.homology.specs.declared.certificate.TheConstants.{MOST_NUMBER};
 
@@ -39,8 +39,8 @@ pub(crate) fn check_cocycle(
 pub(crate) fn judge_edges(walks: WalkPair<'_>, of_edge: &[i64]) -> HomologyVerdict
     requires table { IsTableOf walks.faces.now walks.sides.now }
     requires long { length of_edge.now ≡ length walks.sides.now }
-    requires small { AreWithin MOST_NUMBER of_edge.now }
-    ensures { (number : ℕ → ℕ → ℤ) → AreNumbersOf walks.entry.sides.now of_edge.now number
+    requires small { AreNumbersWithin MOST_NUMBER of_edge.now }
+    ensures { (number : ℕ → ℕ → ℤ) → AreTableNumbers walks.entry.sides.now of_edge.now number
         → IsCocycleVerdict walks.entry.faces.now number walks.entry.first.now walks.entry.second.now result }
 {
     let (faces, sides) = (walks.faces, walks.sides);
@@ -59,8 +59,8 @@ pub(crate) fn judge_edges(walks: WalkPair<'_>, of_edge: &[i64]) -> HomologyVerdi
 fn first_open(faces: &Faces, sides: &Sides, of_edge: &[i64]) -> Option<FaceName>
     requires table { IsTableOf faces.now sides.now }
     requires long { length of_edge.now ≡ length sides.now }
-    requires small { AreWithin MOST_NUMBER of_edge.now }
-    ensures { (number : ℕ → ℕ → ℤ) → AreNumbersOf sides.now of_edge.now number
+    requires small { AreNumbersWithin MOST_NUMBER of_edge.now }
+    ensures { (number : ℕ → ℕ → ℤ) → AreTableNumbers sides.now of_edge.now number
         → MatchOption result (IsCocycle faces.now number) (λ face. IsLeastOpen faces.now number face.0) }
 {
     for face in 0..faces.len() {
@@ -75,9 +75,9 @@ fn first_open(faces: &Faces, sides: &Sides, of_edge: &[i64]) -> Option<FaceName>
 fn sum_round(faces: &Faces, sides: &Sides, of_edge: &[i64], face: FaceName) -> i64
     requires table { IsTableOf faces.now sides.now }
     requires long { length of_edge.now ≡ length sides.now }
-    requires small { AreWithin MOST_NUMBER of_edge.now }
+    requires small { AreNumbersWithin MOST_NUMBER of_edge.now }
     requires face { face.0 < length faces.now.faces }
-    ensures { (number : ℕ → ℕ → ℤ) → AreNumbersOf sides.now of_edge.now number → result ≡ face_sum faces.now number face.0 }
+    ensures { (number : ℕ → ℕ → ℤ) → AreTableNumbers sides.now of_edge.now number → result ≡ face_sum faces.now number face.0 }
 {
     let mut sum = 0i64;
     for at in 0..faces.sides(face) {
@@ -91,9 +91,9 @@ fn sum_round(faces: &Faces, sides: &Sides, of_edge: &[i64], face: FaceName) -> i
 fn sum_along(faces: &Faces, sides: &Sides, of_edge: &[i64], walk: &Walk) -> i64
     requires table { IsTableOf faces.now sides.now }
     requires long { length of_edge.now ≡ length sides.now }
-    requires small { AreWithin MOST_NUMBER of_edge.now }
+    requires small { AreNumbersWithin MOST_NUMBER of_edge.now }
     requires walk { IsWalk faces.now walk.now }
-    ensures { (number : ℕ → ℕ → ℤ) → AreNumbersOf sides.now of_edge.now number → result ≡ along (dart_number number) walk.now }
+    ensures { (number : ℕ → ℕ → ℤ) → AreTableNumbers sides.now of_edge.now number → result ≡ along (dart_number number) walk.now }
 {
     let mut sum = 0i64;
     for dart in 0..walk.darts() {

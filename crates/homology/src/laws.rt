@@ -10,7 +10,7 @@ ghost use Rattle.homology.specs.Chains.{IsChain, AreHomologous, net_crossings};
 ghost use Rattle.homology.specs.Cocycles.{IsCocycle, Separates, separation, edge_sum};
 ghost use Rattle.homology.specs.ArrayCertificates.{AreChainNumbers, AreCocycleNumbers};
 ghost use Rattle.homology.specs.ArrayVerdicts.{IsArrayChainVerdict, IsArrayCocycleVerdict};
-ghost use Rattle.homology.specs.Tallies.{AreWithin};
+ghost use Rattle.homology.specs.Tallies.{AreNumbersWithin};
 ghost use Rattle.homology.specs.declared.array_check.ArrayVerdict.{ArrayVerdict};
 ghost use Rattle.homology.specs.declared.array_check.ArrayVerdict.TheVariants.{Judged};
 ghost use Rattle.homology.specs.declared.certificate.TheConstants.{MOST_NUMBER};
@@ -43,10 +43,10 @@ pub fn separation_is_a_sum_over_edges()
 pub fn arrays_are_accepted_where_they_hold()
     ensures chain { (mesh : FaceList) (first second : List ℕ) (numbers : List ℤ) (verdict : ArrayVerdict)
         → IsArrayChainVerdict mesh first second numbers verdict
-        → (verdict ≡ Judged Accepted) ↔ (AreChainNumbers mesh first second numbers × AreWithin MOST_NUMBER numbers) }
+        → (verdict ≡ Judged Accepted) ↔ (AreChainNumbers mesh first second numbers × AreNumbersWithin MOST_NUMBER numbers) }
     ensures cocycle { (mesh : FaceList) (first second : List ℕ) (numbers : List ℤ) (verdict : ArrayVerdict)
         → IsArrayCocycleVerdict mesh first second numbers verdict
-        → (verdict ≡ Judged Accepted) ↔ (AreCocycleNumbers mesh first second numbers × AreWithin MOST_NUMBER numbers) }
+        → (verdict ≡ Judged Accepted) ↔ (AreCocycleNumbers mesh first second numbers × AreNumbersWithin MOST_NUMBER numbers) }
 {}
 
 /// What an array shows, on any mesh: where it is a chain for two walks they are homologous, and where it is a cocycle that separates them

@@ -4,7 +4,7 @@ ghost use Rattle.surf_model.specs.FaceLists.{is_edge};
 ghost use Rattle.surf_model.specs.Edges.{IsTableOf};
 ghost use Rattle.homology.specs.Certificates.{face_number, edge_number};
 ghost use Rattle.homology.specs.Verdicts.{IsFirstAgainst, HasFace, HasEdge};
-ghost use Rattle.homology.specs.Tallies.{number_at, AreWithin, AreNumbersOf};
+ghost use Rattle.homology.specs.Tallies.{number_at, AreNumbersWithin, AreTableNumbers};
 ghost use Rattle.homology.specs.declared.certificate.FaceNumber.{FaceNumber};
 ghost use Rattle.homology.specs.declared.certificate.EdgeNumber.{EdgeNumber};
 ghost use Rattle.homology.specs.declared.certificate.TheConstants.{MOST_NUMBER};
@@ -38,7 +38,7 @@ pub(crate) fn numbers_by_face(
     requires { All (HasFace faces.now) numbers.now }
     ensures each_face { IfOk result (λ of_face. length of_face.items ≡ length faces.now.faces) }
     ensures numbers { IfOk result (λ of_face. (f : ℕ) → number_at of_face.items f ≡ face_number numbers.now f) }
-    ensures small { IfOk result (λ of_face. AreWithin MOST_NUMBER of_face.items) }
+    ensures small { IfOk result (λ of_face. AreNumbersWithin MOST_NUMBER of_face.items) }
 {
     let mut of_face = vec![in alloc; 0i64; faces.len() as usize]?;
     for k in 0..numbers.len() {
@@ -84,8 +84,8 @@ pub(crate) fn numbers_by_edge(
 ) -> Result<Vec<i64>, AllocError>
     requires table { IsTableOf faces.now sides.now }
     requires edges { All (HasEdge faces.now) numbers.now }
-    ensures numbers { IfOk result (λ of_edge. AreNumbersOf sides.now of_edge.items (edge_number numbers.now)) }
-    ensures small { IfOk result (λ of_edge. AreWithin MOST_NUMBER of_edge.items) }
+    ensures numbers { IfOk result (λ of_edge. AreTableNumbers sides.now of_edge.items (edge_number numbers.now)) }
+    ensures small { IfOk result (λ of_edge. AreNumbersWithin MOST_NUMBER of_edge.items) }
 {
     let mut of_edge = vec![in alloc; 0i64; sides.len() as usize]?;
     for k in 0..numbers.len() {

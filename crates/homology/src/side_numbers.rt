@@ -4,7 +4,7 @@ ghost use Rattle.surf_model.specs.Edges.{IsTableOf, edge_in};
 ghost use Rattle.surf_model.specs.FaceLists.{total_sides};
 ghost use Rattle.homology.specs.ArrayCertificates.{side_numbers};
 ghost use Rattle.homology.specs.Certificates.{edge_number};
-ghost use Rattle.homology.specs.Tallies.{AreNumbersOf, AreWithin};
+ghost use Rattle.homology.specs.Tallies.{AreTableNumbers, AreNumbersWithin};
 ghost use Rattle.homology.specs.Verdicts.{HasEdge};
 ghost use Rattle.homology.specs.declared.certificate.TheConstants.{MOST_NUMBER};
 
@@ -24,7 +24,7 @@ pub(crate) fn numbers_by_side(
     requires table { IsTableOf faces.now sides.now }
     requires edges { All (HasEdge faces.now) numbers.now }
     ensures numbers { IfOk result (λ of_side. of_side.items ≡ side_numbers faces.now (edge_number numbers.now)) }
-    ensures small { IfOk result (λ of_side. AreWithin MOST_NUMBER of_side.items) }
+    ensures small { IfOk result (λ of_side. AreNumbersWithin MOST_NUMBER of_side.items) }
 {
     let of_edge = numbers_by_edge(alloc, faces, sides, numbers)?;
     numbers_round(alloc, faces, sides, &of_edge)
@@ -39,10 +39,10 @@ fn numbers_round(
 ) -> Result<Vec<i64>, AllocError>
     requires table { IsTableOf faces.now sides.now }
     requires long { length of_edge.now ≡ length sides.now }
-    requires small { AreWithin MOST_NUMBER of_edge.now }
-    ensures numbers { (number : ℕ → ℕ → ℤ) → AreNumbersOf sides.now of_edge.now number
+    requires small { AreNumbersWithin MOST_NUMBER of_edge.now }
+    ensures numbers { (number : ℕ → ℕ → ℤ) → AreTableNumbers sides.now of_edge.now number
         → IfOk result (λ of_side. of_side.items ≡ side_numbers faces.now number) }
-    ensures small { IfOk result (λ of_side. AreWithin MOST_NUMBER of_side.items) }
+    ensures small { IfOk result (λ of_side. AreNumbersWithin MOST_NUMBER of_side.items) }
 {
     let mut of_side = Vec::with_capacity(alloc, faces.total() as usize)?;
     for dart in 0..faces.total() {
@@ -62,11 +62,11 @@ pub(crate) fn numbers_of_edges(
 ) -> Result<Vec<i64>, AllocError>
     requires table { IsTableOf faces.now sides.now }
     requires long { length of_side.now ≡ total_sides faces.now }
-    requires small { AreWithin MOST_NUMBER of_side.now }
+    requires small { AreNumbersWithin MOST_NUMBER of_side.now }
     ensures long { IfOk result (λ of_edge. length of_edge.items ≡ length sides.now) }
-    ensures small { IfOk result (λ of_edge. AreWithin MOST_NUMBER of_edge.items) }
+    ensures small { IfOk result (λ of_edge. AreNumbersWithin MOST_NUMBER of_edge.items) }
     ensures numbers { (number : ℕ → ℕ → ℤ) → of_side.now ≡ side_numbers faces.now number
-        → IfOk result (λ of_edge. AreNumbersOf sides.now of_edge.items number) }
+        → IfOk result (λ of_edge. AreTableNumbers sides.now of_edge.items number) }
 {
     let mut of_edge = Vec::with_capacity(alloc, sides.len() as usize)?;
     for edge in 0..sides.len() {
@@ -80,7 +80,7 @@ fn number_by_side(faces: &Faces, sides: &Sides, of_side: &[i64], edge: EdgeName)
     requires table { IsTableOf faces.now sides.now }
     requires edge { edge.0 < length sides.now }
     requires long { length of_side.now ≡ total_sides faces.now }
-    requires small { AreWithin MOST_NUMBER of_side.now }
+    requires small { AreNumbersWithin MOST_NUMBER of_side.now }
     ensures small { unsigned_abs result ≤ MOST_NUMBER }
     ensures number { (number : ℕ → ℕ → ℤ) → of_side.now ≡ side_numbers faces.now number
         → result ≡ number (edge_in sides.now edge.0).low (edge_in sides.now edge.0).high }
@@ -99,10 +99,10 @@ fn number_by_side(faces: &Faces, sides: &Sides, of_side: &[i64], edge: EdgeName)
 pub(crate) fn are_even(faces: &Faces, sides: &Sides, of_side: &[i64], of_edge: &[i64]) -> bool
     requires table { IsTableOf faces.now sides.now }
     requires sides { length of_side.now ≡ total_sides faces.now }
-    requires of_side { AreWithin MOST_NUMBER of_side.now }
+    requires of_side { AreNumbersWithin MOST_NUMBER of_side.now }
     requires long { length of_edge.now ≡ length sides.now }
-    requires small { AreWithin MOST_NUMBER of_edge.now }
-    ensures { (number : ℕ → ℕ → ℤ) → AreNumbersOf sides.now of_edge.now number
+    requires small { AreNumbersWithin MOST_NUMBER of_edge.now }
+    ensures { (number : ℕ → ℕ → ℤ) → AreTableNumbers sides.now of_edge.now number
         → IsTrue result ↔ (of_side.now ≡ side_numbers faces.now number) }
 {
     for dart in 0..faces.total() {

@@ -5,7 +5,7 @@ ghost use Rattle.surf_model.specs.Edges.{IsTableOf, HasEnds, edge_in};
 ghost use Rattle.surf_model.specs.Walks.{IsWalk, darts};
 ghost use Rattle.homology.specs.Sums.{along, share};
 ghost use Rattle.homology.specs.Chains.{boundary, count_difference};
-ghost use Rattle.homology.specs.Tallies.{number_at, turned, GrewBy, AreWithin, AreNumbersOf, face_share, IsLeft};
+ghost use Rattle.homology.specs.Tallies.{number_at, signed_from, GrewBy, AreNumbersWithin, AreTableNumbers, face_share, IsLeft};
 ghost use Rattle.homology.specs.declared.certificate.TheConstants.{MOST_NUMBER};
 
 use crate::walk_pair::WalkPair;
@@ -23,9 +23,9 @@ pub fn count_differences(
     requires table { IsTableOf faces.now sides.now }
     requires first { IsWalk faces.now first.now }
     requires second { IsWalk faces.now second.now }
-    ensures counts { IfOk result (λ counts. AreNumbersOf sides.now counts.items (count_difference first.now second.now)) }
+    ensures counts { IfOk result (λ counts. AreTableNumbers sides.now counts.items (count_difference first.now second.now)) }
     // Two walks have fewer than 2^32 darts together.
-    ensures room { IfOk result (λ counts. AreWithin (2 ^ 32) counts.items) }
+    ensures room { IfOk result (λ counts. AreNumbersWithin (2 ^ 32) counts.items) }
 {
     let mut counts = vec![in alloc; 0i64; sides.len() as usize]?;
     give_walks(&mut counts, faces, sides, first, second);
@@ -39,8 +39,8 @@ fn give_walks(counts: &mut [i64], faces: &Faces, sides: &Sides, first: &Walk, se
     requires second { IsWalk faces.now second.now }
     requires long { length counts.old ≡ length sides.now }
     requires zeros { (k : ℕ) → number_at counts.old k ≡ pos 0 }
-    ensures counts { AreNumbersOf sides.now counts.new (count_difference first.now second.now) }
-    ensures room { AreWithin (2 ^ 32) counts.new }
+    ensures counts { AreTableNumbers sides.now counts.new (count_difference first.now second.now) }
+    ensures room { AreNumbersWithin (2 ^ 32) counts.new }
 {
     add_walk(counts, faces, sides, first, 1);
     add_walk(counts, faces, sides, second, -1);
@@ -54,7 +54,7 @@ pub(crate) fn rest_of(
 ) -> Result<Vec<i64>, AllocError>
     requires table { IsTableOf walks.faces.now walks.sides.now }
     requires each_face { length of_face.now ≡ length walks.faces.now.faces }
-    requires small { AreWithin MOST_NUMBER of_face.now }
+    requires small { AreNumbersWithin MOST_NUMBER of_face.now }
     ensures { IfOk result (λ rest. IsLeft walks.entry.faces.now walks.entry.sides.now (number_at of_face.now) walks.entry.first.now
         walks.entry.second.now rest.items) }
 {
@@ -85,10 +85,10 @@ fn add_walk(tally: &mut [i64], faces: &Faces, sides: &Sides, walk: &Walk, amount
     requires walk { IsWalk faces.now walk.now }
     requires long { length tally.old ≡ length sides.now }
     requires small { unsigned_abs amount ≤ 1 }
-    requires room { AreWithin (2 ^ 32) tally.old }
+    requires room { AreNumbersWithin (2 ^ 32) tally.old }
     ensures grew { GrewBy sides.now (λ low high. along (share amount low high) walk.now) tally.old tally.new }
     // A walk has fewer than 2^31 darts.
-    ensures size { (bound : ℕ) → AreWithin bound tally.old → AreWithin (bound + 2 ^ 31) tally.new }
+    ensures size { (bound : ℕ) → AreNumbersWithin bound tally.old → AreNumbersWithin (bound + 2 ^ 31) tally.new }
 {
     for dart in 0..walk.darts() {
         let from = walk.at(dart);
@@ -101,8 +101,8 @@ fn add_walk(tally: &mut [i64], faces: &Faces, sides: &Sides, walk: &Walk, amount
 pub fn number_of_dart(sides: &Sides, of_edge: &[i64], edge: EdgeName, from: VertexName) -> i64
     requires edge { edge.0 < length sides.now }
     requires long { length of_edge.now ≡ length sides.now }
-    requires small { AreWithin MOST_NUMBER of_edge.now }
-    ensures number { result ≡ turned (number_at of_edge.now edge.0) (edge_in sides.now edge.0) from.0 }
+    requires small { AreNumbersWithin MOST_NUMBER of_edge.now }
+    ensures number { result ≡ signed_from (number_at of_edge.now edge.0) (edge_in sides.now edge.0) from.0 }
     ensures small { unsigned_abs result ≤ MOST_NUMBER }
 {
     let number = of_edge[edge.0 as usize];
@@ -124,8 +124,8 @@ pub fn take_faces(tally: &mut [i64], faces: &Faces, sides: &Sides, of_face: &[i6
     requires table { IsTableOf faces.now sides.now }
     requires long { length tally.old ≡ length sides.now }
     requires each_face { length of_face.now ≡ length faces.now.faces }
-    requires small { AreWithin MOST_NUMBER of_face.now }
-    requires room { AreWithin (2 ^ 33) tally.old }
+    requires small { AreNumbersWithin MOST_NUMBER of_face.now }
+    requires room { AreNumbersWithin (2 ^ 33) tally.old }
     ensures { GrewBy sides.now (λ low high. neg_ℤ (boundary faces.now (number_at of_face.now) low high)) tally.old tally.new }
 {
     for face in 0..faces.len() {
@@ -140,7 +140,7 @@ fn add_face(tally: &mut [i64], faces: &Faces, sides: &Sides, face: FaceName, amo
     requires face { face.0 < length faces.now.faces }
     requires long { length tally.old ≡ length sides.now }
     requires small { unsigned_abs amount ≤ MOST_NUMBER }
-    requires room { AreWithin (2 ^ 60) tally.old }
+    requires room { AreNumbersWithin (2 ^ 60) tally.old }
     ensures { GrewBy sides.now (face_share faces.now amount face.0) tally.old tally.new }
 {
     for at in 0..faces.sides(face) {
@@ -155,7 +155,7 @@ pub fn add_dart(tally: &mut [i64], sides: &Sides, edge: EdgeName, from: VertexNa
     requires long { length tally.old ≡ length sides.now }
     requires room { unsigned_abs (number_at tally.old edge.0) + unsigned_abs amount < 2 ^ 62 }
     ensures { tally.new
-        ≡ slice_set tally.old edge.0 (number_at tally.old edge.0 +ℤ turned amount (edge_in sides.now edge.0) from.0) }
+        ≡ slice_set tally.old edge.0 (number_at tally.old edge.0 +ℤ signed_from amount (edge_in sides.now edge.0) from.0) }
 {
     let (low, _) = sides.ends(edge);
     let entry = &mut tally[edge.0 as usize];

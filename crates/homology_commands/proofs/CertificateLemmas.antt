@@ -1,5 +1,5 @@
 -- What was found of two walks on their component, listed, shows the same of them on the whole mesh.
-use Rattle.homology_commands.proofs.Common.{walk_there, IsComponentOf, IsPart, surface_of, Homologous, NotHomologous, ShowsHomology, answer_in, OrientedMesh, AreFaceNumbers, AreEdgeNumbers, face_number, edge_number, AreHomologous, IsChain, IsCocycle, number_at, EdgeNumber, FaceNumber, HomologyCert, IsNamed, ListsFaces, IsAmong, ListsEdges, name_in, IsChainFor, IsCocycleFor, IsOfComponent, piece_of_parts, IsPiece, edge_up, length-submesh, ◌≡◌, ◌↔◌, inl, inr, ℕ, ◌<◌, ◌≤◌, true, false, List, length, get_or, refl, ap, ap₂, sym, ◌∙◌, subst, arith, ℤ, pos, cases_lt, filter_passes, range_with_len, All, Linked, links, component_at, IsTableOf, edge_in, FaceList, is_edge, IsWalk}
+use Rattle.homology_commands.proofs.Common.{walk_there, IsComponentOf, IsPart, surface_of, Homologous, NotHomologous, ShowsHomology, answer_in, OrientedMesh, AreFaceNumbers, AreEdgeNumbers, face_number, edge_number, AreHomologous, IsChain, IsCocycle, number_at, EdgeNumber, FaceNumber, HomologyCert, IsFaceNamed, ListsFaces, IsAmong, ListsEdges, name_in, IsChainFor, IsCocycleFor, IsOfComponent, piece_of_parts, IsPiece, edge_up, length-submesh, ◌≡◌, ◌↔◌, inl, inr, ℕ, ◌<◌, ◌≤◌, true, false, List, length, get_or, refl, ap, ap₂, sym, ◌∙◌, subst, arith, ℤ, pos, cases_lt, filter_passes, range_with_len, All, Linked, links, component_at, IsTableOf, edge_in, FaceList, is_edge, IsWalk}
 use Rattle.closed_surfaces.specs.declared.component.Component.{Component}
 use Rattle.closed_surfaces.specs.declared.component.Component.TheVariants.{Whole, Alone}
 use Rattle.homology.proofs.PairingLemmas.{refuted}
@@ -87,7 +87,7 @@ shows_chain mesh v component first second numbers lines h w z starts also found 
     let there : All (HasFace mesh) lines =
     λ k d l.
     let line : FaceNumber = get_or lines k d in
-    let is : IsNamed (name_in component) (length numbers) line = listed.named k d l in
+    let is : IsFaceNamed (name_in component) (length numbers) line = listed.named k d l in
     subst (λ f. f < length mesh.faces) is.2 (name_within mesh v component is.0 h (omega (arith, is.1, found.each_face))) in
     record {
       holds = (

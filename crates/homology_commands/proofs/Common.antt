@@ -4,7 +4,7 @@ pub use Rattle.closed_surfaces.specs.SignedSurfaces.{IsComponentOf, IsPart, surf
 pub use Rattle.commands.proofs.Rows.{input_so, sound-pair}
 pub use Rattle.commands.specs.Checks.{Check, Pass, Passes, Refuse, meant, pass_unless, ◌>>=◌}
 pub use Rattle.commands.specs.HomologyCertificates.{Homologous, HomologyAnswer, NotHomologous, ShowsHomology, answer_in, homology_line, homology_status, homology_text}
-pub use Rattle.commands.specs.Inputs.{pair_in, walk_at}
+pub use Rattle.commands.specs.Inputs.{pair_in}
 pub use Rattle.commands.specs.Outcomes.{AnswersTo, IsAnswerOf, Outcome}
 pub use Rattle.commands.specs.declared.status.Status.{Status}
 pub use Rattle.halfedge_map.specs.OrientedMeshes.{OrientedMesh}
@@ -13,13 +13,13 @@ pub use Rattle.homology.specs.Certificates.{AreEdgeNumbers, AreFaceNumbers, edge
 pub use Rattle.homology.specs.Chains.{AreHomologous, IsChain, boundary, count_of}
 pub use Rattle.homology.specs.Cocycles.{IsCocycle, Separates, dart_number, face_sum}
 pub use Rattle.homology.specs.Sums.{along, round, share, total}
-pub use Rattle.homology.specs.Tallies.{AreWithin, number_at}
+pub use Rattle.homology.specs.Tallies.{AreNumbersWithin, number_at}
 pub use Rattle.homology.specs.declared.certificate.EdgeNumber.{EdgeNumber}
 pub use Rattle.homology.specs.declared.certificate.FaceNumber.{FaceNumber}
 pub use Rattle.homology.specs.declared.certificate.HomologyCert.{HomologyCert}
 pub use Rattle.homology.specs.declared.certificate.TheConstants.{MOST_NUMBER}
 pub use Rattle.homology_commands.specs.Homology.{IsHomologyAnswered, IsHomologyInput, IsHomologyPrinted, homology, homology_answer, homology_shown}
-pub use Rattle.homology_commands.specs.Listings.{IsAmong, IsNamed, ListsEdges, ListsFaces, name_in}
+pub use Rattle.homology_commands.specs.Listings.{IsAmong, IsFaceNamed, ListsEdges, ListsFaces, name_in}
 pub use Rattle.homology_deciding.specs.Proofs.{IsChainFor, IsCocycleFor, IsProofFor}
 pub use Rattle.homology_files.specs.WrittenTexts.{EdgeFits, FaceFits, cert_text, kind_in}
 pub use Rattle.manifold_check.proofs.PartPieces.{IsOfComponent, face_same_place, piece_of_parts}
@@ -39,5 +39,5 @@ pub use Rattle.surf_model.specs.ComponentParts.{AreParts, PartsView, component_a
 pub use Rattle.surf_model.specs.Edges.{Edge, IsPairBefore, IsTableOf, edge_in}
 pub use Rattle.surf_model.specs.FaceLists.{FaceList, FaceSide, all_sides, corners_from, face_at, joins, next_corner}
 unfoldable pub use Rattle.surf_model.specs.FaceLists.{is_edge}
-pub use Rattle.surf_model.specs.Walks.{AreWalkPair, IsWalk, darts}
+pub use Rattle.surf_model.specs.Walks.{AreWalkPair, IsWalk, darts, walk_at}
 pub use Rattle.surface_commands.proofs.SurfaceRows.{outcome_of_pair, sound-surface_in}

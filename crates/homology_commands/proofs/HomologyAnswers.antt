@@ -1,5 +1,5 @@
 -- How the checks of `homology` end, and what they leave to be answered.
-use Rattle.homology_commands.proofs.Common.{sound-pair, Check, Refuse, Pass, HomologyAnswer, Homologous, NotHomologous, homology_status, pair_in, walk_at, Outcome, IsAnswerOf, Status, AreHomologous, homology, homology_answer, homology_shown, IsHomologyPrinted, ◌≡◌, ◌⊎◌, inl, inr, ℕ, List, refl, sym, ap, ◌∙◌, subst, Option, Files, FaceList, sound-surface_in}
+use Rattle.homology_commands.proofs.Common.{sound-pair, Check, Refuse, Pass, HomologyAnswer, Homologous, NotHomologous, homology_status, pair_in, Outcome, IsAnswerOf, Status, AreHomologous, homology, homology_answer, homology_shown, IsHomologyPrinted, ◌≡◌, ◌⊎◌, inl, inr, ℕ, List, refl, sym, ap, ◌∙◌, subst, Option, Files, FaceList, walk_at, sound-surface_in}
 use Rattle.commands.proofs.RightAnswers.{yes_exactly}
 use Rattle.commands.proofs.Sound.{IsSound, IsYesOrNo, sound-decided_by, sound-then}
 use Rattle.commands.specs.Answers.{Answer}

@@ -1,5 +1,5 @@
 -- Listing the numbers that are not 0, one by one.
-use Rattle.homology_commands.proofs.Common.{listed_number, face_number, edge_number, AreWithin, number_at, EdgeNumber, FaceNumber, MOST_NUMBER, IsNamed, ListsFaces, IsAmong, ListsEdges, FaceFits, EdgeFits, ◌≡◌, ◌≢◌, ◌⊎◌, inl, inr, ℕ, zero, suc, ◌+◌, ◌<◌, Bool, true, false, List, [], ◌∷◌, ◌++◌, length-append, get_or, refl, ap, sym, ◌∙◌, subst, arith, ℤ, pos, negsuc, to_z, of_z, w64, ◌≤◌, cases_Bool, cases_lt, nat_tests, ints, All-nil, All-push, get_or_from_slice_get, All, Some, if◌then◌else◌, ◌==◌, ◌&&◌, slice_get, unsigned_abs, Edge, IsPairBefore, edge_in}
+use Rattle.homology_commands.proofs.Common.{listed_number, face_number, edge_number, AreNumbersWithin, number_at, EdgeNumber, FaceNumber, MOST_NUMBER, IsFaceNamed, ListsFaces, IsAmong, ListsEdges, FaceFits, EdgeFits, ◌≡◌, ◌≢◌, ◌⊎◌, inl, inr, ℕ, zero, suc, ◌+◌, ◌<◌, Bool, true, false, List, [], ◌∷◌, ◌++◌, length-append, get_or, refl, ap, sym, ◌∙◌, subst, arith, ℤ, pos, negsuc, to_z, of_z, w64, ◌≤◌, cases_Bool, cases_lt, nat_tests, ints, All-nil, All-push, get_or_from_slice_get, All, Some, if◌then◌else◌, ◌==◌, ◌&&◌, slice_get, unsigned_abs, Edge, IsPairBefore, edge_in}
 use Rattle.homology.proofs.NumbersLemmas.{listed_more}
 use Rattle.homology.proofs.SizeLemmas.{sent}
 
@@ -10,7 +10,7 @@ pub record IsNumberAt (numbers : List ℤ) (place : ℕ) (number : ℤ) : Type 0
   pub is : number ≡ number_at numbers place
   pub small : unsigned_abs number ≤ MOST_NUMBER
 
-pub number_sent : (numbers : List ℤ) (place : ℕ) (number : ℤ) → AreWithin MOST_NUMBER numbers → slice_get numbers place ≡ Some number
+pub number_sent : (numbers : List ℤ) (place : ℕ) (number : ℤ) → AreNumbersWithin MOST_NUMBER numbers → slice_get numbers place ≡ Some number
     → IsNumberAt numbers place (to_z w64 (of_z w64 number))
 number_sent numbers place number within at =
     let is : number_at numbers place ≡ number = get_or_from_slice_get numbers place number (pos 0) at in
@@ -61,7 +61,7 @@ module _ (name : ℕ → ℕ) (number : ℕ → ℤ) where
   no_faces = record {
     each = λ k l. absurd (omega (arith, l));
     others = λ f h. refl;
-    named = All-nil (IsNamed name 0);
+    named = All-nil (IsFaceNamed name 0);
     no_zeros = All-nil (λ (line : FaceNumber). line.number ≢ pos 0);
     fits = All-nil FaceFits;
     few = omega arith;
@@ -71,11 +71,11 @@ module _ (name : ℕ → ℕ) (number : ℕ → ℤ) where
     -- the faces that are listed come before the next one
     pub faces_before : All (λ (line : FaceNumber). line.face.0 < name k) lines
     faces_before =
-        all_weaker (IsNamed name k) (λ (line : FaceNumber). line.face.0 < name k) lines
+        all_weaker (IsFaceNamed name k) (λ (line : FaceNumber). line.face.0 < name k) lines
         (λ line is. subst (λ n. n < name k) is.2 (rises is.0 is.1)) h.named
 
-    more_named : All (IsNamed name (k + 1)) lines
-    more_named = all_weaker (IsNamed name k) (IsNamed name (k + 1)) lines (λ line is. (is.0, omega (arith, is.1), is.2)) h.named
+    more_named : All (IsFaceNamed name (k + 1)) lines
+    more_named = all_weaker (IsFaceNamed name k) (IsFaceNamed name (k + 1)) lines (λ line is. (is.0, omega (arith, is.1), is.2)) h.named
 
     pub face_skipped : number k ≡ pos 0 → ListsFaces name number (k + 1) lines
     face_skipped zero_there = record {
@@ -113,7 +113,7 @@ module _ (name : ℕ → ℕ) (number : ℕ → ℤ) where
           line_is_off (λ (x : FaceNumber). x.face.0 == f) (λ (x : FaceNumber). x.number) lines line
           (other_face line f (λ e. none k (omega arith) (sym named_so ∙ e)))
           ∙ h.others f (λ j l. none j (omega (arith, l)));
-      named = All-push (IsNamed name (k + 1)) lines line more_named (k, omega arith, sym named_so);
+      named = All-push (IsFaceNamed name (k + 1)) lines line more_named (k, omega arith, sym named_so);
       no_zeros =
           All-push (λ (x : FaceNumber). x.number ≢ pos 0) lines line h.no_zeros (λ e. some (sym numbered ∙ e));
       fits = All-push FaceFits lines line h.fits fits;

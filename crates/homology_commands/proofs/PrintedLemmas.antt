@@ -1,7 +1,7 @@
 -- What `homology` prints spells its certificate again, and `verify-homology` accepts it.
 use Rattle.homology_commands.proofs.Common.{input_so, ShowsHomology, answer_in, homology_line, homology_text, Status, HomologyCert, IsHomologyPrinted, cert_text, kind_in, ◌≡◌, ℕ, List, refl, ap, ◌∙◌, Ok, Option, Files, FaceList}
 use Rattle.homology.specs.declared.verdict.HomologyVerdict.TheVariants.{Accepted}
-use Rattle.homology_commands.specs.PrintedHomology.{IsAccepted, IsVerifyOfText}
+use Rattle.homology_commands.specs.PrintedHomology.{IsHomologyAccepted, IsHomologyVerifyOfText}
 use Rattle.homology_files.proofs.RoundTrip.{reads_back_answered}
 use Rattle.homology_files.specs.HomologyTexts.{answer_words, cert_of_text}
 use Rattle.std.specs.Prelude.{◌++◌, codes}
@@ -23,13 +23,13 @@ spelled mesh first second shown shows =
 
 -- a file of a text that spells the certificate
 verify_input : (files : Option Files) (words : List (List ℕ)) (mesh : FaceList) (first second text : List ℕ) (shown : HomologyCert)
-    → cert_of_text text ≡ Ok shown → IsVerifyOfText files words mesh first second text → IsInput files words mesh first second shown
+    → cert_of_text text ≡ Ok shown → IsHomologyVerifyOfText files words mesh first second text → IsInput files words mesh first second shown
 verify_input files words mesh first second text shown spells h =
     input_so (codes "verify-homology") (λ bytes. bytes ≡ text) (λ bytes. cert_of_text bytes ≡ Ok shown) files words mesh first second
     (λ bytes is. ap cert_of_text is ∙ spells) h
 
 pub printed_accepted : (mesh : FaceList) (first second : List ℕ) (status : Status) (text : List ℕ)
-    → (printed : IsHomologyPrinted mesh first second status text) → IsAccepted mesh first second printed.shown text
+    → (printed : IsHomologyPrinted mesh first second status text) → IsHomologyAccepted mesh first second printed.shown text
 printed_accepted mesh first second status text printed =
     let spells : cert_of_text text ≡ Ok printed.shown =
     ap cert_of_text printed.text_is ∙ spelled mesh first second printed.shown printed.shows in

@@ -1,5 +1,5 @@
 -- How long the walks of a file are.
-use Rattle.homology_commands.proofs.Common.{Passes, meant, pass_unless, ◌>>=◌, pair_in, walk_at, ◌≡◌, inl, inr, ℕ, ◌+◌, ◌≤◌, Bool, true, false, List, [], ◌∷◌, ◌++◌, length, get_or, drop, refl, ap, sym, ◌∙◌, subst, arith, ltb-false, All-cons, All-nil, All-push, enumerate_from, sum_by, All, nat_le, nat_lt, ◌||◌, if◌then◌else◌, Option, Some, None, Result, Ok, Err, Files, FaceList, darts}
+use Rattle.homology_commands.proofs.Common.{Passes, meant, pass_unless, ◌>>=◌, pair_in, ◌≡◌, inl, inr, ℕ, ◌+◌, ◌≤◌, Bool, true, false, List, [], ◌∷◌, ◌++◌, length, get_or, drop, refl, ap, sym, ◌∙◌, subst, arith, ltb-false, All-cons, All-nil, All-push, enumerate_from, sum_by, All, nat_le, nat_lt, ◌||◌, if◌then◌else◌, Option, Some, None, Result, Ok, Err, Files, FaceList, walk_at, darts}
 use Rattle.commands.specs.Refusals.{numbers_line, pair_line}
 use Rattle.std.specs.Option.{ok_or}
 use Rattle.text_scan.specs.Each.{each_ok, each_some, ok_first, some_first}

@@ -7,7 +7,8 @@ use Rattle.homology.specs.declared.certificate.HomologyCert.{HomologyCert}
 use Rattle.commands.specs.Answers.{Answer, OfHomology}
 use Rattle.commands.specs.Checks.{Check, decided_by, ◌>>=◌}
 use Rattle.commands.specs.HomologyCertificates.{HomologyAnswer, Homologous, ShowsHomology, answer_in, homology_status, homology_text}
-use Rattle.commands.specs.Inputs.{IsInputOnSurface, pair_in, walk_at, SpellsPair}
+use Rattle.commands.specs.Inputs.{IsInputOnSurface, pair_in, SpellsPair}
+use Rattle.surf_model.specs.Walks.{walk_at}
 use Rattle.surface_commands.specs.SurfaceInput.{surface_in}
 use Rattle.commands.specs.declared.status.Status.{Status}
 use Rattle.commands.specs.declared.status.Status.TheVariants.{Yes}

@@ -15,14 +15,14 @@ name_in (Whole surface) f = f
 name_in (Alone part) f = slice_index (component_at part.parts part.place) f
 
 -- the face of the line is one of the first so many with these names
-abbrev pub IsNamed : (ℕ → ℕ) → ℕ → FaceNumber → Type 0
-IsNamed name count line = (k : ℕ) × (k < count) × (name k ≡ line.face.0)
+abbrev pub IsFaceNamed : (ℕ → ℕ) → ℕ → FaceNumber → Type 0
+IsFaceNamed name count line = (k : ℕ) × (k < count) × (name k ≡ line.face.0)
 
 -- the lines give the first so many faces with these names their numbers, and all other faces 0
 pub record ListsFaces (name : ℕ → ℕ) (number : ℕ → ℤ) (count : ℕ) (lines : List FaceNumber) : Type 0 where
   pub each : (k : ℕ) → k < count → face_number lines (name k) ≡ number k
   pub others : (f : ℕ) → ((k : ℕ) → k < count → name k ≡ f → ⊥) → face_number lines f ≡ pos 0
-  pub named : All (IsNamed name count) lines
+  pub named : All (IsFaceNamed name count) lines
   pub no_zeros : All (λ (line : FaceNumber). line.number ≢ pos 0) lines
   pub fits : All FaceFits lines
   pub few : length lines ≤ count

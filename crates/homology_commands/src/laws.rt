@@ -5,7 +5,7 @@ ghost use Rattle.surf_model.specs.FaceLists.{FaceList};
 ghost use Rattle.commands.specs.Outcomes.{AnswersTo};
 ghost use Rattle.commands.specs.declared.status.Status.{Status};
 ghost use Rattle.homology_commands.specs.Homology.{homology, IsHomologyAnswered, IsHomologyPrinted};
-ghost use Rattle.homology_commands.specs.PrintedHomology.{IsAccepted};
+ghost use Rattle.homology_commands.specs.PrintedHomology.{IsHomologyAccepted};
 
 /// What `homology` answers of two walks of a surface, wherever its words are answered by its check.
 pub fn homology_answers()
@@ -17,5 +17,5 @@ pub fn homology_answers()
 /// What `homology` prints is, as it is, a certificate that `verify-homology` accepts on the same mesh and walks.
 pub fn printed_certificates_are_accepted()
     ensures { (mesh : FaceList) (first second : List ℕ) (status : Status) (text : List ℕ)
-        → (printed : IsHomologyPrinted mesh first second status text) → IsAccepted mesh first second printed.shown text }
+        → (printed : IsHomologyPrinted mesh first second status text) → IsHomologyAccepted mesh first second printed.shown text }
 {}

@@ -4,7 +4,7 @@ ghost use Rattle.surf_model.specs.Edges.{IsPairBefore};
 ghost use Rattle.surf_model.specs.FaceLists.{FaceList};
 ghost use Rattle.surf_model.specs.Walks.{IsWalk, darts};
 ghost use Rattle.homology.specs.Certificates.{AreEdgeNumbers, AreFaceNumbers};
-ghost use Rattle.homology.specs.Tallies.{AreWithin, number_at};
+ghost use Rattle.homology.specs.Tallies.{AreNumbersWithin, number_at};
 ghost use Rattle.homology.specs.declared.certificate.EdgeNumber.{EdgeNumber};
 ghost use Rattle.homology.specs.declared.certificate.FaceNumber.{FaceNumber};
 ghost use Rattle.homology.specs.declared.certificate.TheConstants.{MOST_NUMBER};
@@ -57,7 +57,7 @@ fn list_faces(
 ) -> Result<ChainNumbers, AllocError>
     requires component { (mesh : FaceList) × (v : ℕ) × IsComponentOf mesh v component.now }
     requires each_face { length numbers.now ≡ length (surface_of component.now).mesh.faces }
-    requires small { AreWithin MOST_NUMBER numbers.now }
+    requires small { AreNumbersWithin MOST_NUMBER numbers.now }
     ensures lists { IfOk result (ListsFaces (name_in component.now) (number_at numbers.now) (length numbers.now)) }
     ensures valid { IfOk result AreFaceNumbers }
 {
@@ -107,7 +107,7 @@ fn list_edges(
     numbers: &Numbers,
 ) -> Result<CocycleNumbers, AllocError>
     requires each_edge { length numbers.now ≡ length surface.now.table }
-    requires small { AreWithin MOST_NUMBER numbers.now }
+    requires small { AreNumbersWithin MOST_NUMBER numbers.now }
     ensures lists { IfOk result (ListsEdges surface.now.table (number_at numbers.now) (length numbers.now)) }
     ensures valid { IfOk result AreEdgeNumbers }
 {

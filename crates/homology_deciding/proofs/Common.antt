@@ -12,11 +12,11 @@ pub use Rattle.homology.proofs.SizeLemmas.{sent, size-opposite, size-share, size
 pub use Rattle.homology.specs.Chains.{AreHomologous, boundary, count_difference}
 pub use Rattle.homology.specs.Cocycles.{IsCocycle, Separates, dart_number, separation}
 pub use Rattle.homology.specs.Sums.{along, round, share, total}
-pub use Rattle.homology.specs.Tallies.{AreNumbersOf, AreWithin, GrewBy, number_at, turned}
+pub use Rattle.homology.specs.Tallies.{AreNumbersWithin, AreTableNumbers, GrewBy, number_at, signed_from}
 pub use Rattle.homology.specs.declared.certificate.TheConstants.{MOST_NUMBER}
 pub use Rattle.homology_deciding.specs.Cuts.{IsCutAt, cycle_share}
 pub use Rattle.homology_deciding.specs.FaceTrees.{IsTree, IsTreeOfFaces, IsUp, IsWayUp, dart_share, face_across, way_share}
-pub use Rattle.homology_deciding.specs.Heights.{AreForced, AreHeights, EndsAtHeight, dart_count, height_of, listed, way_count}
+pub use Rattle.homology_deciding.specs.Heights.{AreForced, AreHeights, EndsAtHeight, height_of, listed, signed_dart_count, way_count}
 pub use Rattle.homology_deciding.specs.Proofs.{IsChainFor, IsCocycleFor, IsProofFor, LeavesOf, is_chain}
 pub use Rattle.homology_deciding.specs.declared.face_tree.FaceTree.{FaceTree}
 pub use Rattle.std.proofs.Common.{List, ap, ap₂, arith, false, get_or, inl, inr, length, negsuc, of_z, pos, refl, rules, set, subst, suc, sym, to_z, true, w64, zero, ℕ, ℤ, [], ◌*◌, ◌++◌, ◌+ℤ◌, ◌+◌, ◌-ℤ◌, ◌<◌, ◌^◌, ◌↔◌, ◌∙◌, ◌∷◌, ◌≡◌, ◌≢◌, ◌≤◌, ◌⊎◌}

@@ -1,5 +1,5 @@
 -- A closed way across faces gives a cocycle.
-use Rattle.homology_deciding.proofs.Common.{edge_has_ends, rotation_system, darts_of, face_of, edge_of, origin_of, twin_of, OrientedMesh, size-sum, size-opposite, count_difference, IsCocycle, dart_number, separation, share, along, round, AreNumbersOf, cycle_share, face_across, IsTreeOfFaces, IsWayUp, dart_share, way_share, dart_count, way_count, ◌≡◌, ◌≢◌, inl, inr, ℕ, ◌+◌, ◌<◌, ◌≤◌, List, [], ◌∷◌, length, refl, ap, ap₂, sym, ◌∙◌, subst, arith, ℤ, pos, negsuc, ◌+ℤ◌, ◌-ℤ◌, cases_order, nat_tests, ints, neg_ℤ, unsigned_abs, face_at, darts, DartName, SplitView}
+use Rattle.homology_deciding.proofs.Common.{edge_has_ends, rotation_system, darts_of, face_of, edge_of, origin_of, twin_of, OrientedMesh, size-sum, size-opposite, count_difference, IsCocycle, dart_number, separation, share, along, round, AreTableNumbers, cycle_share, face_across, IsTreeOfFaces, IsWayUp, dart_share, way_share, signed_dart_count, way_count, ◌≡◌, ◌≢◌, inl, inr, ℕ, ◌+◌, ◌<◌, ◌≤◌, List, [], ◌∷◌, length, refl, ap, ap₂, sym, ◌∙◌, subst, arith, ℤ, pos, negsuc, ◌+ℤ◌, ◌-ℤ◌, cases_order, nat_tests, ints, neg_ℤ, unsigned_abs, face_at, darts, DartName, SplitView}
 use Rattle.homology.proofs.CocycleVerdictLemmas.{dart_is}
 use Rattle.homology_deciding.proofs.BoundaryLemmas.{sign_at, round_dart}
 use Rattle.homology_deciding.proofs.WayLemmas.{way_small}
@@ -149,7 +149,7 @@ module _ (s : OrientedMesh) (split : SplitView) (h : IsTreeOfFaces s split) wher
 
   -- ---- heights
 
-  module _ (counts : List ℤ) (first second : List ℕ) (are : AreNumbersOf s.table counts (count_difference first second)) where
+  module _ (counts : List ℤ) (first second : List ℕ) (are : AreTableNumbers s.table counts (count_difference first second)) where
     -- what is counted at a dart is how much more the first walk crosses there
     turn-number : (u v a b : ℕ) → a ≢ b → share (pos 1) b a u v ≡ neg_ℤ (share (pos 1) a b u v)
     turn-number u v a b apart = grind (arith, nat_tests, ints)
@@ -170,11 +170,11 @@ module _ (s : OrientedMesh) (split : SplitView) (h : IsTreeOfFaces s split) wher
     ]
 
     dart_count_is : (e : ℕ) → e < darts_of s
-        → dart_count s counts e ≡ along (dart_share s (pos 1) e) first -ℤ along (dart_share s (pos 1) e) second
+        → signed_dart_count s counts e ≡ along (dart_share s (pos 1) e) first -ℤ along (dart_share s (pos 1) e) second
     dart_count_is e l =
         let ends = edge_has_ends s h.valid e l in
         dart_is s.mesh s.table counts (count_difference first second) (edge_of s e) (origin_of s e) (origin_of s (twin_of s e))
-        (dart_count s counts e) h.valid.table are ends.within ends.ends refl
+        (signed_dart_count s counts e) h.valid.table are ends.within ends.ends refl
         ∙ difference_number (origin_of s e) (origin_of s (twin_of s e))
         (λ q. (rotation_system s h.valid).no_loop e l (sym q))
 

@@ -1,5 +1,5 @@
 -- What the loops over ways and faces do, step by step.
-use Rattle.homology_deciding.proofs.Common.{edge_has_ends, darts_of, face_of, edge_of, origin_of, twin_of, OrientedMesh, IsOrientedSurface, size-sum, size-share, size-opposite, sent, share, number_at, turned, GrewBy, AreWithin, MOST_NUMBER, IsCutAt, face_across, IsUp, IsTree, IsWayUp, dart_share, way_share, height_of, dart_count, way_count, listed, AreHeights, EndsAtHeight, AreForced, FaceTree, ◌≡◌, ◌≢◌, ◌⊎◌, inl, inr, ℕ, ◌+◌, ◌*◌, ◌^◌, ◌<◌, ◌≤◌, true, List, [], ◌∷◌, ◌++◌, length, get_or, set, refl, ap, ap₂, sym, ◌∙◌, subst, arith, ℤ, pos, ◌+ℤ◌, to_z, of_z, w64, negsuc, cases_lt, cases_eq, nat_tests, ints, fits_signed_from_abs, get_or-set_same, get_or-set_other, get_or_past, get_or_append_left, length-set, FitsSigned, Option, Some, None, is_some, unwrap_or, Result, Ok, Err, IfOk, neg_ℤ, unsigned_abs, All, sum_by, MatchOption, Edge, edge_in, HasEnds, HasFileSize, DartName}
+use Rattle.homology_deciding.proofs.Common.{edge_has_ends, darts_of, face_of, edge_of, origin_of, twin_of, OrientedMesh, IsOrientedSurface, size-sum, size-share, size-opposite, sent, share, number_at, signed_from, GrewBy, AreNumbersWithin, MOST_NUMBER, IsCutAt, face_across, IsUp, IsTree, IsWayUp, dart_share, way_share, height_of, signed_dart_count, way_count, listed, AreHeights, EndsAtHeight, AreForced, FaceTree, ◌≡◌, ◌≢◌, ◌⊎◌, inl, inr, ℕ, ◌+◌, ◌*◌, ◌^◌, ◌<◌, ◌≤◌, true, List, [], ◌∷◌, ◌++◌, length, get_or, set, refl, ap, ap₂, sym, ◌∙◌, subst, arith, ℤ, pos, ◌+ℤ◌, to_z, of_z, w64, negsuc, cases_lt, cases_eq, nat_tests, ints, fits_signed_from_abs, get_or-set_same, get_or-set_other, get_or_past, get_or_append_left, length-set, FitsSigned, Option, Some, None, is_some, unwrap_or, Result, Ok, Err, IfOk, neg_ℤ, unsigned_abs, All, sum_by, MatchOption, Edge, edge_in, HasEnds, HasFileSize, DartName}
 use Rattle.homology.proofs.TallyLemmas.{grown, grown_size}
 use Rattle.std.proofs.Math.Nat.{mul-suc}
 use Rattle.std.proofs.Math.Seq.{get_or-append_seam}
@@ -23,7 +23,7 @@ share-swap amount a b u v = grind (arith, nat_tests)
 
 pub cross_step : (s : OrientedMesh) → IsOrientedSurface s → (amount : ℤ) (d e u : ℕ) (old new : List ℤ) → d < darts_of s
     → e ≡ edge_of s d → u ≡ origin_of s d → length old ≡ length s.table
-    → new ≡ set old e (number_at old e +ℤ turned amount (edge_in s.table e) u) → GrewBy s.table (dart_share s amount d) old new
+    → new ≡ set old e (number_at old e +ℤ signed_from amount (edge_in s.table e) u) → GrewBy s.table (dart_share s amount d) old new
 cross_step s o amount d e u old new l edge from long is =
     let v : ℕ = origin_of s (twin_of s d) in
     let ends = edge_has_ends s o d l in
@@ -50,9 +50,9 @@ grew_then table one two both old now new g h sum = record {
       omega (arith, ints, a, b, c);
 }
 
-pub within_grown : (table : List Edge) (given : ℕ → ℕ → ℤ) (old new : List ℤ) (bound more : ℕ) → AreWithin bound old
+pub within_grown : (table : List Edge) (given : ℕ → ℕ → ℤ) (old new : List ℤ) (bound more : ℕ) → AreNumbersWithin bound old
     → GrewBy table given old new → length old ≡ length table → ((low high : ℕ) → unsigned_abs (given low high) ≤ more)
-    → AreWithin (bound + more) new
+    → AreNumbersWithin (bound + more) new
 within_grown table given old new bound more within grew long small = record {
   each = λ k. elim (cases_lt k (length table)) [
     | inl l ↦
@@ -88,18 +88,18 @@ few_faces s o small =
       small.few_sides,
     )
 
-module _ (tree : FaceTree) (h : IsTree tree) (counts : List ℤ) (small : AreWithin MOST_NUMBER counts) where
+module _ (tree : FaceTree) (h : IsTree tree) (counts : List ℤ) (small : AreNumbersWithin MOST_NUMBER counts) where
   abbrev s : OrientedMesh
   s = tree.surface.now
 
-  count_small : (d : ℕ) → unsigned_abs (dart_count s counts d) ≤ MOST_NUMBER
+  count_small : (d : ℕ) → unsigned_abs (signed_dart_count s counts d) ≤ MOST_NUMBER
   count_small d = by_turn (number_at counts (edge_of s d)) (edge_in s.table (edge_of s d)) (origin_of s d) (small.each (edge_of s d))
     where
-      by_turn : (z : ℤ) (edge : Edge) (u : ℕ) → unsigned_abs z ≤ MOST_NUMBER → unsigned_abs (turned z edge u) ≤ MOST_NUMBER
+      by_turn : (z : ℤ) (edge : Edge) (u : ℕ) → unsigned_abs z ≤ MOST_NUMBER → unsigned_abs (signed_from z edge u) ≤ MOST_NUMBER
       by_turn z edge u l = elim (cases_eq u edge.low) [
-        | inl same ↦ (let is : turned z edge u ≡ z = grind (arith, nat_tests) in subst (λ x. unsigned_abs x ≤ MOST_NUMBER) (sym is) l)
+        | inl same ↦ (let is : signed_from z edge u ≡ z = grind (arith, nat_tests) in subst (λ x. unsigned_abs x ≤ MOST_NUMBER) (sym is) l)
         | inr other ↦
-            (let is : turned z edge u ≡ neg_ℤ z = grind (arith, nat_tests) in
+            (let is : signed_from z edge u ≡ neg_ℤ z = grind (arith, nat_tests) in
             subst (λ x. unsigned_abs x ≤ MOST_NUMBER) (sym is) (omega (arith, size-opposite z, l)))
       ]
 
@@ -107,7 +107,7 @@ module _ (tree : FaceTree) (h : IsTree tree) (counts : List ℤ) (small : AreWit
   count_size [] = omega arith
   count_size (dart ∷ way) =
       let more = count_size way in
-      let sum = size-sum (dart_count s counts dart.0) (way_count s counts way) MOST_NUMBER (MOST_NUMBER * length way)
+      let sum = size-sum (signed_dart_count s counts dart.0) (way_count s counts way) MOST_NUMBER (MOST_NUMBER * length way)
       (count_small dart.0) more in
       omega (arith, sum, mul-suc MOST_NUMBER (length way))
 
@@ -165,7 +165,7 @@ module _ (tree : FaceTree) (h : IsTree tree) (counts : List ℤ) (small : AreWit
   -- the height of a face from that of the face above
   pub height_more : (heights : List (Option ℤ)) (f : ℕ) (dart : DartName) (above height : ℤ) → AreHeights tree counts heights
       → IsUp s tree.split.now f dart → height_of heights (face_across s dart.0) ≡ Some above
-      → height ≡ above +ℤ dart_count s counts dart.0 → f < length s.mesh.faces
+      → height ≡ above +ℤ signed_dart_count s counts dart.0 → f < length s.mesh.faces
       → AreHeights tree counts (set heights f (Some height))
   height_more heights f dart above height are up there is l =
       let room : f < length heights = omega (arith, l, are.each_face) in
@@ -238,7 +238,7 @@ module _ (tree : FaceTree) (h : IsTree tree) where
 
 pub dart_within : (tree : FaceTree) (d : ℕ) (old new : List ℤ) → ((k : ℕ) → number_at old k ≡ pos 0)
     → length old ≡ length tree.surface.now.table → GrewBy tree.surface.now.table (dart_share tree.surface.now (pos 1) d) old new
-    → AreWithin 1 new
+    → AreNumbersWithin 1 new
 dart_within tree d old new zeros long grew =
     within_grown tree.surface.now.table (dart_share tree.surface.now (pos 1) d) old new 0 1
     (record { each = λ k. subst (λ z. unsigned_abs z ≤ 0) (sym (zeros k)) (omega arith) }) grew long
@@ -251,7 +251,7 @@ pub cut_at : (tree : FaceTree) (d above below : ℕ) (old one two new : List ℤ
     × GrewBy tree.surface.now.table (way_share tree.surface.now (pos 1) up) one two
     → (down : List DartName) × IsWayUp tree.surface.now tree.split.now below down tree.split.now.root_face
     × GrewBy tree.surface.now.table (way_share tree.surface.now (negsuc 0) down) two new
-    → AreWithin 3 new → IsCutAt tree d new
+    → AreNumbersWithin 3 new → IsCutAt tree d new
 cut_at tree d above below old one two new long zeros is_above is_below first up down small = record {
   up = up.0;
   down = down.0;

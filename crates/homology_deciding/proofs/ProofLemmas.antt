@@ -1,5 +1,5 @@
 -- What the forced numbers prove.
-use Rattle.homology_deciding.proofs.Common.{IsAtEdge, leads_on, leads_back, rotation_system, names_all, darts_of, face_of, origin_of, twin_of, OrientedMesh, rotations_of, IsDartFrom, chain_holds, size-sum, size-share, size-opposite, AreHomologous, count_difference, boundary, Separates, share, along, number_at, AreWithin, AreNumbersOf, IsCutAt, cycle_share, IsTree, IsWayUp, face_across, dart_share, way_share, listed, way_count, AreForced, LeavesOf, IsChainFor, IsCocycleFor, IsProofFor, is_chain, FaceTree, ◌≡◌, ◌≢◌, ◌↔◌, inl, inr, ℕ, ◌+◌, ◌<◌, ◌≤◌, true, false, List, length, refl, ap, ap₂, sym, ◌∙◌, subst, arith, ℤ, pos, ◌+ℤ◌, ◌-ℤ◌, cases_lt, cases_Bool, both_ways, eqb-true, eq-eqb, nat_tests, ints, get_or_past, ◌==◌, neg_ℤ, unsigned_abs, Edge, edge_in, is_flipped, IsWalk, darts, DartName}
+use Rattle.homology_deciding.proofs.Common.{IsAtEdge, leads_on, leads_back, rotation_system, names_all, darts_of, face_of, origin_of, twin_of, OrientedMesh, rotations_of, IsDartFrom, chain_holds, size-sum, size-share, size-opposite, AreHomologous, count_difference, boundary, Separates, share, along, number_at, AreNumbersWithin, AreTableNumbers, IsCutAt, cycle_share, IsTree, IsWayUp, face_across, dart_share, way_share, listed, way_count, AreForced, LeavesOf, IsChainFor, IsCocycleFor, IsProofFor, is_chain, FaceTree, ◌≡◌, ◌≢◌, ◌↔◌, inl, inr, ℕ, ◌+◌, ◌<◌, ◌≤◌, true, false, List, length, refl, ap, ap₂, sym, ◌∙◌, subst, arith, ℤ, pos, ◌+ℤ◌, ◌-ℤ◌, cases_lt, cases_Bool, both_ways, eqb-true, eq-eqb, nat_tests, ints, get_or_past, ◌==◌, neg_ℤ, unsigned_abs, Edge, edge_in, is_flipped, IsWalk, darts, DartName}
 use Rattle.homology.proofs.PairingLemmas.{refuted}
 use Rattle.homology_deciding.specs.declared.deciding.HomologyProof.{HomologyProof}
 use Rattle.homology_deciding.specs.declared.deciding.HomologyProof.TheVariants.{Chain, Cocycle}
@@ -21,8 +21,9 @@ listed_twice s f z = elim (cases_Bool (is_flipped s.signs f)) [
 ]
 
 -- what is counted at an edge is no more than the darts
-pub counts_small : (table : List Edge) (counts : List ℤ) (first second : List ℕ) → AreNumbersOf table counts (count_difference first second)
-    → AreWithin (darts first + darts second) counts
+pub counts_small : (table : List Edge) (counts : List ℤ) (first second : List ℕ)
+    → AreTableNumbers table counts (count_difference first second)
+    → AreNumbersWithin (darts first + darts second) counts
 counts_small table counts first second are = record {
   each = λ k. elim (cases_lt k (length table)) [
     | inl l ↦
@@ -46,8 +47,8 @@ module _ (tree : FaceTree) (h : IsTree tree) (first second : List ℕ) (numbers 
   abbrev s : OrientedMesh
   s = tree.surface.now
 
-  pub forced_small : (counts : List ℤ) → AreNumbersOf s.table counts (count_difference first second) → AreForced tree counts numbers
-      → AreWithin (darts first + darts second) numbers
+  pub forced_small : (counts : List ℤ) → AreTableNumbers s.table counts (count_difference first second) → AreForced tree counts numbers
+      → AreNumbersWithin (darts first + darts second) numbers
   forced_small counts are forced = record {
     each = λ k. elim (cases_lt k (length s.mesh.faces)) [
       | inl l ↦

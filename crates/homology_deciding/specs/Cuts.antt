@@ -3,7 +3,7 @@ use Rattle.std.specs.Prelude.{ℕ, List, ℤ, pos, negsuc, ◌+ℤ◌}
 use Rattle.surf_model.specs.declared.names.DartName.{DartName}
 use Rattle.halfedge_map.specs.OrientedMeshes.{OrientedMesh}
 use Rattle.halfedge_map.specs.DartMaps.{face_of}
-use Rattle.homology.specs.Tallies.{AreWithin, AreNumbersOf}
+use Rattle.homology.specs.Tallies.{AreNumbersWithin, AreTableNumbers}
 use Rattle.homology_deciding.specs.FaceTrees.{face_across, IsWayUp, dart_share, way_share}
 use Rattle.homology_deciding.specs.declared.face_tree.FaceTree.{FaceTree}
 
@@ -18,5 +18,5 @@ pub record IsCutAt (tree : FaceTree) (dart : ℕ) (numbers : List ℤ) : Type 0 
   pub down : List DartName
   pub goes_up : IsWayUp tree.surface.now tree.split.now (face_across tree.surface.now dart) up tree.split.now.root_face
   pub comes_down : IsWayUp tree.surface.now tree.split.now (face_of tree.surface.now dart) down tree.split.now.root_face
-  pub each_edge : AreNumbersOf tree.surface.now.table numbers (cycle_share tree.surface.now dart up down)
-  pub small : AreWithin 3 numbers
+  pub each_edge : AreTableNumbers tree.surface.now.table numbers (cycle_share tree.surface.now dart up down)
+  pub small : AreNumbersWithin 3 numbers

@@ -5,19 +5,19 @@ use Rattle.surf_model.specs.Surfaces.{is_flipped}
 use Rattle.surf_model.specs.declared.names.DartName.{DartName}
 use Rattle.halfedge_map.specs.OrientedMeshes.{OrientedMesh}
 use Rattle.halfedge_map.specs.DartMaps.{edge_of, origin_of}
-use Rattle.homology.specs.Tallies.{number_at, turned}
+use Rattle.homology.specs.Tallies.{number_at, signed_from}
 use Rattle.homology_deciding.specs.FaceTrees.{IsWayUp}
 use Rattle.homology_deciding.specs.declared.face_tree.FaceTree.{FaceTree}
 
 -- what is counted at a dart: the count of its edge, with a minus sign where the dart does not start at the lower vertex
-abbrev pub dart_count : OrientedMesh → List ℤ → ℕ → ℤ
-dart_count surface counts dart =
-    turned (number_at counts (edge_of surface dart)) (edge_in surface.table (edge_of surface dart)) (origin_of surface dart)
+abbrev pub signed_dart_count : OrientedMesh → List ℤ → ℕ → ℤ
+signed_dart_count surface counts dart =
+    signed_from (number_at counts (edge_of surface dart)) (edge_in surface.table (edge_of surface dart)) (origin_of surface dart)
 
 -- what is counted on a way
 abbrev pub way_count : OrientedMesh → List ℤ → List DartName → ℤ
 way_count surface counts [] = pos 0
-way_count surface counts (dart ∷ way) = dart_count surface counts dart.0 +ℤ way_count surface counts way
+way_count surface counts (dart ∷ way) = signed_dart_count surface counts dart.0 +ℤ way_count surface counts way
 
 -- the height of a face, where it is known
 abbrev pub height_of : List (Option ℤ) → ℕ → Option ℤ

@@ -2,7 +2,7 @@
 ghost use Rattle.std.specs.Prelude.{◌≡◌, ℕ, ◌+◌, ◌<◌, ◌≤◌, ◌^◌, List, length, IfOk, unsigned_abs, pos, ◌+ℤ◌};
 ghost use Rattle.surf_model.specs.declared.names.DartName.{DartName};
 ghost use Rattle.halfedge_map.specs.DartMaps.{darts_of};
-ghost use Rattle.homology.specs.Tallies.{number_at, AreWithin, AreNumbersOf, GrewBy};
+ghost use Rattle.homology.specs.Tallies.{number_at, AreNumbersWithin, AreTableNumbers, GrewBy};
 ghost use Rattle.homology_deciding.specs.FaceTrees.{IsTree, IsWayUp, dart_share, way_share};
 ghost use Rattle.homology_deciding.specs.Cuts.{IsCutAt};
 
@@ -48,10 +48,10 @@ fn cross_up(numbers: &mut [i64], tree: &FaceTree<'_>, face: FaceName, amount: i6
     requires face { face.0 < length tree.now.surface.now.mesh.faces }
     requires long { length numbers.old ≡ length tree.now.surface.now.table }
     requires small { unsigned_abs amount ≤ 1 }
-    requires room { AreWithin (2 ^ 32) numbers.old }
+    requires room { AreNumbersWithin (2 ^ 32) numbers.old }
     ensures way { (way : List DartName) × IsWayUp tree.now.surface.now tree.now.split.now face.0 way tree.now.split.now.root_face
         × GrewBy tree.now.surface.now.table (way_share tree.now.surface.now amount way) numbers.old numbers.new }
-    ensures size { (bound : ℕ) → AreWithin bound numbers.old → AreWithin (bound + 1) numbers.new }
+    ensures size { (bound : ℕ) → AreNumbersWithin bound numbers.old → AreNumbersWithin (bound + 1) numbers.new }
 {
     let mut at = face;
     // A way up passes each face once at most.
@@ -70,7 +70,7 @@ fn cross(numbers: &mut [i64], tree: &FaceTree<'_>, dart: DartName, amount: i64)
     requires dart { dart.0 < darts_of tree.now.surface.now }
     requires long { length numbers.old ≡ length tree.now.surface.now.table }
     requires small { unsigned_abs amount ≤ 1 }
-    requires room { AreWithin (2 ^ 33) numbers.old }
+    requires room { AreNumbersWithin (2 ^ 33) numbers.old }
     ensures { GrewBy tree.now.surface.now.table (dart_share tree.now.surface.now amount dart.0) numbers.old numbers.new }
 {
     let surface = tree.surface;

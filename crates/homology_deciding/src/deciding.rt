@@ -3,7 +3,7 @@ ghost use Rattle.std.specs.Prelude.{◌≡◌, ◌+◌, ◌<◌, ◌≤◌, ◌�
 ghost use Rattle.surf_model.specs.Walks.{IsWalk, darts};
 ghost use Rattle.tree_cotree.specs.Splits.{IsSplit};
 ghost use Rattle.homology.specs.Chains.{AreHomologous};
-ghost use Rattle.homology.specs.Tallies.{AreWithin};
+ghost use Rattle.homology.specs.Tallies.{AreNumbersWithin};
 ghost use Rattle.homology.specs.declared.certificate.TheConstants.{MOST_NUMBER};
 ghost use Rattle.homology_deciding.specs.FaceTrees.{IsTree};
 ghost use Rattle.homology_deciding.specs.Heights.{AreForced};
@@ -76,7 +76,7 @@ fn forced_numbers(
 ) -> Result<Vec<i64>, AllocError>
     requires tree { IsTree tree.now }
     requires counts { length counts.now ≡ length tree.now.surface.now.table }
-    requires small { AreWithin MOST_NUMBER counts.now }
+    requires small { AreNumbersWithin MOST_NUMBER counts.now }
     ensures { IfOk result (λ numbers. AreForced tree.now counts.now numbers.items) }
 {
     let heights = heights_of(alloc, tree, counts)?;

@@ -3,10 +3,10 @@ ghost use Rattle.std.specs.Prelude.{◌≡◌, ℕ, ◌<◌, ◌≤◌, ◌^◌,
 ghost use Rattle.surf_model.specs.declared.names.DartName.{DartName};
 ghost use Rattle.halfedge_map.specs.DartMaps.{darts_of};
 ghost use Rattle.halfedge_map.specs.OrientedMeshes.{IsOrientedSurface};
-ghost use Rattle.homology.specs.Tallies.{number_at, AreWithin};
+ghost use Rattle.homology.specs.Tallies.{number_at, AreNumbersWithin};
 ghost use Rattle.homology.specs.declared.certificate.TheConstants.{MOST_NUMBER};
 ghost use Rattle.homology_deciding.specs.FaceTrees.{IsTree, IsWayUp};
-ghost use Rattle.homology_deciding.specs.Heights.{dart_count, height_of, listed, AreHeights, EndsAtHeight};
+ghost use Rattle.homology_deciding.specs.Heights.{signed_dart_count, height_of, listed, AreHeights, EndsAtHeight};
 
 use crate::face_tree::FaceTree;
 use halfedge_map::Surface;
@@ -22,7 +22,7 @@ pub(crate) fn heights_of(
 ) -> Result<Vec<Option<i64>>, AllocError>
     requires tree { IsTree tree.now }
     requires counts { length counts.now ≡ length tree.now.surface.now.table }
-    requires small { AreWithin MOST_NUMBER counts.now }
+    requires small { AreNumbersWithin MOST_NUMBER counts.now }
     ensures heights { IfOk result (λ heights. AreHeights tree.now counts.now heights.items) }
     ensures all { IfOk result (λ heights.
         (f : ℕ) → f < length tree.now.surface.now.mesh.faces → is_some (height_of heights.items f) ≡ true) }
@@ -41,7 +41,7 @@ fn settle_all(
 ) -> Result<(), AllocError>
     requires tree { IsTree tree.now }
     requires counts { length counts.now ≡ length tree.now.surface.now.table }
-    requires small { AreWithin MOST_NUMBER counts.now }
+    requires small { AreNumbersWithin MOST_NUMBER counts.now }
     requires long { length heights.old ≡ length tree.now.surface.now.mesh.faces }
     requires none { (f : ℕ) → height_of heights.old f ≡ None }
     ensures heights { OnOk result (AreHeights tree.now counts.now heights.new) }
@@ -89,7 +89,7 @@ fn climb(
 fn settle(heights: &mut [Option<i64>], way: &mut Vec<DartName>, tree: &FaceTree<'_>, counts: &[i64])
     requires tree { IsTree tree.now }
     requires counts { length counts.now ≡ length tree.now.surface.now.table }
-    requires small { AreWithin MOST_NUMBER counts.now }
+    requires small { AreNumbersWithin MOST_NUMBER counts.now }
     requires heights { AreHeights tree.now counts.now heights.old }
     requires way { (f : ℕ) × EndsAtHeight tree.now heights.old f way.old.items }
     ensures heights { AreHeights tree.now counts.now heights.new }
@@ -109,8 +109,8 @@ fn settle(heights: &mut [Option<i64>], way: &mut Vec<DartName>, tree: &FaceTree<
 fn count_at(surface: &Surface, counts: &[i64], dart: DartName) -> i64
     requires dart { dart.0 < darts_of surface.now }
     requires counts { length counts.now ≡ length surface.now.table }
-    requires small { AreWithin MOST_NUMBER counts.now }
-    ensures count { result ≡ dart_count surface.now counts.now dart.0 }
+    requires small { AreNumbersWithin MOST_NUMBER counts.now }
+    ensures count { result ≡ signed_dart_count surface.now counts.now dart.0 }
     ensures small { unsigned_abs result ≤ MOST_NUMBER }
 {
     number_of_dart(

@@ -2,8 +2,8 @@
 pub use Rattle.homology.specs.Certificates.{AreEdgeNumbers, AreFaceNumbers}
 pub use Rattle.homology.specs.declared.certificate.EdgeNumber.{EdgeNumber}
 pub use Rattle.homology.specs.declared.certificate.FaceNumber.{FaceNumber}
-pub use Rattle.homology_files.specs.HomologyTexts.{answer_of, answer_words, behind_head, cert_in, cert_of_text, edge_number_of, face_number_of, head_among, is_edge_above, is_edge_before, is_face_above, numbers_in, ok_then, size_of}
-pub use Rattle.homology_files.specs.WrittenTexts.{EdgeFits, FaceFits, FitsFormat, cert_lines, cert_text, edge_words, face_words, kind_in}
+pub use Rattle.homology_files.specs.HomologyTexts.{answer_words, behind_homology_head, bounded_number_of, cert_in, cert_of_text, edge_number_of, face_number_of, homology_head_among, homology_then, is_edge_above, is_edge_before, is_face_above, kind_answered, numbers_in}
+pub use Rattle.homology_files.specs.WrittenTexts.{EdgeFits, FaceFits, FitsHomologyFormat, cert_lines, cert_text, edge_words, face_number_words, kind_in}
 pub use Rattle.homology_files.specs.declared.head.Kind.{Kind}
 pub use Rattle.homology_files.specs.declared.head.Kind.TheVariants.{OfEdges, OfFaces}
 pub use Rattle.std.proofs.Common.{Bool, List, ap, append_assoc, arith, eqb, false, get_or, inl, inr, length, length-append, map, negsuc, pos, refl, subst, sym, take, true, ℕ, ℤ, [], ◌++◌, ◌+◌, ◌-◌, ◌<◌, ◌^◌, ◌∙◌, ◌∷◌, ◌≡◌, ◌≤◌}

@@ -1,5 +1,5 @@
 -- A certificate that was written is read again.
-use Rattle.homology_files.proofs.Common.{AreFaceNumbers, AreEdgeNumbers, EdgeNumber, FaceNumber, answer_words, head_among, behind_head, size_of, face_number_of, edge_number_of, is_face_above, is_edge_before, is_edge_above, numbers_in, ok_then, cert_in, cert_of_text, kind_in, face_words, edge_words, cert_lines, cert_text, FaceFits, EdgeFits, FitsFormat, Kind, OfFaces, OfEdges, ◌≡◌, ℕ, ℤ, ◌+◌, ◌-◌, ◌^◌, ◌<◌, ◌≤◌, Bool, true, List, [], ◌∷◌, ◌++◌, length, map, refl, ap, sym, ◌∙◌, subst, arith, pos, negsuc, append_assoc, length-append, le-leb, lt-ltb, append-nil, All-head, All-tail, All-cons, All-map, list_all-from_AllPass, list_all, Option, Some, Result, Ok, decimal, codes, All, AllPairs, nat_lt, unsigned_abs, Line, unmarked, lines_from, full_lines, end_line, line_of}
+use Rattle.homology_files.proofs.Common.{AreFaceNumbers, AreEdgeNumbers, EdgeNumber, FaceNumber, answer_words, homology_head_among, behind_homology_head, bounded_number_of, face_number_of, edge_number_of, is_face_above, is_edge_before, is_edge_above, numbers_in, homology_then, cert_in, cert_of_text, kind_in, face_number_words, edge_words, cert_lines, cert_text, FaceFits, EdgeFits, FitsHomologyFormat, Kind, OfFaces, OfEdges, ◌≡◌, ℕ, ℤ, ◌+◌, ◌-◌, ◌^◌, ◌<◌, ◌≤◌, Bool, true, List, [], ◌∷◌, ◌++◌, length, map, refl, ap, sym, ◌∙◌, subst, arith, pos, negsuc, append_assoc, length-append, le-leb, lt-ltb, append-nil, All-head, All-tail, All-cons, All-map, list_all-from_AllPass, list_all, Option, Some, Result, Ok, decimal, codes, All, AllPairs, nat_lt, unsigned_abs, Line, unmarked, lines_from, full_lines, end_line, line_of}
 use Rattle.homology.specs.declared.certificate.HomologyCert.{HomologyCert}
 use Rattle.homology.specs.declared.certificate.HomologyCert.TheVariants.{Chain, Cocycle}
 use Rattle.homology.specs.declared.certificate.TheConstants.{MOST_NUMBER}
@@ -19,7 +19,7 @@ small-fits : (z : ℤ) → unsigned_abs z ≤ MOST_NUMBER → fits_i64 z ≡ tru
 small-fits (pos n) h = lt-ltb n (2 ^ 63) (omega (arith, h))
 small-fits (negsuc n) h = lt-ltb n (2 ^ 63) (omega (arith, h))
 
-size-read : (z : ℤ) → unsigned_abs z ≤ MOST_NUMBER → size_of (signed_decimal z) ≡ Some z
+size-read : (z : ℤ) → unsigned_abs z ≤ MOST_NUMBER → bounded_number_of (signed_decimal z) ≡ Some z
 size-read z h = rw (integer-read z (small-fits z h), le-leb (unsigned_abs z) MOST_NUMBER h) refl
 
 -- ---- the lines of numbers, from one on, behind those so far
@@ -70,7 +70,8 @@ edges-rise : (lines : List EdgeNumber) → AreEdgeNumbers lines → above_all is
 edges-rise lines valid =
     rises is_edge_before [] lines (λ j k d l lk. before_passes (get_or lines j d) (get_or lines k d) (valid.rising j k d l lk))
 
-face-read : (line : FaceNumber) → FaceFits line → unsigned_abs line.number ≤ MOST_NUMBER → face_number_of (face_words line) ≡ Some line
+face-read : (line : FaceNumber) → FaceFits line → unsigned_abs line.number ≤ MOST_NUMBER
+    → face_number_of (face_number_words line) ≡ Some line
 face-read line fits small = rw (number-read line.face.0 fits, size-read line.number small) refl
 
 edge-read : (line : EdgeNumber) → EdgeFits line → line.low.0 < line.high.0 → unsigned_abs line.number ≤ MOST_NUMBER
@@ -88,10 +89,10 @@ edge-read line fits up small =
 size-writable : (z : ℤ) → unsigned_abs z ≤ MOST_NUMBER → IsWritable (signed_decimal z)
 size-writable z h = integer-writable z (small-fits z h)
 
-face-is_line : (line : FaceNumber) → FaceFits line → unsigned_abs line.number ≤ MOST_NUMBER → IsLine (face_words line)
+face-is_line : (line : FaceNumber) → FaceFits line → unsigned_abs line.number ≤ MOST_NUMBER → IsLine (face_number_words line)
 face-is_line line fits h = record {
   filled = refl;
-  writable = all_writable (face_words line) (number-writable line.face.0 fits, (size-writable line.number h, tt));
+  writable = all_writable (face_number_words line) (number-writable line.face.0 fits, (size-writable line.number h, tt));
 }
 
 edge-is_line : (line : EdgeNumber) → EdgeFits line → unsigned_abs line.number ≤ MOST_NUMBER → IsLine (edge_words line)
@@ -143,16 +144,16 @@ record HasLines (cert : HomologyCert) : Type 0 where
   each : All IsLine numbers
   read : (end n : ℕ) → cert_in (kind_in cert) end count (numbered n numbers) ≡ Ok cert
 
-has_lines : (cert : HomologyCert) → FitsFormat cert → HasLines cert
+has_lines : (cert : HomologyCert) → FitsHomologyFormat cert → HasLines cert
 has_lines (Chain xs) fits = record {
   count = length xs;
   few = fits.0.few;
-  numbers = map face_words xs;
+  numbers = map face_number_words xs;
   lines = refl;
-  each = All-map IsLine face_words xs (λ k d l. face-is_line (get_or xs k d) (fits.1 k d l) (fits.0.small k d l));
+  each = All-map IsLine face_number_words xs (λ k d l. face-is_line (get_or xs k d) (fits.1 k d l) (fits.0.small k d l));
   read = λ end n.
-      ap (λ r. ok_then r (λ numbers. Ok (Chain numbers)))
-      (numbers-read face_number_of is_face_above face_words end n [] xs
+      ap (λ r. homology_then r (λ numbers. Ok (Chain numbers)))
+      (numbers-read face_number_of is_face_above face_number_words end n [] xs
       (λ k d l. face-read (get_or xs k d) (fits.1 k d l) (fits.0.small k d l)) (faces-rise xs fits.0));
 }
 has_lines (Cocycle xs) fits = record {
@@ -162,7 +163,7 @@ has_lines (Cocycle xs) fits = record {
   lines = refl;
   each = All-map IsLine edge_words xs (λ k d l. edge-is_line (get_or xs k d) (fits.1 k d l) (fits.0.small k d l));
   read = λ end n.
-      ap (λ r. ok_then r (λ numbers. Ok (Cocycle numbers)))
+      ap (λ r. homology_then r (λ numbers. Ok (Cocycle numbers)))
       (numbers-read edge_number_of is_edge_above edge_words end n [] xs
       (λ k d l. edge-read (get_or xs k d) (fits.1 k d l) (fits.0.ordered k d l) (fits.0.small k d l)) (edges-rise xs fits.0));
 }
@@ -178,7 +179,7 @@ unfolding unmarked
 unmarked-answered (Chain xs) = refl
 unmarked-answered (Cocycle xs) = refl
 
-module _ (cert : HomologyCert) (fits : FitsFormat cert) where
+module _ (cert : HomologyCert) (fits : FitsHomologyFormat cert) where
   abbrev h : HasLines cert
   h = has_lines cert fits
 
@@ -203,43 +204,44 @@ module _ (cert : HomologyCert) (fits : FitsFormat cert) where
 
 -- the head that a line is, alone and behind its answer
 head_alone : (kind : Kind) (n end : ℕ) (rest : List Line) → n < 2 ^ 32
-    → head_among end (record { number = 1; words = head_words kind n } ∷ rest) ≡ Ok (record { kind = kind; count = n })
+    → homology_head_among end (record { number = 1; words = head_words kind n } ∷ rest) ≡ Ok (record { kind = kind; count = n })
 head_alone OfFaces n end rest few = rw (number-read n few) refl
 head_alone OfEdges n end rest few = rw (number-read n few) refl
 
 head_answered : (kind : Kind) (n end : ℕ) (rest : List Line) → n < 2 ^ 32
-    → head_among end
+    → homology_head_among end
     (record { number = 1; words = answer_words kind } ∷ record { number = 2; words = head_words kind n } ∷ rest)
     ≡ Ok (record { kind = kind; count = n })
 head_answered OfFaces n end rest few = rw (number-read n few) refl
 head_answered OfEdges n end rest few = rw (number-read n few) refl
 
-behind_alone : (kind : Kind) (n : ℕ) (rest : List Line) → behind_head (record { number = 1; words = head_words kind n } ∷ rest) ≡ rest
+behind_alone : (kind : Kind) (n : ℕ) (rest : List Line)
+    → behind_homology_head (record { number = 1; words = head_words kind n } ∷ rest) ≡ rest
 behind_alone OfFaces n rest = refl
 behind_alone OfEdges n rest = refl
 
 behind_answered : (kind : Kind) (head : Line) (rest : List Line)
-    → behind_head (record { number = 1; words = answer_words kind } ∷ head ∷ rest) ≡ rest
+    → behind_homology_head (record { number = 1; words = answer_words kind } ∷ head ∷ rest) ≡ rest
 behind_answered OfFaces head rest = refl
 behind_answered OfEdges head rest = refl
 
 -- what lines with a head are
 abbrev cert_among : ℕ → List Line → Result HomologyCert HomologyFault
-cert_among end lines = ok_then (head_among end lines) (λ head. cert_in head.kind end head.count (behind_head lines))
+cert_among end lines = homology_then (homology_head_among end lines) (λ head. cert_in head.kind end head.count (behind_homology_head lines))
 
-pub reads_back : (cert : HomologyCert) → FitsFormat cert → cert_of_text (cert_text cert) ≡ Ok cert
+pub reads_back : (cert : HomologyCert) → FitsHomologyFormat cert → cert_of_text (cert_text cert) ≡ Ok cert
 reads_back cert fits =
     let has = has_lines cert fits in
     let end = end_line (cert_text cert) in
     let kind = kind_in cert in
     ap (cert_among end) (alone-lines cert fits)
-    ∙ ap (λ head. ok_then head (λ (hd : Head). cert_in hd.kind end hd.count
-    (behind_head (record { number = 1; words = head_words kind has.count } ∷ numbered 2 has.numbers))))
+    ∙ ap (λ head. homology_then head (λ (hd : Head). cert_in hd.kind end hd.count
+    (behind_homology_head (record { number = 1; words = head_words kind has.count } ∷ numbered 2 has.numbers))))
     (head_alone kind has.count end (numbered 2 has.numbers) has.few)
     ∙ ap (cert_in kind end has.count) (behind_alone kind has.count (numbered 2 has.numbers))
     ∙ has.read end 2
 
-pub reads_back_answered : (cert : HomologyCert) → FitsFormat cert
+pub reads_back_answered : (cert : HomologyCert) → FitsHomologyFormat cert
     → cert_of_text (line_of (answer_words (kind_in cert)) ++ cert_text cert) ≡ Ok cert
 reads_back_answered cert fits =
     let has = has_lines cert fits in
@@ -247,8 +249,8 @@ reads_back_answered cert fits =
     let end = end_line (line_of (answer_words kind) ++ cert_text cert) in
     let head : Line = record { number = 2; words = head_words kind has.count } in
     ap (cert_among end) (answered-lines cert fits)
-    ∙ ap (λ read. ok_then read (λ (hd : Head). cert_in hd.kind end hd.count
-    (behind_head (record { number = 1; words = answer_words kind } ∷ head ∷ numbered 3 has.numbers))))
+    ∙ ap (λ read. homology_then read (λ (hd : Head). cert_in hd.kind end hd.count
+    (behind_homology_head (record { number = 1; words = answer_words kind } ∷ head ∷ numbered 3 has.numbers))))
     (head_answered kind has.count end (numbered 3 has.numbers) has.few)
     ∙ ap (cert_in kind end has.count) (behind_answered kind head (numbered 3 has.numbers))
     ∙ has.read end 3

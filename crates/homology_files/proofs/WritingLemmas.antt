@@ -1,9 +1,9 @@
 -- The lines of a certificate, written one by one.
-use Rattle.homology_files.proofs.Common.{EdgeNumber, FaceNumber, face_words, edge_words, ◌≡◌, ℕ, List, [], ◌∷◌, ◌++◌, ◌+◌, length, take, sym, ap, subst, ◌∙◌, map, All-more, flat_map-map, slice_get_within, get_or_from_slice_get, flat_map, All, Option, Some, Result, decimal, slice_get, only-none, gathers-none, gathers-put, puts-then, puts-same, line_of}
+use Rattle.homology_files.proofs.Common.{EdgeNumber, FaceNumber, face_number_words, edge_words, ◌≡◌, ℕ, List, [], ◌∷◌, ◌++◌, ◌+◌, length, take, sym, ap, subst, ◌∙◌, map, All-more, flat_map-map, slice_get_within, get_or_from_slice_get, flat_map, All, Option, Some, Result, decimal, slice_get, only-none, gathers-none, gathers-put, puts-then, puts-same, line_of}
 use Rattle.surf_io.specs.Gathered.{Puts}
 
 abbrev pub face_line : FaceNumber → List ℕ
-face_line line = line_of (face_words line)
+face_line line = line_of (face_number_words line)
 
 abbrev pub edge_line : EdgeNumber → List ℕ
 edge_line line = line_of (edge_words line)

@@ -1,7 +1,7 @@
 -- The definitions at work. Each line is proved by computing.
 use Rattle.std.specs.Prelude.{◌≡◌, ℕ, ℤ, List, [], ◌∷◌, ◌++◌, flat_map, map, Ok, Err, codes, refl, pos, negsuc}
 use Rattle.std.specs.Fmt.{digits}
-use Rattle.text_scan.specs.Lines.{unmarked, cut, words, lines_from}
+use Rattle.text_scan.specs.Lines.{unmarked, cut_lines, words, lines_from}
 use Rattle.text_scan.specs.Numbers.{is_natural, value_of}
 use Rattle.homology.specs.declared.certificate.FaceNumber.{FaceNumber}
 use Rattle.homology.specs.declared.certificate.EdgeNumber.{EdgeNumber}
@@ -27,12 +27,12 @@ chains :
     ∷ text (codes "homologous" ∷ [] ∷ codes " CHAIN 2" ∷ codes "0 -01" ∷ codes "7 2" ∷ [])
     ∷ text (codes "CHAIN 0" ∷ []) ∷ [])
     ≡ Ok (Chain (face 0 (negsuc 0) ∷ face 7 (pos 2) ∷ [])) ∷ Ok (Chain (face 0 (negsuc 0) ∷ face 7 (pos 2) ∷ [])) ∷ Ok (Chain []) ∷ []
-unfolding unmarked cut words lines_from is_natural value_of
+unfolding unmarked cut_lines words lines_from is_natural value_of
 chains = refl
 
 cocycles : cert_of_text (text (codes "not homologous" ∷ codes "COCYCLE 2" ∷ codes "0 5 -0" ∷ codes "1 2 2147483647" ∷ []))
     ≡ Ok (Cocycle (edge 0 5 (pos 0) ∷ edge 1 2 (pos 2147483647) ∷ []))
-unfolding unmarked cut words lines_from is_natural value_of
+unfolding unmarked cut_lines words lines_from is_natural value_of
 cocycles = refl
 
 -- The head has to fit the answer, and has two words.
@@ -41,7 +41,7 @@ faulty_heads :
     ([] ∷ codes "homologous" ∷ text (codes "homologous" ∷ codes "COCYCLE 0" ∷ [])
     ∷ codes "CHAIN" ∷ codes "CHAIN 4294967296" ∷ codes "not" ∷ [])
     ≡ Err NoHead ∷ Err (Ended 2) ∷ Err (Bad 2) ∷ Err (Bad 1) ∷ Err (Bad 1) ∷ Err (Bad 1) ∷ []
-unfolding unmarked cut words lines_from is_natural value_of
+unfolding unmarked cut_lines words lines_from is_natural value_of
 faulty_heads = refl
 
 -- Faces and edges rise, an edge has its lower vertex first, and no number is too large.
@@ -51,7 +51,7 @@ faulty_lines :
     ∷ text (codes "CHAIN 0" ∷ codes "0 1" ∷ []) ∷ text (codes "CHAIN 1" ∷ codes "0 2147483648" ∷ [])
     ∷ text (codes "COCYCLE 1" ∷ codes "2 1 1" ∷ []) ∷ text (codes "COCYCLE 2" ∷ codes "1 5 1" ∷ codes "1 4 1" ∷ []) ∷ [])
     ≡ Err (Bad 3) ∷ Err (Ended 3) ∷ Err (Extra 2) ∷ Err (Bad 2) ∷ Err (Bad 2) ∷ Err (Bad 3) ∷ []
-unfolding unmarked cut words lines_from is_natural value_of
+unfolding unmarked cut_lines words lines_from is_natural value_of
 faulty_lines = refl
 
 -- What is written begins at the head.

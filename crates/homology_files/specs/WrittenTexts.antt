@@ -16,8 +16,8 @@ kind_in (Chain lines) = OfFaces
 kind_in (Cocycle lines) = OfEdges
 
 -- the words of the number of a face
-abbrev pub face_words : FaceNumber → List (List ℕ)
-face_words line = decimal line.face.0 ∷ signed_decimal line.number ∷ []
+abbrev pub face_number_words : FaceNumber → List (List ℕ)
+face_number_words line = decimal line.face.0 ∷ signed_decimal line.number ∷ []
 
 -- the words of the number of an edge
 abbrev pub edge_words : EdgeNumber → List (List ℕ)
@@ -25,7 +25,7 @@ edge_words line = decimal line.low.0 ∷ decimal line.high.0 ∷ signed_decimal 
 
 -- the lines of a certificate: the head, and one for each number
 abbrev pub cert_lines : HomologyCert → List (List (List ℕ))
-cert_lines (Chain lines) = (codes "CHAIN" ∷ decimal (length lines) ∷ []) ∷ map face_words lines
+cert_lines (Chain lines) = (codes "CHAIN" ∷ decimal (length lines) ∷ []) ∷ map face_number_words lines
 cert_lines (Cocycle lines) = (codes "COCYCLE" ∷ decimal (length lines) ∷ []) ∷ map edge_words lines
 
 -- the text of a certificate
@@ -41,6 +41,6 @@ abbrev pub EdgeFits : EdgeNumber → Type 0
 EdgeFits line = (line.low.0 < 2 ^ 32) × (line.high.0 < 2 ^ 32)
 
 -- what a certificate must keep to, so that it reads back: its numbers are those of the program
-abbrev pub FitsFormat : HomologyCert → Type 0
-FitsFormat (Chain lines) = AreFaceNumbers lines × All FaceFits lines
-FitsFormat (Cocycle lines) = AreEdgeNumbers lines × All EdgeFits lines
+abbrev pub FitsHomologyFormat : HomologyCert → Type 0
+FitsHomologyFormat (Chain lines) = AreFaceNumbers lines × All FaceFits lines
+FitsHomologyFormat (Cocycle lines) = AreEdgeNumbers lines × All EdgeFits lines

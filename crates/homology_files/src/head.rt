@@ -2,7 +2,7 @@
 ghost use Rattle.std.specs.Prelude.{◌≡◌, [], drop, OnOk, OnSome, Some, IsTrue, is_some, if◌then◌else◌};
 ghost use Rattle.text_scan.specs.Lines.{is_filled};
 ghost use Rattle.text_scan.specs.Unread.{lines_left};
-ghost use Rattle.homology_files.specs.HomologyTexts.{kind_of, head_of, answer_of, fits, head_in, first_head, head_among, behind_head};
+ghost use Rattle.homology_files.specs.HomologyTexts.{keyword_kind, homology_head_of, kind_answered, fits_kind, homology_head_in, first_homology_head, homology_head_among, behind_homology_head};
 
 use crate::fault::HomologyFault;
 use text_scan::Cursor;
@@ -26,8 +26,8 @@ pub(crate) struct Head {
 
 /// Reads the head of a text of which nothing was read yet.
 pub(crate) fn read_head(cursor: &mut Cursor<'_>) -> Result<Head, HomologyFault>
-    ensures head { result ≡ head_among cursor.old.end_line (lines_left cursor.old) }
-    ensures place { OnOk result (lines_left cursor.new ≡ behind_head (lines_left cursor.old)) }
+    ensures head { result ≡ homology_head_among cursor.old.end_line (lines_left cursor.old) }
+    ensures place { OnOk result (lines_left cursor.new ≡ behind_homology_head (lines_left cursor.old)) }
     ensures end { cursor.new.end_line ≡ cursor.old.end_line }
 {
     if !cursor.find_line() {
@@ -45,7 +45,7 @@ pub(crate) fn read_head(cursor: &mut Cursor<'_>) -> Result<Head, HomologyFault>
 /// The kind whose answer the present line is, and goes past it. Where it is none, nothing changes.
 fn pass_answer(cursor: &mut Cursor<'_>) -> Option<Kind>
     requires { IsTrue (is_filled cursor.old.words) }
-    ensures answer { result ≡ answer_of cursor.old.words }
+    ensures answer { result ≡ kind_answered cursor.old.words }
     ensures place { cursor.new ≡ (if is_some result then record cursor.old { words = [] } else cursor.old) }
 {
     if cursor.pass_words(b"homologous") {
@@ -59,7 +59,7 @@ fn pass_answer(cursor: &mut Cursor<'_>) -> Option<Kind>
 
 /// Reads the head on the next line, behind the answer of this kind.
 fn read_head_behind(cursor: &mut Cursor<'_>, kind: Kind) -> Result<Head, HomologyFault>
-    ensures head { result ≡ first_head (Some kind) cursor.old.end_line (lines_left cursor.old) }
+    ensures head { result ≡ first_homology_head (Some kind) cursor.old.end_line (lines_left cursor.old) }
     ensures place { OnOk result (lines_left cursor.new ≡ drop 1 (lines_left cursor.old)) }
     ensures end { cursor.new.end_line ≡ cursor.old.end_line }
 {
@@ -78,7 +78,7 @@ fn read_head_line(
     line: u64,
     answer: Option<Kind>,
 ) -> Result<Head, HomologyFault>
-    ensures head { result ≡ head_in answer (record { number = line; words = cursor.old.words }) }
+    ensures head { result ≡ homology_head_in answer (record { number = line; words = cursor.old.words }) }
     ensures place { cursor.new ≡ record cursor.old { words = cursor.new.words } }
     ensures ended { OnOk result (cursor.new.words ≡ []) }
 {
@@ -90,7 +90,7 @@ fn read_head_line(
 
 /// Whether the head may stand behind the answer, if there is one.
 fn head_fits(answer: Option<Kind>, head: Head) -> bool
-    ensures { result ≡ fits answer head }
+    ensures { result ≡ fits_kind answer head }
 {
     match (answer, head.kind) {
         (None, _) => true,
@@ -102,7 +102,7 @@ fn head_fits(answer: Option<Kind>, head: Head) -> bool
 
 /// The head that the words of the present line are.
 fn read_head_words(cursor: &mut Cursor<'_>) -> Option<Head>
-    ensures head { result ≡ head_of cursor.old.words }
+    ensures head { result ≡ homology_head_of cursor.old.words }
     ensures place { cursor.new ≡ record cursor.old { words = cursor.new.words } }
     ensures ended { OnSome result (cursor.new.words ≡ []) }
 {
@@ -116,7 +116,7 @@ fn read_head_words(cursor: &mut Cursor<'_>) -> Option<Head>
 
 /// The kind of certificate that a keyword begins.
 fn keyword(word: &[u8]) -> Option<Kind>
-    ensures { result ≡ kind_of word.now }
+    ensures { result ≡ keyword_kind word.now }
 {
     if word == b"CHAIN".as_slice() {
         Some(Kind::OfFaces)

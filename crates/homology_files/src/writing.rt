@@ -7,7 +7,7 @@ ghost use Rattle.surf_io.specs.Gathered.{Puts};
 ghost use Rattle.homology.specs.Certificates.{AreFaceNumbers, AreEdgeNumbers};
 ghost use Rattle.homology.specs.declared.certificate.HomologyCert.TheVariants.{Chain, Cocycle};
 ghost use Rattle.homology_files.specs.HomologyTexts.{cert_of_text};
-ghost use Rattle.homology_files.specs.WrittenTexts.{face_words, edge_words, cert_text, FaceFits, EdgeFits, FitsFormat};
+ghost use Rattle.homology_files.specs.WrittenTexts.{face_number_words, edge_words, cert_text, FaceFits, EdgeFits, FitsHomologyFormat};
 
 use homology::{ChainNumbers, CocycleNumbers, EdgeNumber, FaceNumber, HomologyCert};
 use surf_io::{Failed, Piece, Sink};
@@ -40,7 +40,7 @@ fn put_certificate<K: Sink>(
     requires { piece.old ≡ [] }
     ensures puts { Puts K.written K.settled K.faults result sink.old sink.new piece.old piece.new (cert_text certificate.now) }
     // What holds of every certificate, line by line.
-    ensures fits { OnOk result (FitsFormat certificate.now) }
+    ensures fits { OnOk result (FitsHomologyFormat certificate.now) }
 {
     match certificate {
         HomologyCert::Chain(numbers) => put_chain(numbers, piece, sink),
@@ -53,7 +53,7 @@ fn put_chain<K: Sink>(numbers: &ChainNumbers, piece: &mut Piece, sink: &mut K) -
     requires { piece.old ≡ [] }
     ensures puts { Puts K.written K.settled K.faults result sink.old sink.new piece.old piece.new (cert_text (Chain numbers.now)) }
     // What holds of every chain, line by line.
-    ensures fits { OnOk result (FitsFormat (Chain numbers.now)) }
+    ensures fits { OnOk result (FitsHomologyFormat (Chain numbers.now)) }
 {
     put_head(piece, b"CHAIN", numbers.len());
     for k in 0..numbers.len() {
@@ -72,7 +72,7 @@ fn put_cocycle<K: Sink>(
     requires { piece.old ≡ [] }
     ensures puts { Puts K.written K.settled K.faults result sink.old sink.new piece.old piece.new (cert_text (Cocycle numbers.now)) }
     // What holds of every cocycle, line by line.
-    ensures fits { OnOk result (FitsFormat (Cocycle numbers.now)) }
+    ensures fits { OnOk result (FitsHomologyFormat (Cocycle numbers.now)) }
 {
     put_head(piece, b"COCYCLE", numbers.len());
     for k in 0..numbers.len() {
@@ -97,7 +97,7 @@ fn put_head(piece: &mut Piece, keyword: &[u8], count: u32)
 /// Puts the line of the number of a face.
 fn put_face(piece: &mut Piece, line: FaceNumber)
     requires { length piece.old + LINE_ROOM ≤ Piece.ROOM }
-    ensures put { piece.new ≡ piece.old ++ line_of (face_words line) }
+    ensures put { piece.new ≡ piece.old ++ line_of (face_number_words line) }
     // What holds of every name of a face.
     ensures fits { FaceFits line }
 {

@@ -1,5 +1,5 @@
 -- The arrays of a mesh are read as that mesh, and what is read is the mesh whose arrays they are.
-use Rattle.homotopy_arrays.proofs.Common.{AreArraysOf, counts_fault, face_fault, faces_behind, mesh_of, unless, Fault, ManyVertices, CornerCount, ManySides, DifferTo, differ_more, differ_all, ◌≡◌, ℕ, zero, suc, ◌+◌, ◌<◌, ◌≤◌, Bool, true, false, cond, not, eqb, ltb, List, [], ◌∷◌, ◌++◌, length, take, drop, map, append_assoc, append-nil, length-take-le, refl, sym, ap, ap₂, subst, ◌∙◌, arith, le-ltb, lt-ltb, ne_eqb, eqb-true, ltb-false, and_from, take_at, drop_at, take-append-drop, length-drop, sum_by-cons, list_all, All, Option, Some, None, Result, Ok, sum_by, flat_map, FaceList, IsFace, total_sides, MOST_VERTICES, MOST_SIDES}
+use Rattle.homotopy_arrays.proofs.Common.{AreArraysOf, counts_fault, array_face_fault, faces_behind, mesh_from_arrays, unless, Fault, ManyVertices, CornerCount, ManySides, DifferTo, differ_more, differ_all, ◌≡◌, ℕ, zero, suc, ◌+◌, ◌<◌, ◌≤◌, Bool, true, false, cond, not, eqb, ltb, List, [], ◌∷◌, ◌++◌, length, take, drop, map, append_assoc, append-nil, length-take-le, refl, sym, ap, ap₂, subst, ◌∙◌, arith, le-ltb, lt-ltb, ne_eqb, eqb-true, ltb-false, and_from, take_at, drop_at, take-append-drop, length-drop, sum_by-cons, list_all, All, Option, Some, None, Result, Ok, sum_by, flat_map, FaceList, IsFace, total_sides, MOST_VERTICES, MOST_SIDES}
 use Rattle.std.proofs.lemmas.List.Concat.{length-flat_map}
 use Rattle.std.proofs.lemmas.List.Elements.{All-nil, All-cons, All-head, All-tail}
 use Rattle.std.specs.Prelude.{sum}
@@ -21,7 +21,7 @@ differ_to vertices face is (suc n) within =
     (differ_more face n (omega (arith, within)) (ne_eqb _ _ (is.neighbours n (omega (arith, within))))
     (differ_to vertices face is n (omega (arith, within))))
 
-no_fault : (vertices number : ℕ) (face : List ℕ) → IsFace vertices face → face_fault vertices number face ≡ None
+no_fault : (vertices number : ℕ) (face : List ℕ) → IsFace vertices face → array_face_fault vertices number face ≡ None
 no_fault vertices number face is =
     rw (
       le-ltb (length face) 3 is.polygon,
@@ -72,7 +72,7 @@ read_faces vertices others [] [] mesh all e =
 read_faces vertices others [] (corner ∷ corners) mesh all e = absurd (omega (arith, all))
 read_faces vertices others (size ∷ sizes) corners mesh all e =
     let face : List ℕ = take size corners in
-    let read = unless_ok (face_fault vertices (length others) face)
+    let read = unless_ok (array_face_fault vertices (length others) face)
     (faces_behind vertices (others ++ face ∷ []) sizes (drop size corners)) mesh e in
     let total : size + sum sizes ≡ length corners = sym (sum_by-cons (λ x. x) size sizes) ∙ all in
     let long : length face ≡ size = length-take-le size corners (omega (arith, total)) in
@@ -96,10 +96,11 @@ put_faces vertices others (face ∷ more) each =
     let corners : List ℕ = face ++ flat_map (λ face. face) more in
     let front : take (length face) corners ≡ face = take_at face (flat_map (λ face. face) more) (length face) refl in
     let back : drop (length face) corners ≡ flat_map (λ face. face) more = drop_at face (flat_map (λ face. face) more) (length face) refl in
-    let good : face_fault vertices (length others) face ≡ None =
+    let good : array_face_fault vertices (length others) face ≡ None =
     no_fault vertices (length others) face (All-head (IsFace vertices) face more each) in
     let Read : List ℕ → List ℕ → Type 0 =
-    λ (f rest : List ℕ). unless (face_fault vertices (length others) f) (faces_behind vertices (others ++ f ∷ []) (map length more) rest)
+    λ (f rest : List ℕ). unless (array_face_fault vertices (length others) f)
+    (faces_behind vertices (others ++ f ∷ []) (map length more) rest)
     ≡ Ok (record { count = vertices; faces = others ++ face ∷ more }) in
     let behind : faces_behind vertices (others ++ face ∷ []) (map length more) (flat_map (λ face. face) more)
     ≡ Ok (record { count = vertices; faces = others ++ face ∷ more }) =
@@ -132,9 +133,9 @@ counted vertices sizes corners e =
     by_tests false true false p q r e =
         record { few = ltb-false MOST_VERTICES vertices p; all = eqb-true _ _ q; room = ltb-false MOST_SIDES (length corners) r }
 
-pub read_arrays : (mesh : FaceList) (vertices : ℕ) (sizes corners : List ℕ) → mesh_of vertices sizes corners ≡ Ok mesh
+pub read_arrays : (mesh : FaceList) (vertices : ℕ) (sizes corners : List ℕ) → mesh_from_arrays vertices sizes corners ≡ Ok mesh
     → AreArraysOf mesh vertices sizes corners
-unfolding mesh_of
+unfolding mesh_from_arrays
 read_arrays mesh vertices sizes corners e =
     let read = unless_ok (counts_fault vertices sizes corners) (faces_behind vertices [] sizes corners) mesh e in
     let counts : AreCounted vertices sizes corners = counted vertices sizes corners read.0 in
@@ -155,7 +156,7 @@ read_arrays mesh vertices sizes corners e =
     }
 
 pub arrays_read : (mesh : FaceList) (vertices : ℕ) (sizes corners : List ℕ) → AreArraysOf mesh vertices sizes corners
-    → mesh_of vertices sizes corners ≡ Ok mesh
+    → mesh_from_arrays vertices sizes corners ≡ Ok mesh
 arrays_read mesh vertices sizes corners h =
     let total : sum sizes ≡ length corners =
     ap (sum_by (λ x. x)) h.sizes_are ∙ sizes_total mesh.faces ∙ sym (length-flat_map (λ face. face) mesh.faces)

@@ -1,5 +1,5 @@
 -- Certificates in bytes, read move by move or whole.
-use Rattle.homotopy_arrays.proofs.Common.{◌≡◌, ◌⊎◌, inl, inr, ℕ, ◌≤◌, Bool, true, false, List, [], ◌∷◌, refl, ap, sym, ◌∙◌, subst, arith, nat_lt, if◌then◌else◌, Option, Some, None, Result, Ok, Err, is_some, Line, full_lines, end_line, answer_of, first_head, fits, fitting_head, head_among, head_in, head_of_text, within_peak, head_of, denial_of_lines, Certificate, denial_left, started, CertHead, CertFault}
+use Rattle.homotopy_arrays.proofs.Common.{◌≡◌, ◌⊎◌, inl, inr, ℕ, ◌≤◌, Bool, true, false, List, [], ◌∷◌, refl, ap, sym, ◌∙◌, subst, arith, nat_lt, if◌then◌else◌, Option, Some, None, Result, Ok, Err, is_some, Line, full_lines, end_line, answer_alone, first_head, fits, fitting_head, head_among, head_in, head_of_text, within_peak, cert_head_of, denial_of_lines, Certificate, denial_left, started, CertHead, CertFault}
 use Rattle.commands.specs.Inputs.{certificate_of}
 use Rattle.labellings.specs.declared.denial.Denial.{Denial}
 use Rattle.std.proofs.lemmas.Bool.Decides.{nat_tests}
@@ -65,23 +65,23 @@ alone line None count peak e = cc
 alone line (Some head) count peak e = fitting (fits None head) line head count peak e
 
 behind : (words : List (List ℕ)) (line : ℕ) (head : Option CertHead) (count peak : ℕ)
-    → fitting_head (answer_of words) line head ≡ Ok (Moves count peak) → peak ≤ MOST_PEAK
+    → fitting_head (answer_alone words) line head ≡ Ok (Moves count peak) → peak ≤ MOST_PEAK
 behind words line None count peak e = cc
-behind words line (Some head) count peak e = fitting (fits (answer_of words) head) line head count peak e
+behind words line (Some head) count peak e = fitting (fits (answer_alone words) head) line head count peak e
 
 first : (words : List (List ℕ)) (end : ℕ) (lines : List Line) (count peak : ℕ)
-    → first_head (answer_of words) end lines ≡ Ok (Moves count peak) → peak ≤ MOST_PEAK
+    → first_head (answer_alone words) end lines ≡ Ok (Moves count peak) → peak ≤ MOST_PEAK
 first words end [] count peak e = cc
-first words end (line ∷ lines) count peak e = behind words line.number (head_of line.words) count peak e
+first words end (line ∷ lines) count peak e = behind words line.number (cert_head_of line.words) count peak e
 
 among : (end : ℕ) (lines : List Line) (count peak : ℕ) → head_among end lines ≡ Ok (Moves count peak) → peak ≤ MOST_PEAK
 among end [] count peak e = cc
-among end (line ∷ lines) count peak e = by_test (is_some (answer_of line.words)) e
+among end (line ∷ lines) count peak e = by_test (is_some (answer_alone line.words)) e
   where
-    by_test : (b : Bool) → (if b then first_head (answer_of line.words) end lines else head_in None line) ≡ Ok (Moves count peak)
+    by_test : (b : Bool) → (if b then first_head (answer_alone line.words) end lines else head_in None line) ≡ Ok (Moves count peak)
         → peak ≤ MOST_PEAK
     by_test true e = first line.words end lines count peak e
-    by_test false e = alone line.number (head_of line.words) count peak e
+    by_test false e = alone line.number (cert_head_of line.words) count peak e
 
 pub head_within : (text : List ℕ) (count peak : ℕ) → head_of_text text ≡ Ok (Moves count peak) → peak ≤ MOST_PEAK
 head_within text count peak e = among (end_line text) (full_lines text) count peak e

@@ -1,5 +1,5 @@
 -- Certificates, from their parts.
-use Rattle.homotopy_arrays.proofs.Common.{signed_surface, IsSigned, SignedMesh, Certifies, IsCertified, IsCertifyFault, IsFaultOfPair, IsLimitFault, no_memory, AreWalks, IsSurfaceFault, IsSurfaceOf, OfMesh, Fault, OutOfMemory, ◌≡◌, ◌⊎◌, ℕ, List, sym, ap, ◌∙◌, inl, inr, option_map, MatchResult, None, Result, Ok, Err, FaceList}
+use Rattle.homotopy_arrays.proofs.Common.{signed_surface, IsSigned, SignedMesh, Certifies, IsCertificateFor, IsCertifyFault, IsFaultOfPair, IsCertifyLimitFault, no_memory, AreWalks, IsSurfaceFault, IsSurfaceOf, OfMesh, Fault, OutOfMemory, ◌≡◌, ◌⊎◌, ℕ, List, sym, ap, ◌∙◌, inl, inr, option_map, MatchResult, None, Result, Ok, Err, FaceList}
 use Rattle.certify_commands.proofs.Certifying.{convinces_decides}
 use Rattle.certify_commands.specs.Certify.{IsWithinLimits, certify_limits, limit_word}
 use Rattle.commands.proofs.LimitLemmas.{fitting}
@@ -20,7 +20,8 @@ within mesh first second e = fitting certify_limits limit_word mesh first second
 
 -- what is shown is for the right decision
 pub found : (surface : SignedMesh) (first second : List ℕ) (shown : Certificate) → IsSigned surface → AreWalks surface.faces first second
-    → IsWithinLimits surface.faces first second → IsShown surface.faces first second shown → IsCertified surface.faces first second shown
+    → IsWithinLimits surface.faces first second → IsShown surface.faces first second shown
+    → IsCertificateFor surface.faces first second shown
 found surface first second shown signed are within h =
     record {
       walks = are;
@@ -33,8 +34,8 @@ found surface first second shown signed are within h =
 
 -- what was found on walks of the mesh
 pub on_walks : (mesh : FaceList) (first second : List ℕ) (end : Result Certificate CertifyFault) → AreWalks mesh first second
-    → MatchResult end (IsCertified mesh first second) (λ fault. (fault ≡ no_memory) ⊎ IsLimitFault mesh first second fault)
-    → MatchResult end (IsCertified mesh first second) (IsFaultOfPair mesh first second)
+    → MatchResult end (IsCertificateFor mesh first second) (λ fault. (fault ≡ no_memory) ⊎ IsCertifyLimitFault mesh first second fault)
+    → MatchResult end (IsCertificateFor mesh first second) (IsFaultOfPair mesh first second)
 on_walks mesh first second (Ok shown) are h = h
 on_walks mesh first second (Err fault) are (inl memory) = inl memory
 on_walks mesh first second (Err fault) are (inr limit) = inr (inr (are, limit))
@@ -42,7 +43,7 @@ on_walks mesh first second (Err fault) are (inr limit) = inr (inr (are, limit))
 -- what was found on the surface that the arrays are
 pub on_surface : (read : Result FaceList Fault) (surface : SignedMesh) (first second : List ℕ) (end : Result Certificate CertifyFault)
     → OfMesh read (λ mesh. IsSurfaceOf mesh surface)
-    → MatchResult end (IsCertified surface.faces first second) (IsFaultOfPair surface.faces first second)
+    → MatchResult end (IsCertificateFor surface.faces first second) (IsFaultOfPair surface.faces first second)
     → MatchResult end (Certifies read first second) (IsCertifyFault read first second)
 on_surface read surface first second (Ok shown) of h =
     record {

@@ -1,5 +1,5 @@
 -- Walks that are cut from arrays, and their classes.
-use Rattle.homotopy_arrays.proofs.Common.{IsCompactSurface, AreClassed, AreClassesIn, AreCut, IsFirstNone, IsNoClassesIn, IsWalkIn, first_walks, length_fault, walk_at, ◌≡◌, ◌≢◌, ℕ, ◌+◌, ◌<◌, ◌≤◌, List, [], ◌∷◌, ◌++◌, length, get_or, refl, sym, ap, ap₂, subst, ◌∙◌, arith, Vec, MatchResult, None, Result, Ok, Err, FaceList, IsWalk, IsFirstNoWalk, AreClasses}
+use Rattle.homotopy_arrays.proofs.Common.{IsCompactSurface, AreClassed, AreClassesIn, AreCut, IsFirstNone, IsNoClassesIn, IsWalkIn, first_walks, length_fault, walk_in_arrays, ◌≡◌, ◌≢◌, ℕ, ◌+◌, ◌<◌, ◌≤◌, List, [], ◌∷◌, ◌++◌, length, get_or, refl, sym, ap, ap₂, subst, ◌∙◌, arith, Vec, MatchResult, None, Result, Ok, Err, FaceList, IsWalk, IsFirstNoWalk, AreClasses}
 use Rattle.homotopy_arrays.specs.declared.classes.NoClasses.{NoClasses}
 use Rattle.std.proofs.lemmas.List.FromFn.{get_or-map-range_with_len, length-map-range_with_len, map-range_with_len_more}
 use Rattle.std.specs.Prelude.{sum}
@@ -9,30 +9,30 @@ use Rattle.homotopy_arrays.proofs.PairLemmas.{length_fits, length_good}
 
 -- one walk more
 pub cut_more : (sizes vertices : List ℕ) (walks next : List (List ℕ)) (k : ℕ) (walk : List ℕ) → next ≡ walks ++ walk ∷ []
-    → walks ≡ first_walks sizes vertices k → walk ≡ walk_at sizes vertices k → next ≡ first_walks sizes vertices (k + 1)
+    → walks ≡ first_walks sizes vertices k → walk ≡ walk_in_arrays sizes vertices k → next ≡ first_walks sizes vertices (k + 1)
 cut_more sizes vertices walks next k walk grown are is =
     grown ∙ ap₂ (λ (l : List (List ℕ)) (w : List ℕ). l ++ w ∷ []) are is
-    ∙ sym (map-range_with_len_more (walk_at sizes vertices) 0 k k (omega arith))
+    ∙ sym (map-range_with_len_more (walk_in_arrays sizes vertices) 0 k k (omega arith))
 
 -- so many walks are cut
 pub cut_at : (sizes vertices : List ℕ) (walks : List (List ℕ)) (k : ℕ) → walks ≡ first_walks sizes vertices k → k ≤ length sizes
-    → ((j : ℕ) → j < k → length_fault 1 (walk_at sizes vertices j) ≡ None)
-    → (k < length sizes → length_fault 1 (walk_at sizes vertices k) ≢ None) → AreCut sizes vertices walks
+    → ((j : ℕ) → j < k → length_fault 1 (walk_in_arrays sizes vertices j) ≡ None)
+    → (k < length sizes → length_fault 1 (walk_in_arrays sizes vertices k) ≢ None) → AreCut sizes vertices walks
 cut_at sizes vertices walks k are within good ended =
-    let many : length walks ≡ k = ap length are ∙ length-map-range_with_len (walk_at sizes vertices) 0 k in
+    let many : length walks ≡ k = ap length are ∙ length-map-range_with_len (walk_in_arrays sizes vertices) 0 k in
     record {
       within = omega (arith, many, within);
       are = are ∙ ap (first_walks sizes vertices) (sym many);
       good = λ j l. good j (omega (arith, l, many));
       ended = λ l.
-          subst (λ (n : ℕ). length_fault 1 (walk_at sizes vertices n) ≢ None) (sym many) (ended (omega (arith, l, many)));
+          subst (λ (n : ℕ). length_fault 1 (walk_in_arrays sizes vertices n) ≢ None) (sym many) (ended (omega (arith, l, many)));
     }
 
 read_cut : (sizes vertices : List ℕ) (walks : List (List ℕ)) (k : ℕ) → AreCut sizes vertices walks → k < length walks
-    → get_or walks k [] ≡ walk_at sizes vertices k
+    → get_or walks k [] ≡ walk_in_arrays sizes vertices k
 read_cut sizes vertices walks k cut l =
     ap (λ (w : List (List ℕ)). get_or w k []) cut.are
-    ∙ get_or-map-range_with_len (walk_at sizes vertices) 0 (length walks) k k [] l (omega arith)
+    ∙ get_or-map-range_with_len (walk_in_arrays sizes vertices) 0 (length walks) k k [] l (omega arith)
 
 -- ---- walks of the mesh
 
@@ -43,9 +43,9 @@ walk_in mesh walk is good =
 
 -- a walk that was cut
 cut_walk_in : (mesh : FaceList) (sizes vertices : List ℕ) (walks : List (List ℕ)) (k : ℕ) → AreCut sizes vertices walks → k < length walks
-    → IsWalk mesh (get_or walks k []) → IsWalkIn mesh (walk_at sizes vertices k)
+    → IsWalk mesh (get_or walks k []) → IsWalkIn mesh (walk_in_arrays sizes vertices k)
 cut_walk_in mesh sizes vertices walks k cut l is =
-    walk_in mesh (walk_at sizes vertices k) (subst (IsWalk mesh) (read_cut sizes vertices walks k cut l) is) (cut.good k l)
+    walk_in mesh (walk_in_arrays sizes vertices k) (subst (IsWalk mesh) (read_cut sizes vertices walks k cut l) is) (cut.good k l)
 
 -- all are cut, and are walks with their classes
 pub all_classes : (mesh : FaceList) (sizes vertices given : List ℕ) (walks : List (List ℕ)) → AreCut sizes vertices walks
@@ -65,7 +65,7 @@ not_cut mesh sizes vertices given walks cut more are =
     let less : length walks < length sizes = omega (arith, more, cut.within) in
     record {
       within = less;
-      none = λ is. cut.ended less (length_fits 1 (walk_at sizes vertices (length walks)) is.first_walk.starts is.few.0);
+      none = λ is. cut.ended less (length_fits 1 (walk_in_arrays sizes vertices (length walks)) is.first_walk.starts is.few.0);
       before = λ k l. cut_walk_in mesh sizes vertices walks k cut l (are.are_walks k l);
     }
 

@@ -8,7 +8,7 @@ pub use Rattle.doubling.specs.Doubles.{double_of}
 pub use Rattle.folded_homology.specs.FoldedNumbers.{AreFolded}
 pub use Rattle.homology.specs.ArrayCertificates.{AreSmall, DoShow}
 pub use Rattle.homology.specs.declared.array.HomologyNumbers.{HomologyNumbers}
-pub use Rattle.homotopy_arrays.specs.Certifications.{Certifies, IsCertified, IsCertifyFault, IsFaultOfPair, IsLimitFault, no_memory}
+pub use Rattle.homotopy_arrays.specs.Certifications.{Certifies, IsCertificateFor, IsCertifyFault, IsCertifyLimitFault, IsFaultOfPair, no_memory}
 pub use Rattle.homotopy_arrays.specs.CheckedPairs.{AreCheckedLoops, AreListed, IsChecked}
 pub use Rattle.homotopy_arrays.specs.Classes.{AreClassed, AreClassesIn, AreCut, IsFirstNone, IsNoClassesIn, IsWalkIn, first_walks}
 pub use Rattle.homotopy_arrays.specs.Compact.{AreDecidedOnAny, IsCompactFault, IsCompactKept, IsDecideAnyFault, IsOrientableCompactFault, IsSignedOf, of_compact_fault, of_signed_fault}
@@ -16,9 +16,9 @@ pub use Rattle.homotopy_arrays.specs.Decisions.{AreAnsweredOn, AreDecided, IsAsk
 pub use Rattle.homotopy_arrays.specs.Homologies.{AreLong, AreShown, AreShownAs, IsAsked, IsHomologyFaultOfPair, IsHomologyFaultOn, ShowsWalksOn, Sized, answer_by, mesh_asked}
 pub use Rattle.homotopy_arrays.specs.HomologyJudgements.{IsArrayVerdict, IsVerifyHomologyFault, IsVerifyHomologyFaultOn, JudgesNumbers, JudgesNumbersOn}
 pub use Rattle.homotopy_arrays.specs.Judgements.{IsFaultOfMoves, IsFaultOfSpelling, IsFaultOfText, IsFaultOfWalks, IsVerdictOnMoves, IsVerifyFault, Judges, JudgesSpelt, JudgesText, JudgesWalks, of_certificate_fault}
-pub use Rattle.homotopy_arrays.specs.MeshArrays.{AreArraysOf, counts_fault, face_fault, mesh_in, unless}
-unfoldable pub use Rattle.homotopy_arrays.specs.MeshArrays.{faces_behind, mesh_of}
-pub use Rattle.homotopy_arrays.specs.Pairs.{AreAnswers, AreWalks, IsAnswer, are_pairs, length_fault, walk_at, walks_fault}
+pub use Rattle.homotopy_arrays.specs.MeshArrays.{AreArraysOf, array_face_fault, counts_fault, mesh_in_arrays, unless}
+unfoldable pub use Rattle.homotopy_arrays.specs.MeshArrays.{faces_behind, mesh_from_arrays}
+pub use Rattle.homotopy_arrays.specs.Pairs.{AreAnswers, AreWalks, IsAnswer, are_pairs, length_fault, two_walks_fault, walk_in_arrays}
 pub use Rattle.homotopy_arrays.specs.Surfaces.{EndsOn, IsSurfaceFault, IsSurfaceOf, OfMesh, of_no_surface, of_surface_fault}
 pub use Rattle.homotopy_arrays.specs.declared.fault.Fault.{Fault}
 pub use Rattle.homotopy_arrays.specs.declared.fault.Fault.TheVariants.{CornerCount, EqualNeighbours, FewCorners, ManySides, ManyVertices, NoVertex, OutOfMemory, WalkCount}
@@ -45,10 +45,10 @@ pub use Rattle.verify_commands.proofs.Gathering.{left_start, list-moves, list-wr
 pub use Rattle.walk_classes.specs.Faults.{IsClassFault, IsFirstNoWalk}
 pub use Rattle.walk_classes.specs.WalkClasses.{AreClasses}
 pub use Rattle.walk_files.proofs.EachLemmas.{before_ok}
-pub use Rattle.walk_files.specs.Certificates.{answer_of, first_head, fits, fitting_head, head_among, head_in, head_of, head_of_text, moves_of_text, within_peak}
+pub use Rattle.walk_files.specs.Certificates.{answer_alone, cert_head_of, first_head, fits, fitting_head, head_among, head_in, head_of_text, moves_of_text, within_peak}
 pub use Rattle.walk_files.specs.ClosedPairs.{IsClosedPair, loops_fault}
 pub use Rattle.walk_files.specs.Denials.{denial_of_lines}
 pub use Rattle.walk_files.specs.Pairs.{IsPair, pair_fault}
-pub use Rattle.walk_files.specs.Readers.{Certificate, after_answer, answer_first, count_in, denial_left, lines_to_come, moves_left, moves_to_come, next_answer, next_of, started, unless_refused}
+pub use Rattle.walk_files.specs.Readers.{Certificate, after_answer, answer_first, count_in, denial_left, lines_to_come, moves_left, moves_to_come, next_answer, next_move_of, started, unless_refused}
 pub use Rattle.walk_files.specs.declared.certificate.CertHead.{CertHead}
 pub use Rattle.walk_files.specs.declared.fault.CertFault.{CertFault}

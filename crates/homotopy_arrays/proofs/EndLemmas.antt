@@ -1,7 +1,7 @@
 -- How questions end.
 use Rattle.homotopy_arrays.proofs.Common.{signed_surface, IsNoSurface, SignedMesh, IsCompactSurface, AreDecidedOnAny, IsCompactFault, IsCompactKept, of_compact_fault, AreAnsweredOn, IsAskedFault, IsKept, IsAnswer, are_pairs, EndsOn, IsSurfaceFault, IsSurfaceOf, OfMesh, of_no_surface, of_surface_fault, Fault, OutOfMemory, WalkCount, ◌≡◌, ◌⊎◌, sym, ap, subst, ◌∙◌, inl, inr, refl, ℕ, List, false, Vec, Result, Ok, Err, FaceList, IsOrientableSurface}
 use Rattle.closed_surfaces.specs.declared.signed_mesh.NoSurface.{NoSurface}
-use Rattle.compact_surfaces.specs.Faults.{IsFirstFault}
+use Rattle.compact_surfaces.specs.Faults.{IsFirstCompactFault}
 use Rattle.compact_surfaces.specs.declared.fault.CompactFault.{CompactFault}
 use Rattle.homotopy_arrays.specs.declared.decide.PairAnswer.{PairAnswer}
 use Rattle.closed_surfaces.specs.declared.signed_mesh.NoSurface.TheVariants as nones
@@ -35,7 +35,7 @@ none_ends read mesh none fault was h e =
 
 -- the same about a mesh that is no compact surface
 pub compact_ends : (read : Result FaceList Fault) (mesh : FaceList) (first : CompactFault) (fault : Fault) → Ok mesh ≡ read
-    → (first ≡ compact.OutOfMemory) ⊎ IsFirstFault mesh first → fault ≡ of_compact_fault first
+    → (first ≡ compact.OutOfMemory) ⊎ IsFirstCompactFault mesh first → fault ≡ of_compact_fault first
     → (fault ≡ OutOfMemory) ⊎ ((read ≡ Err fault) ⊎ OfMesh read (λ m. IsCompactFault m fault))
 compact_ends read mesh first fault was h e =
     elim h [

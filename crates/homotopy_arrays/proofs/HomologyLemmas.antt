@@ -1,7 +1,7 @@
 -- Numbers that show whether walks are homologous, from their parts.
 use Rattle.homotopy_arrays.proofs.Common.{SignedMesh, IsOrientableCompactSurface, double_of, AreFolded, AreSmall, DoShow, HomologyNumbers, IsOrientableCompactFault, IsSignedOf, of_signed_fault, AreLong, AreShown, IsHomologyFaultOfPair, answer_by, AreShownAs, IsAsked, IsHomologyFaultOn, ShowsWalksOn, Sized, mesh_asked, AreWalks, IsSurfaceOf, OfMesh, Fault, OutOfMemory, ◌≡◌, ◌⊎◌, ℕ, ◌+◌, ◌≤◌, List, refl, sym, subst, arith, ap, ◌∙◌, inl, inr, ◌↔◌, MatchResult, Result, Ok, Err, IfOk, AllocError, FaceList, darts, IsWalk}
 use Rattle.commands.specs.HomologyCertificates.{Homologous}
-use Rattle.compact_surfaces.specs.Signed.{IsBoundedFor, IsSignedFault, IsSignedFor, no_memory as wanting}
+use Rattle.compact_surfaces.specs.Signed.{IsBoundedFor, IsSignedFault, IsSignedFor, signed_no_memory as wanting}
 use Rattle.compact_surfaces.specs.declared.signed.SignedCompact.{SignedCompact}
 use Rattle.compact_surfaces.specs.declared.signed.SignedCompact.TheVariants.{Closed, Bounded}
 use Rattle.compact_surfaces.specs.declared.signed.SignedFault.{SignedFault}

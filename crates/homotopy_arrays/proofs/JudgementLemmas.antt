@@ -1,11 +1,11 @@
 -- What comes of certificates, from their parts.
-use Rattle.homotopy_arrays.proofs.Common.{IsFaultOfMoves, IsFaultOfSpelling, IsFaultOfText, IsFaultOfWalks, IsVerdictOnMoves, IsVerifyFault, Judges, JudgesSpelt, JudgesText, JudgesWalks, of_certificate_fault, AreWalks, Fault, OutOfMemory, ◌≡◌, ◌⊎◌, ◌<◌, ◌≤◌, ℕ, zero, suc, List, [], ◌∷◌, length, get_or, refl, sym, ap, subst, ◌∙◌, inl, inr, arith, get_or_from_slice_get, Result, Ok, Err, MatchResult, Option, Some, None, slice_get, FaceList, Move, Line, end_line, left_start, list-moves, list-wrong, before_ok, head_of_text, moves_of_text, denial_of_lines, Certificate, count_in, denial_left, lines_to_come, moves_left, moves_to_come, next_answer, next_of, started, unless_refused, CertHead, CertFault}
+use Rattle.homotopy_arrays.proofs.Common.{IsFaultOfMoves, IsFaultOfSpelling, IsFaultOfText, IsFaultOfWalks, IsVerdictOnMoves, IsVerifyFault, Judges, JudgesSpelt, JudgesText, JudgesWalks, of_certificate_fault, AreWalks, Fault, OutOfMemory, ◌≡◌, ◌⊎◌, ◌<◌, ◌≤◌, ℕ, zero, suc, List, [], ◌∷◌, length, get_or, refl, sym, ap, subst, ◌∙◌, inl, inr, arith, get_or_from_slice_get, Result, Ok, Err, MatchResult, Option, Some, None, slice_get, FaceList, Move, Line, end_line, left_start, list-moves, list-wrong, before_ok, head_of_text, moves_of_text, denial_of_lines, Certificate, count_in, denial_left, lines_to_come, moves_left, moves_to_come, next_answer, next_move_of, started, unless_refused, CertHead, CertFault}
 use Rattle.commands.specs.declared.inputs.TheConstants.{MOST_BYTES}
 use Rattle.homotopy_arrays.specs.declared.verify.Judgement.{Judgement}
 use Rattle.homotopy_arrays.specs.declared.verify.Judgement.TheVariants.{Moves, Denial}
 use Rattle.homotopy_arrays.specs.declared.verify.VerifyFault.{VerifyFault}
 use Rattle.homotopy_arrays.specs.declared.verify.VerifyFault.TheVariants.{Mesh}
-use Rattle.labellings.specs.DenialVerdicts.{IsVerdict}
+use Rattle.labellings.specs.DenialVerdicts.{IsDenialVerdict}
 use Rattle.labellings.specs.declared.verdict.DenialVerdict.{DenialVerdict}
 use Rattle.move_checker.specs.declared.judge.Verdict.{Verdict}
 use Rattle.verify_commands.proofs.Streaming.{denial_right}
@@ -67,10 +67,10 @@ promised reader move kept gives =
     let still : ℕ = moves_to_come reader in
     let lines : List Line = lines_to_come reader in
     let some : 0 < still = by_lines end still lines
-    (sym (ap (λ (o : Option CertFault). unless_refused o (next_of end still lines)) kept) ∙ gives) in
+    (sym (ap (λ (o : Option CertFault). unless_refused o (next_move_of end still lines)) kept) ∙ gives) in
     omega (arith, some)
   where
-    by_lines : (end still : ℕ) (lines : List Line) → next_of end still lines ≡ Ok (Some move) → 0 < still
+    by_lines : (end still : ℕ) (lines : List Line) → next_move_of end still lines ≡ Ok (Some move) → 0 < still
     by_lines end zero [] e = absurd cc
     by_lines end zero (line ∷ lines) e = absurd cc
     by_lines end (suc still) lines e = omega arith
@@ -90,7 +90,7 @@ denial_wrong text reader degree first fault e head answer is =
 pub denial_judged : (mesh : FaceList) (first second text : List ℕ) (reader : Certificate) (degree : ℕ) (denial : denials.Denial)
     (verdict : DenialVerdict) → Ok reader ≡ started text (head_of_text text) → reader.head ≡ heads.Labels degree
     → (Ok denial ≡ denial_left reader) ⊎ ((reader.refusal ≡ None) × (Ok denial ≡ Err certificates.OutOfMemory))
-    → IsVerdict mesh first second denial verdict → JudgesSpelt mesh first second text (Denial verdict)
+    → IsDenialVerdict mesh first second denial verdict → JudgesSpelt mesh first second text (Denial verdict)
 denial_judged mesh first second text reader degree denial verdict e head answer is =
     let spelt : head_of_text text ≡ Ok (heads.Labels degree) = head_is text reader (heads.Labels degree) e head in
     let given : denial_of_lines degree text ≡ Ok denial =

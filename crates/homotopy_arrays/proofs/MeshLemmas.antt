@@ -1,5 +1,5 @@
 -- Meshes from arrays, face by face.
-use Rattle.homotopy_arrays.proofs.Common.{face_fault, faces_behind, mesh_of, unless, Fault, ManyVertices, CornerCount, ManySides, FewCorners, NoVertex, EqualNeighbours, all_below, differ_at, ◌≡◌, ℕ, ◌+◌, ◌*◌, ◌<◌, ◌≤◌, Bool, true, false, cond, not, eqb, ltb, List, [], ◌∷◌, ◌++◌, length, take, drop, get_or, length-take-le, refl, sym, ap, subst, ◌∙◌, arith, eq-eqb, lt-ltb, le-ltb, ltb-false, drop-drop, drop_more, drop_all, length-drop, take_more, length_push, sum_by-append, sum_by-take-drop, sum_by-cons, none-some, list_all, Option, Some, None, Ok, Err, sum_by, PendingFace, IsFace, total_sides, MOST_VERTICES, MOST_SIDES}
+use Rattle.homotopy_arrays.proofs.Common.{array_face_fault, faces_behind, mesh_from_arrays, unless, Fault, ManyVertices, CornerCount, ManySides, FewCorners, NoVertex, EqualNeighbours, all_below, differ_at, ◌≡◌, ℕ, ◌+◌, ◌*◌, ◌<◌, ◌≤◌, Bool, true, false, cond, not, eqb, ltb, List, [], ◌∷◌, ◌++◌, length, take, drop, get_or, length-take-le, refl, sym, ap, subst, ◌∙◌, arith, eq-eqb, lt-ltb, le-ltb, ltb-false, drop-drop, drop_more, drop_all, length-drop, take_more, length_push, sum_by-append, sum_by-take-drop, sum_by-cons, none-some, list_all, Option, Some, None, Ok, Err, sum_by, PendingFace, IsFace, total_sides, MOST_VERTICES, MOST_SIDES}
 use Rattle.off_reader.specs.OffTexts.{has_equal_neighbours}
 use Rattle.std.specs.Prelude.{sum}
 
@@ -11,7 +11,7 @@ pub record IsGoodFace (vertices : ℕ) (face : List ℕ) : Type 0 where
   pub below : list_all (λ v. ltb v vertices) face ≡ true
   pub apart : has_equal_neighbours face ≡ false
 
-pub good_face : (vertices number : ℕ) (face : List ℕ) → face_fault vertices number face ≡ None → IsGoodFace vertices face
+pub good_face : (vertices number : ℕ) (face : List ℕ) → array_face_fault vertices number face ≡ None → IsGoodFace vertices face
 good_face vertices number face e =
     by_tests (ltb (length face) 3) (list_all (λ v. ltb v vertices) face) (has_equal_neighbours face) refl refl refl e
   where
@@ -51,18 +51,18 @@ face_end sizes corners face at all place below =
 -- what stands behind the faces so far, where the next face is read
 next_face : (vertices : ℕ) (sizes corners : List ℕ) (face at : ℕ) (so_far : PendingFace) (slice : List ℕ) → face < length sizes
     → slice ≡ take (get_or sizes face 0) (drop at corners) → AreFacesTo vertices sizes corners face at so_far
-    → unless (face_fault vertices face slice)
+    → unless (array_face_fault vertices face slice)
     (faces_behind vertices (so_far.mesh.faces ++ slice ∷ []) (drop (face + 1) sizes) (drop (at + get_or sizes face 0) corners))
     ≡ faces_behind vertices [] sizes corners
 unfolding faces_behind
 next_face vertices sizes corners face at so_far slice below is h =
     let step : faces_behind vertices so_far.mesh.faces (drop face sizes) (drop at corners)
-    ≡ unless (face_fault vertices (length so_far.mesh.faces) (take (get_or sizes face 0) (drop at corners)))
+    ≡ unless (array_face_fault vertices (length so_far.mesh.faces) (take (get_or sizes face 0) (drop at corners)))
     (faces_behind vertices (so_far.mesh.faces ++ take (get_or sizes face 0) (drop at corners) ∷ []) (drop (face + 1) sizes)
     (drop (get_or sizes face 0) (drop at corners))) =
     ap (λ (l : List ℕ). faces_behind vertices so_far.mesh.faces l (drop at corners)) (drop_more sizes face 0 below) in
     let Step : ℕ → List ℕ → List ℕ → Type 0 =
-    λ (n : ℕ) (s rest : List ℕ). unless (face_fault vertices n s)
+    λ (n : ℕ) (s rest : List ℕ). unless (array_face_fault vertices n s)
     (faces_behind vertices (so_far.mesh.faces ++ s ∷ []) (drop (face + 1) sizes) rest) ≡ faces_behind vertices [] sizes corners in
     let behind : List ℕ = drop (at + get_or sizes face 0) corners in
     let front : List ℕ = take (get_or sizes face 0) (drop at corners) in
@@ -72,7 +72,7 @@ next_face vertices sizes corners face at so_far slice below is h =
 
 pub one_face : (vertices : ℕ) (sizes corners : List ℕ) (face at : ℕ) (so_far more : PendingFace) (slice : List ℕ) → face < length sizes
     → at + get_or sizes face 0 ≤ length corners → slice ≡ take (get_or sizes face 0) (drop at corners)
-    → face_fault vertices face slice ≡ None
+    → array_face_fault vertices face slice ≡ None
     → more ≡ record { mesh = record { count = vertices; faces = so_far.mesh.faces ++ slice ∷ [] }; pending = [] }
     → AreFacesTo vertices sizes corners face at so_far
     → AreFacesTo vertices sizes corners (face + 1) (at + get_or sizes face 0) more
@@ -107,13 +107,13 @@ one_face vertices sizes corners face at so_far more slice below within is good g
 
 -- nothing is wrong whatever the faces are
 pub counts_good : (vertices : ℕ) (sizes corners : List ℕ) → vertices ≤ MOST_VERTICES → sum sizes ≡ length corners
-    → length corners ≤ MOST_SIDES → mesh_of vertices sizes corners ≡ faces_behind vertices [] sizes corners
-unfolding mesh_of
+    → length corners ≤ MOST_SIDES → mesh_from_arrays vertices sizes corners ≡ faces_behind vertices [] sizes corners
+unfolding mesh_from_arrays
 counts_good vertices sizes corners few all room =
     rw (le-ltb MOST_VERTICES vertices few, eq-eqb (sum sizes) (length corners) all, le-ltb MOST_SIDES (length corners) room) refl
 
 pub bad_face : (vertices : ℕ) (sizes corners : List ℕ) (face at : ℕ) (so_far : PendingFace) (slice : List ℕ) (fault : Fault)
-    → face < length sizes → slice ≡ take (get_or sizes face 0) (drop at corners) → face_fault vertices face slice ≡ Some fault
+    → face < length sizes → slice ≡ take (get_or sizes face 0) (drop at corners) → array_face_fault vertices face slice ≡ Some fault
     → AreFacesTo vertices sizes corners face at so_far → faces_behind vertices [] sizes corners ≡ Err fault
 bad_face vertices sizes corners face at so_far slice fault below is bad h =
     sym (next_face vertices sizes corners face at so_far slice below is h)
@@ -132,17 +132,18 @@ all_faces vertices sizes corners face at so_far past h =
 
 -- ---- the faults whatever the faces are
 
-pub many_vertices : (vertices : ℕ) (sizes corners : List ℕ) → MOST_VERTICES < vertices → mesh_of vertices sizes corners ≡ Err ManyVertices
-unfolding mesh_of
+pub many_vertices : (vertices : ℕ) (sizes corners : List ℕ) → MOST_VERTICES < vertices
+    → mesh_from_arrays vertices sizes corners ≡ Err ManyVertices
+unfolding mesh_from_arrays
 many_vertices vertices sizes corners many = rw (lt-ltb MOST_VERTICES vertices many) refl
 
 pub other_count : (vertices : ℕ) (sizes corners : List ℕ) → vertices ≤ MOST_VERTICES → eqb (sum sizes) (length corners) ≡ false
-    → mesh_of vertices sizes corners ≡ Err CornerCount
-unfolding mesh_of
+    → mesh_from_arrays vertices sizes corners ≡ Err CornerCount
+unfolding mesh_from_arrays
 other_count vertices sizes corners few other = rw (le-ltb MOST_VERTICES vertices few, other) refl
 
 pub many_sides : (vertices : ℕ) (sizes corners : List ℕ) → vertices ≤ MOST_VERTICES → eqb (sum sizes) (length corners) ≡ true
-    → MOST_SIDES < length corners → mesh_of vertices sizes corners ≡ Err ManySides
-unfolding mesh_of
+    → MOST_SIDES < length corners → mesh_from_arrays vertices sizes corners ≡ Err ManySides
+unfolding mesh_from_arrays
 many_sides vertices sizes corners few all many =
     rw (le-ltb MOST_VERTICES vertices few, all, lt-ltb MOST_SIDES (length corners) many) refl

@@ -1,5 +1,5 @@
 -- Pairs of walks, cut from arrays.
-use Rattle.homotopy_arrays.proofs.Common.{IsClosedWalk, AreWalks, length_fault, walk_at, walks_fault, ◌≡◌, ◌≢◌, ℕ, Bool, true, false, cond, eqb, ltb, ◌+◌, ◌-◌, ◌*◌, ◌<◌, ◌≤◌, List, [], ◌∷◌, ◌++◌, length, take, drop, get_or, refl, sym, ap, ap₂, subst, ◌∙◌, inl, inr, arith, ◌↔◌, cases_lt, ne_eqb, eqb-false, le-ltb, ltb-false, take_more, get_or_append_left, length_push, sum_by-append, sum_by-take-drop, sum_by-cons, none-some, Some, None, sum_by, Option, MatchOption, option_map, FaceList, IsWalk, HaveCommonEnds, IsClosedPair, loops_fault, IsPair, pair_fault}
+use Rattle.homotopy_arrays.proofs.Common.{IsClosedWalk, AreWalks, length_fault, walk_in_arrays, two_walks_fault, ◌≡◌, ◌≢◌, ℕ, Bool, true, false, cond, eqb, ltb, ◌+◌, ◌-◌, ◌*◌, ◌<◌, ◌≤◌, List, [], ◌∷◌, ◌++◌, length, take, drop, get_or, refl, sym, ap, ap₂, subst, ◌∙◌, inl, inr, arith, ◌↔◌, cases_lt, ne_eqb, eqb-false, le-ltb, ltb-false, take_more, get_or_append_left, length_push, sum_by-append, sum_by-take-drop, sum_by-cons, none-some, Some, None, sum_by, Option, MatchOption, option_map, FaceList, IsWalk, HaveCommonEnds, IsClosedPair, loops_fault, IsPair, pair_fault}
 use Rattle.homotopy_arrays.specs.Loops.{AreLoops, closed_fault}
 use Rattle.homotopy_arrays.specs.declared.pair.TheConstants.{MOST_WALK}
 use Rattle.homotopy_arrays.specs.declared.pair.WalkFault.{WalkFault}
@@ -75,7 +75,7 @@ told_first (Some one) other rest fault e = e
 
 pub no_pair : (mesh : FaceList) (first second : List ℕ) (fault : PairFault) → length_fault 1 first ≡ None → length_fault 2 second ≡ None
     → Some fault ≡ pair_fault mesh (first ∷ second ∷ []) → (IsPair mesh (first ∷ second ∷ []) → ⊥)
-    → (walks_fault mesh first second ≡ Some (Pair fault)) × (AreWalks mesh first second → ⊥)
+    → (two_walks_fault mesh first second ≡ Some (Pair fault)) × (AreWalks mesh first second → ⊥)
 no_pair mesh first second fault one other e none =
     let found : option_map Pair (pair_fault mesh (first ∷ second ∷ [])) ≡ Some (Pair fault) = ap (option_map Pair) (sym e) in
     (rw (one, other) found, λ are. none (pair_of_walks mesh first second are))
@@ -127,7 +127,7 @@ place_within sizes k at total place below all =
 
 -- what is cut at its place is the walk
 pub walk_cut : (sizes vertices : List ℕ) (k at : ℕ) → at ≡ sum (take k sizes)
-    → take (at + get_or sizes k 0 - at) (drop at vertices) ≡ walk_at sizes vertices k
+    → take (at + get_or sizes k 0 - at) (drop at vertices) ≡ walk_in_arrays sizes vertices k
 walk_cut sizes vertices k at place =
     let size : at + get_or sizes k 0 - at ≡ get_or sizes k 0 = omega arith in
     ap₂ (λ (n a : ℕ). take n (drop a vertices)) size place
@@ -177,7 +177,7 @@ told_of_vertices mesh first second one other found e f few told =
 
 -- what is said of pair k
 abbrev pub IsAnswerAt : {A : Type 0} → ((first second : List ℕ) → A → Type 0) → (sizes vertices : List ℕ) → ℕ → A → Type 0
-IsAnswerAt Is sizes vertices k answer = Is (walk_at sizes vertices (2 * k)) (walk_at sizes vertices (2 * k + 1)) answer
+IsAnswerAt Is sizes vertices k answer = Is (walk_in_arrays sizes vertices (2 * k)) (walk_in_arrays sizes vertices (2 * k + 1)) answer
 
 -- a pair more
 pub more_answers : {A : Type 0} (Is : FaceList → (first second : List ℕ) → A → Type 0) (mesh same : FaceList) (sizes vertices : List ℕ)
@@ -195,7 +195,7 @@ more_answers {A} Is mesh same sizes vertices answers next k at answer grown each
     (drop (at + get_or sizes (2 * k) 0) vertices) in
     let is : IsAnswerAt (Is same) sizes vertices k answer =
     subst (λ (m : FaceList). IsAnswerAt (Is m) sizes vertices k answer) e
-    (subst (λ (w : List ℕ). Is mesh (walk_at sizes vertices (2 * k)) w answer)
+    (subst (λ (w : List ℕ). Is mesh (walk_in_arrays sizes vertices (2 * k)) w answer)
     (walk_cut sizes vertices (2 * k + 1) (at + get_or sizes (2 * k) 0) middle)
     (subst (λ (w : List ℕ). Is mesh w second answer) (walk_cut sizes vertices (2 * k) at place) told)) in
     subst (λ (l : List A). (j : ℕ) (none : A) → j < length l → IsAnswerAt (Is same) sizes vertices j (get_or l j none))

@@ -9,7 +9,7 @@ use Rattle.surf_model.specs.OrientableSurfaces.{IsOrientableSurface}
 use Rattle.commands.specs.Limits.{first_over}
 use Rattle.commands.specs.declared.certificate.Certificate.{Certificate}
 use Rattle.commands.specs.declared.limits.OverLimit.{OverLimit}
-use Rattle.homotopy_arrays.specs.Pairs.{AreWalks, walks_fault}
+use Rattle.homotopy_arrays.specs.Pairs.{AreWalks, two_walks_fault}
 use Rattle.homotopy_arrays.specs.Surfaces.{IsSurfaceFault, OfMesh}
 use Rattle.homotopy_arrays.specs.declared.certify.CertifyFault.{CertifyFault}
 use Rattle.homotopy_arrays.specs.declared.certify.CertifyFault.TheVariants.{Mesh, Walks, Over}
@@ -19,7 +19,7 @@ use Rattle.homotopy_arrays.specs.declared.pair.WalkFault.{WalkFault}
 
 -- two walks of the mesh with common ends, within the limits, and a certificate that shows what holds of them: moves where they are
 -- homotopic, and a denial where they are not; its peak is low, and on a sphere it is short
-pub record IsCertified (mesh : FaceList) (first second : List ℕ) (shown : Certificate) : Type 0 where
+pub record IsCertificateFor (mesh : FaceList) (first second : List ℕ) (shown : Certificate) : Type 0 where
   pub walks : AreWalks mesh first second
   pub limits : IsWithinLimits mesh first second
   pub convinces : Convinces mesh first second shown
@@ -30,7 +30,7 @@ pub record IsCertified (mesh : FaceList) (first second : List ℕ) (shown : Cert
 -- the arrays are an orientable closed surface, and the certificate is for two walks of it; `read` is the mesh that they are, or what is
 -- first wrong with them
 abbrev pub Certifies : (read : Result FaceList Fault) → (first second : List ℕ) → Certificate → Type 0
-Certifies read first second shown = OfMesh read (λ mesh. IsOrientableSurface mesh × IsCertified mesh first second shown)
+Certifies read first second shown = OfMesh read (λ mesh. IsOrientableSurface mesh × IsCertificateFor mesh first second shown)
 
 -- ---- what is wrong
 
@@ -38,16 +38,16 @@ abbrev pub no_memory : CertifyFault
 no_memory = Mesh OutOfMemory
 
 -- the surface or the walks are too large for lists of moves, and this is what is first over its limit
-abbrev pub IsLimitFault : FaceList → (first second : List ℕ) → CertifyFault → Type 0
-IsLimitFault mesh first second fault =
+abbrev pub IsCertifyLimitFault : FaceList → (first second : List ℕ) → CertifyFault → Type 0
+IsCertifyLimitFault mesh first second fault =
     (over : OverLimit) × (first_over certify_limits mesh first second ≡ Some over) × (fault ≡ Over over)
 
 -- memory is wanting; or these are not two walks of the mesh with common ends; or they are, and something is too large
 abbrev pub IsFaultOfPair : FaceList → (first second : List ℕ) → CertifyFault → Type 0
 IsFaultOfPair mesh first second fault =
     (fault ≡ no_memory)
-    ⊎ (((walks : WalkFault) × (walks_fault mesh first second ≡ Some walks) × (AreWalks mesh first second → ⊥) × (fault ≡ Walks walks))
-    ⊎ (AreWalks mesh first second × IsLimitFault mesh first second fault))
+    ⊎ (((walks : WalkFault) × (two_walks_fault mesh first second ≡ Some walks) × (AreWalks mesh first second → ⊥) × (fault ≡ Walks walks))
+    ⊎ (AreWalks mesh first second × IsCertifyLimitFault mesh first second fault))
 
 -- the mesh is no orientable closed surface; or it is one, and something is wrong with the walks, or too large
 abbrev pub IsFaultOfMesh : FaceList → (first second : List ℕ) → CertifyFault → Type 0

@@ -3,7 +3,7 @@
 use Rattle.std.specs.Prelude.{◌≡◌, ◌⊎◌, ℕ, List, false}
 use Rattle.surf_model.specs.FaceLists.{FaceList}
 use Rattle.compact_surfaces.specs.CompactSurfaces.{IsCompactSurface, IsOrientableCompactSurface}
-use Rattle.compact_surfaces.specs.Faults.{IsFirstFault}
+use Rattle.compact_surfaces.specs.Faults.{IsFirstCompactFault}
 use Rattle.compact_surfaces.specs.Signed.{IsSignedFault, IsSignedFor}
 use Rattle.compact_surfaces.specs.declared.fault.CompactFault.{CompactFault}
 use Rattle.compact_surfaces.specs.declared.fault.CompactFault.TheVariants as compact
@@ -32,7 +32,7 @@ of_compact_fault compact.OutOfMemory = OutOfMemory
 
 -- what is first wrong with a mesh that is no compact surface, or one whose double or cover would be too large
 abbrev pub IsCompactFault : FaceList → Fault → Type 0
-IsCompactFault mesh fault = (first : CompactFault) × IsFirstFault mesh first × (fault ≡ of_compact_fault first)
+IsCompactFault mesh fault = (first : CompactFault) × IsFirstCompactFault mesh first × (fault ≡ of_compact_fault first)
 
 -- why a mesh is no orientable compact surface, as a fault
 abbrev pub of_signed_fault : SignedFault → Fault

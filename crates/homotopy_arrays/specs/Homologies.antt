@@ -16,7 +16,7 @@ use Rattle.compact_surfaces.specs.declared.signed.SignedCompact.{SignedCompact}
 use Rattle.compact_surfaces.specs.declared.signed.SignedCompact.TheVariants.{Closed, Bounded}
 use Rattle.commands.specs.HomologyCertificates.{HomologyAnswer, Homologous, NotHomologous}
 use Rattle.homotopy_arrays.specs.Compact.{IsOrientableCompactFault}
-use Rattle.homotopy_arrays.specs.Pairs.{AreWalks, walks_fault}
+use Rattle.homotopy_arrays.specs.Pairs.{AreWalks, two_walks_fault}
 use Rattle.homotopy_arrays.specs.Surfaces.{IsSurfaceFault, OfMesh}
 use Rattle.homotopy_arrays.specs.declared.fault.Fault.{Fault}
 use Rattle.homotopy_arrays.specs.declared.fault.Fault.TheVariants.{OutOfMemory}
@@ -72,7 +72,7 @@ AreLong first second fault =
 abbrev pub IsHomologyFaultOfPair : FaceList → (first second : List ℕ) → HomologyFault → Type 0
 IsHomologyFaultOfPair mesh first second fault =
     (fault ≡ no_memory)
-    ⊎ (((walks : WalkFault) × (walks_fault mesh first second ≡ Some walks) × (AreWalks mesh first second → ⊥) × (fault ≡ Walks walks))
+    ⊎ (((walks : WalkFault) × (two_walks_fault mesh first second ≡ Some walks) × (AreWalks mesh first second → ⊥) × (fault ≡ Walks walks))
     ⊎ (AreWalks mesh first second × AreLong first second fault))
 
 -- the mesh is no surface of a kind, for a fault; or it is one, and something is wrong with the walks, or they are too long

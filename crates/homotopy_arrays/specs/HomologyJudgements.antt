@@ -3,7 +3,7 @@ use Rattle.std.specs.Prelude.{◌≡◌, ◌⊎◌, ℕ, List, ℤ, Some, Result
 use Rattle.surf_model.specs.FaceLists.{FaceList}
 use Rattle.homology.specs.ArrayVerdicts.{IsArrayChainVerdict, IsArrayCocycleVerdict}
 use Rattle.homology.specs.declared.array_check.ArrayVerdict.{ArrayVerdict}
-use Rattle.homotopy_arrays.specs.Pairs.{AreWalks, walks_fault}
+use Rattle.homotopy_arrays.specs.Pairs.{AreWalks, two_walks_fault}
 use Rattle.homotopy_arrays.specs.Surfaces.{OfMesh}
 use Rattle.homotopy_arrays.specs.declared.fault.Fault.{Fault}
 use Rattle.homotopy_arrays.specs.declared.fault.Fault.TheVariants.{OutOfMemory}
@@ -37,7 +37,7 @@ no_memory = Mesh OutOfMemory
 abbrev pub IsVerifyHomologyFaultOn : FaceList → (first second : List ℕ) → VerifyHomologyFault → Type 0
 IsVerifyHomologyFaultOn mesh first second fault =
     (fault ≡ no_memory)
-    ⊎ ((walks : WalkFault) × (walks_fault mesh first second ≡ Some walks) × (AreWalks mesh first second → ⊥) × (fault ≡ Walks walks))
+    ⊎ ((walks : WalkFault) × (two_walks_fault mesh first second ≡ Some walks) × (AreWalks mesh first second → ⊥) × (fault ≡ Walks walks))
 
 -- memory is wanting; or the arrays are no mesh; or they are one, and something is wrong with the walks
 abbrev pub IsVerifyHomologyFault : (read : Result FaceList Fault) → (first second : List ℕ) → VerifyHomologyFault → Type 0

@@ -2,7 +2,7 @@
 use Rattle.std.specs.Prelude.{◌≡◌, ◌⊎◌, ℕ, ◌<◌, ◌≤◌, List, length, Some, Result, Ok, Err}
 use Rattle.surf_model.specs.FaceLists.{FaceList}
 use Rattle.surf_model.specs.declared.moves.Move.{Move}
-use Rattle.labellings.specs.DenialVerdicts.{IsVerdict}
+use Rattle.labellings.specs.DenialVerdicts.{IsDenialVerdict}
 use Rattle.move_checker.specs.Verdicts.{verdict_of}
 use Rattle.move_checker.specs.declared.judge.Verdict.{Verdict}
 use Rattle.walk_files.specs.declared.fault.CertFault.{CertFault}
@@ -11,7 +11,7 @@ use Rattle.commands.specs.Inputs.{certificate_of}
 use Rattle.commands.specs.declared.certificate.Certificate.{Certificate}
 use Rattle.commands.specs.declared.certificate.Certificate.TheVariants as shown
 use Rattle.commands.specs.declared.inputs.TheConstants.{MOST_BYTES}
-use Rattle.homotopy_arrays.specs.Pairs.{AreWalks, walks_fault}
+use Rattle.homotopy_arrays.specs.Pairs.{AreWalks, two_walks_fault}
 use Rattle.homotopy_arrays.specs.Surfaces.{OfMesh}
 use Rattle.homotopy_arrays.specs.declared.fault.Fault.{Fault}
 use Rattle.homotopy_arrays.specs.declared.fault.Fault.TheVariants.{OutOfMemory}
@@ -28,7 +28,7 @@ abbrev pub IsJudgement : FaceList → (first second : List ℕ) → Certificate 
 IsJudgement mesh first second (shown.Moves list) (Moves verdict) = verdict ≡ verdict_of mesh first second list
 IsJudgement mesh first second (shown.Moves list) (Denial verdict) = ⊥
 IsJudgement mesh first second (shown.Denial denial) (Moves verdict) = ⊥
-IsJudgement mesh first second (shown.Denial denial) (Denial verdict) = IsVerdict mesh first second denial verdict
+IsJudgement mesh first second (shown.Denial denial) (Denial verdict) = IsDenialVerdict mesh first second denial verdict
 
 -- moves were read, and have this verdict under a peak
 abbrev pub IsVerdictOnMoves : FaceList → (first second : List ℕ) → (peak : ℕ) → Result (List Move) CertFault → Verdict → Type 0
@@ -88,7 +88,7 @@ IsFaultOfText certificate fault =
 abbrev pub IsFaultOfWalks : FaceList → (first second certificate : List ℕ) → VerifyFault → Type 0
 IsFaultOfWalks mesh first second certificate fault =
     (fault ≡ no_memory)
-    ⊎ (((walks : WalkFault) × (walks_fault mesh first second ≡ Some walks) × (AreWalks mesh first second → ⊥)
+    ⊎ (((walks : WalkFault) × (two_walks_fault mesh first second ≡ Some walks) × (AreWalks mesh first second → ⊥)
     × (fault ≡ faults.Walks walks))
     ⊎ (AreWalks mesh first second × IsFaultOfText certificate fault))
 

@@ -33,8 +33,8 @@ counts_fault vertices sizes corners =
     else None
 
 -- what is wrong with the face of this number: too few corners; one that is no vertex; two neighbours that are one
-abbrev pub face_fault : (vertices number : ℕ) (face : List ℕ) → Option Fault
-face_fault vertices number face =
+abbrev pub array_face_fault : (vertices number : ℕ) (face : List ℕ) → Option Fault
+array_face_fault vertices number face =
     if nat_lt (length face) 3 then Some (FewCorners (record { 0 = number }))
     else if not (list_all (λ v. nat_lt v vertices) face) then Some (NoVertex (record { 0 = number }))
     else if has_equal_neighbours face then Some (EqualNeighbours (record { 0 = number }))
@@ -44,13 +44,13 @@ face_fault vertices number face =
 unfoldable pub faces_behind : (vertices : ℕ) (faces : List (List ℕ)) (sizes corners : List ℕ) → Result FaceList Fault
 faces_behind vertices faces [] corners = Ok (record { count = vertices; faces = faces })
 faces_behind vertices faces (size ∷ sizes) corners =
-    unless (face_fault vertices (length faces) (take size corners))
+    unless (array_face_fault vertices (length faces) (take size corners))
     (faces_behind vertices (faces ++ take size corners ∷ []) sizes (drop size corners))
 
 -- the mesh that the arrays are
-unfoldable pub mesh_of : (vertices : ℕ) (sizes corners : List ℕ) → Result FaceList Fault
-mesh_of vertices sizes corners = unless (counts_fault vertices sizes corners) (faces_behind vertices [] sizes corners)
+unfoldable pub mesh_from_arrays : (vertices : ℕ) (sizes corners : List ℕ) → Result FaceList Fault
+mesh_from_arrays vertices sizes corners = unless (counts_fault vertices sizes corners) (faces_behind vertices [] sizes corners)
 
 -- the same of arrays that travel together
-abbrev pub mesh_in : MeshArrays → Result FaceList Fault
-mesh_in arrays = mesh_of arrays.vertices arrays.sizes.now arrays.corners.now
+abbrev pub mesh_in_arrays : MeshArrays → Result FaceList Fault
+mesh_in_arrays arrays = mesh_from_arrays arrays.vertices arrays.sizes.now arrays.corners.now

@@ -28,8 +28,8 @@ length_fault walk vertices =
     else None
 
 -- the lengths of both are looked at, and then their entries, their edges and their ends
-abbrev pub walks_fault : FaceList → (first second : List ℕ) → Option WalkFault
-walks_fault mesh first second =
+abbrev pub two_walks_fault : FaceList → (first second : List ℕ) → Option WalkFault
+two_walks_fault mesh first second =
     option_or (length_fault 1 first) (option_or (length_fault 2 second) (option_map Pair (pair_fault mesh (first ∷ second ∷ []))))
 
 -- ---- the answer on a pair
@@ -38,13 +38,13 @@ walks_fault mesh first second =
 abbrev pub IsAnswer : FaceList → (first second : List ℕ) → PairAnswer → Type 0
 IsAnswer mesh first second Homotopic = AreWalks mesh first second × moves.Homotopic mesh first second
 IsAnswer mesh first second Different = AreWalks mesh first second × (moves.Homotopic mesh first second → ⊥)
-IsAnswer mesh first second (Faulty fault) = (walks_fault mesh first second ≡ Some fault) × (AreWalks mesh first second → ⊥)
+IsAnswer mesh first second (Faulty fault) = (two_walks_fault mesh first second ≡ Some fault) × (AreWalks mesh first second → ⊥)
 
 -- ---- many walks, one after another
 
 -- walk k, counted from 0, where walks have these sizes and these vertices, walk after walk
-abbrev pub walk_at : (sizes vertices : List ℕ) → ℕ → List ℕ
-walk_at sizes vertices k = take (slice_index sizes k) (drop (sum (take k sizes)) vertices)
+abbrev pub walk_in_arrays : (sizes vertices : List ℕ) → ℕ → List ℕ
+walk_in_arrays sizes vertices k = take (slice_index sizes k) (drop (sum (take k sizes)) vertices)
 
 -- the sizes are those of two walks for each pair, and together are the number of the vertices
 abbrev pub are_pairs : (sizes vertices : List ℕ) → Bool
@@ -54,4 +54,4 @@ are_pairs sizes vertices = sum sizes == length vertices && length sizes % 2 == 0
 pub record AreAnswers {A : Type 0} (Is : (first second : List ℕ) → A → Type 0) (sizes vertices : List ℕ) (answers : List A) : Type 0 where
   pub each_pair : 2 * length answers ≡ length sizes
   pub answer : (k : ℕ) (none : A) → k < length answers
-      → Is (walk_at sizes vertices (2 * k)) (walk_at sizes vertices (2 * k + 1)) (slice_index_or answers k none)
+      → Is (walk_in_arrays sizes vertices (2 * k)) (walk_in_arrays sizes vertices (2 * k + 1)) (slice_index_or answers k none)

@@ -55,7 +55,7 @@ pub record IsSurfaceOf (mesh : FaceList) (surface : SignedMesh) : Type 0 where
   pub signed : IsSigned surface
 
 -- the numbers of an orientable closed surface, and the genera of its components
-pub record IsMeasured (mesh : FaceList) (measured : Measured) : Type 0 where
+pub record IsMeasureOf (mesh : FaceList) (measured : Measured) : Type 0 where
   pub surface : IsOrientableSurface mesh
   pub numbers : AreNumbersOf mesh measured.numbers
   pub genera : AreGeneraOf mesh measured.genera.items

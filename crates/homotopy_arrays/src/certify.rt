@@ -2,8 +2,8 @@
 ghost use Rattle.std.specs.Prelude.{◌≡◌, ◌⊎◌, MatchResult, IfOk};
 ghost use Rattle.commands.specs.Certificates.{certificate_text};
 ghost use Rattle.closed_surfaces.specs.SignedSurfaces.{IsSigned};
-ghost use Rattle.homotopy_arrays.specs.Certifications.{Certifies, IsCertified, IsCertifyFault, IsFaultOfPair, IsLimitFault, no_memory};
-ghost use Rattle.homotopy_arrays.specs.MeshArrays.{mesh_in};
+ghost use Rattle.homotopy_arrays.specs.Certifications.{Certifies, IsCertificateFor, IsCertifyFault, IsFaultOfPair, IsCertifyLimitFault, no_memory};
+ghost use Rattle.homotopy_arrays.specs.MeshArrays.{mesh_in_arrays};
 ghost use Rattle.homotopy_arrays.specs.Pairs.{AreWalks};
 
 use crate::fault::Fault;
@@ -56,8 +56,8 @@ pub fn certify_arrays(
     first: &[u32],
     second: &[u32],
 ) -> Result<Certificate, CertifyFault>
-    ensures { MatchResult result (Certifies (mesh_in mesh.entry) first.now second.now)
-        (IsCertifyFault (mesh_in mesh.entry) first.now second.now) }
+    ensures { MatchResult result (Certifies (mesh_in_arrays mesh.entry) first.now second.now)
+        (IsCertifyFault (mesh_in_arrays mesh.entry) first.now second.now) }
 {
     let surface = surface_of_arrays(alloc, mesh)?;
     certify_on(alloc, surface, first, second)
@@ -71,7 +71,7 @@ fn certify_on(
     second: &[u32],
 ) -> Result<Certificate, CertifyFault>
     requires { IsSigned surface }
-    ensures { MatchResult result (IsCertified surface.faces first.now second.now) (IsFaultOfPair surface.faces first.now second.now) }
+    ensures { MatchResult result (IsCertificateFor surface.faces first.now second.now) (IsFaultOfPair surface.faces first.now second.now) }
 {
     match check_walks(alloc, &surface.sides, first, second)? {
         Checked::Pair(walks) => certify_walks(alloc, surface, walks.at(0), walks.at(1)),
@@ -88,8 +88,8 @@ fn certify_walks(
 ) -> Result<Certificate, CertifyFault>
     requires signed { IsSigned surface }
     requires walks { AreWalks surface.faces first.now second.now }
-    ensures { MatchResult result (IsCertified surface.faces first.now second.now)
-        (λ fault. (fault ≡ no_memory) ⊎ IsLimitFault surface.faces first.now second.now fault) }
+    ensures { MatchResult result (IsCertificateFor surface.faces first.now second.now)
+        (λ fault. (fault ≡ no_memory) ⊎ IsCertifyLimitFault surface.faces first.now second.now fault) }
 {
     match CERTIFY_LIMITS.first_over(&surface.faces, first, second) {
         None => Ok(find_certificate(alloc, surface, first, second)?),

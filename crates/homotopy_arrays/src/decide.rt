@@ -1,6 +1,6 @@
 //! Whether walks that lie in arrays are homotopic, pair by pair.
 ghost use Rattle.homotopy_arrays.specs.Decisions.{AreDecided, IsDecideFault};
-ghost use Rattle.homotopy_arrays.specs.MeshArrays.{mesh_in};
+ghost use Rattle.homotopy_arrays.specs.MeshArrays.{mesh_in_arrays};
 ghost use Rattle.homotopy_arrays.specs.Surfaces.{EndsOn};
 
 use crate::fault::Fault;
@@ -30,7 +30,7 @@ pub fn decide_arrays(
     walk_sizes: &[u32],
     walk_vertices: &[u32],
 ) -> Result<Vec<PairAnswer>, Fault>
-    ensures { EndsOn (mesh_in mesh.entry) (λ mesh given. AreDecided walk_sizes.now walk_vertices.now mesh given.items)
+    ensures { EndsOn (mesh_in_arrays mesh.entry) (λ mesh given. AreDecided walk_sizes.now walk_vertices.now mesh given.items)
         (IsDecideFault walk_sizes.now walk_vertices.now) result }
 {
     let mut kept = KeptMesh::for_darts(alloc, mesh, walk_vertices.len() as u64)?;

@@ -1,6 +1,6 @@
 //! Whether walks that lie in arrays are homotopic on a compact surface, closed or with boundary, orientable or not, pair by pair.
 ghost use Rattle.homotopy_arrays.specs.Compact.{AreDecidedOnAny, IsDecideAnyFault};
-ghost use Rattle.homotopy_arrays.specs.MeshArrays.{mesh_in};
+ghost use Rattle.homotopy_arrays.specs.MeshArrays.{mesh_in_arrays};
 ghost use Rattle.homotopy_arrays.specs.Surfaces.{EndsOn};
 
 use crate::decide::PairAnswer;
@@ -19,7 +19,7 @@ pub fn decide_any_arrays(
     walk_sizes: &[u32],
     walk_vertices: &[u32],
 ) -> Result<Vec<PairAnswer>, Fault>
-    ensures { EndsOn (mesh_in mesh.entry) (λ mesh given. AreDecidedOnAny walk_sizes.now walk_vertices.now mesh given.items)
+    ensures { EndsOn (mesh_in_arrays mesh.entry) (λ mesh given. AreDecidedOnAny walk_sizes.now walk_vertices.now mesh given.items)
         (IsDecideAnyFault walk_sizes.now walk_vertices.now) result }
 {
     let mut kept = KeptMesh::of_any(alloc, mesh)?;

@@ -11,7 +11,7 @@ ghost use Rattle.homotopy_arrays.specs.Compact.{IsOrientableCompactFault, IsSign
 ghost use Rattle.homotopy_arrays.specs.Surfaces.{EndsOn};
 ghost use Rattle.folded_homology.specs.FoldedNumbers.{AreFolded};
 ghost use Rattle.compact_surfaces.specs.Signed.{IsBoundedFor};
-ghost use Rattle.homotopy_arrays.specs.MeshArrays.{mesh_in};
+ghost use Rattle.homotopy_arrays.specs.MeshArrays.{mesh_in_arrays};
 ghost use Rattle.homotopy_arrays.specs.Pairs.{AreWalks};
 
 use crate::fault::Fault;
@@ -66,8 +66,8 @@ pub fn homology_arrays(
     first: &[u32],
     second: &[u32],
 ) -> Result<HomologyNumbers, HomologyFault>
-    ensures { MatchResult result (ShowsWalks (mesh_in mesh.entry) first.now second.now)
-        (IsHomologyFault (mesh_in mesh.entry) first.now second.now) }
+    ensures { MatchResult result (ShowsWalks (mesh_in_arrays mesh.entry) first.now second.now)
+        (IsHomologyFault (mesh_in_arrays mesh.entry) first.now second.now) }
 {
     let surface = surface_of_arrays(alloc, mesh)?;
     show_on(alloc, SignedCompact::Closed(surface), first, second)
@@ -83,8 +83,8 @@ pub fn homology_any_arrays(
     first: &[u32],
     second: &[u32],
 ) -> Result<HomologyNumbers, HomologyFault>
-    ensures { MatchResult result (ShowsWalksOnAny (mesh_in mesh.entry) first.now second.now)
-        (IsHomologyFaultOnAny (mesh_in mesh.entry) first.now second.now) }
+    ensures { MatchResult result (ShowsWalksOnAny (mesh_in_arrays mesh.entry) first.now second.now)
+        (IsHomologyFaultOnAny (mesh_in_arrays mesh.entry) first.now second.now) }
 {
     let surface = signed_of_arrays(alloc, mesh)?;
     show_on(alloc, surface, first, second)
@@ -92,7 +92,7 @@ pub fn homology_any_arrays(
 
 /// The orientable compact surface that the arrays are, or what is first wrong.
 fn signed_of_arrays(alloc: Global, mesh: MeshArrays<'_>) -> Result<SignedCompact, Fault>
-    ensures { EndsOn (mesh_in mesh.entry) IsSignedOf IsOrientableCompactFault result }
+    ensures { EndsOn (mesh_in_arrays mesh.entry) IsSignedOf IsOrientableCompactFault result }
 {
     let faces = mesh_of_arrays(alloc, mesh)?;
     Ok(SignedCompact::of(alloc, faces)?)

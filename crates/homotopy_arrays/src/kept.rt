@@ -5,7 +5,7 @@ ghost use Rattle.homotopy_arrays.specs.Classes.{AreClassed, IsNoClassesIn};
 ghost use Rattle.homotopy_arrays.specs.Compact.{AreDecidedOnAny, IsCompactFault, IsCompactKept};
 ghost use Rattle.homotopy_arrays.specs.Decisions.{AreAnsweredOn, IsAskedFault, IsKept};
 ghost use Rattle.homotopy_arrays.specs.Loops.{AreLoopsDecided};
-ghost use Rattle.homotopy_arrays.specs.MeshArrays.{mesh_in};
+ghost use Rattle.homotopy_arrays.specs.MeshArrays.{mesh_in_arrays};
 ghost use Rattle.homotopy_arrays.specs.Surfaces.{EndsOn, IsSurfaceFault};
 
 use crate::answering::{WalkAnswer, answer_all};
@@ -40,7 +40,7 @@ impl KeptMesh {
     /// bytes an edge beside them where the surface is in one piece. Of several pieces each is labelled where a walk first lies in it, and
     /// its labels are kept.
     pub fn of(alloc: Global, mesh: MeshArrays<'_>) -> Result<KeptMesh, Fault>
-        ensures { EndsOn (mesh_in mesh.entry) IsKept IsSurfaceFault result }
+        ensures { EndsOn (mesh_in_arrays mesh.entry) IsKept IsSurfaceFault result }
     {
         KeptMesh::for_darts(alloc, mesh, u64::MAX)
     }
@@ -51,7 +51,7 @@ impl KeptMesh {
         mesh: MeshArrays<'_>,
         darts: u64,
     ) -> Result<KeptMesh, Fault>
-        ensures { EndsOn (mesh_in mesh.entry) IsKept IsSurfaceFault result }
+        ensures { EndsOn (mesh_in_arrays mesh.entry) IsKept IsSurfaceFault result }
     {
         let signed = surface_of_arrays(alloc, mesh)?;
         let surface = CompactSurface::of_signed(alloc, signed, darts)?;
@@ -64,7 +64,7 @@ impl KeptMesh {
     /// A surface with boundary is asked by way of its double, and one that is not orientable by way of its cover: each is made once, and
     /// what is answered is told of the mesh that was given.
     pub fn of_any(alloc: Global, mesh: MeshArrays<'_>) -> Result<KeptMesh, Fault>
-        ensures { EndsOn (mesh_in mesh.entry) IsCompactKept IsCompactFault result }
+        ensures { EndsOn (mesh_in_arrays mesh.entry) IsCompactKept IsCompactFault result }
     {
         let faces = mesh_of_arrays(alloc, mesh)?;
         let surface = CompactSurface::of(alloc, faces)?;

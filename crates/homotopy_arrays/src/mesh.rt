@@ -4,7 +4,7 @@ ghost use Rattle.std.specs.List.{list_all};
 ghost use Rattle.surf_model.specs.FaceLists.{total_sides};
 ghost use Rattle.surf_model.specs.declared.limits.TheConstants.{MOST_VERTICES, MOST_SIDES};
 ghost use Rattle.off_reader.specs.OffTexts.{has_equal_neighbours};
-ghost use Rattle.homotopy_arrays.specs.MeshArrays.{face_fault, mesh_in};
+ghost use Rattle.homotopy_arrays.specs.MeshArrays.{array_face_fault, mesh_in_arrays};
 
 use crate::fault::Fault;
 use std::alloc::Global;
@@ -21,7 +21,7 @@ pub struct MeshArrays<'a> {
 
 /// The mesh that the arrays are, or what is first wrong with them.
 pub fn mesh_of_arrays(alloc: Global, mesh: MeshArrays<'_>) -> Result<Faces, Fault>
-    ensures { (result ≡ mesh_in mesh.entry) ⊎ (result ≡ Err Fault.OutOfMemory) }
+    ensures { (result ≡ mesh_in_arrays mesh.entry) ⊎ (result ≡ Err Fault.OutOfMemory) }
 {
     let MeshArrays {
         vertices,
@@ -70,8 +70,8 @@ fn put_face(faces: &mut FacesBuilder, vertices: u32, number: u32, face: &[u32]) 
       mesh = record { count = vertices; faces = faces.old.mesh.faces ++ face.now ∷ [] };
       pending = [];
     }) }
-    ensures good { OnOk result (face_fault vertices number face.now ≡ None) }
-    ensures fault { IfErr result (λ fault. (fault ≡ Fault.OutOfMemory) ⊎ (face_fault vertices number face.now ≡ Some fault)) }
+    ensures good { OnOk result (array_face_fault vertices number face.now ≡ None) }
+    ensures fault { IfErr result (λ fault. (fault ≡ Fault.OutOfMemory) ⊎ (array_face_fault vertices number face.now ≡ Some fault)) }
 {
     let name = FaceName(number);
     if face.len() < 3 {

@@ -3,7 +3,7 @@ ghost use Rattle.std.specs.Prelude.{◌≡◌, ◌≤◌, ◌<◌, length, sum, 
 ghost use Rattle.surf_model.specs.FaceLists.{FaceList};
 ghost use Rattle.surf_model.specs.Edges.{IsTableOf};
 ghost use Rattle.homotopy_arrays.specs.CheckedPairs.{AreCheckedLoops, AreListed, IsChecked};
-ghost use Rattle.homotopy_arrays.specs.Pairs.{AreWalks, are_pairs, length_fault, walk_at, walks_fault};
+ghost use Rattle.homotopy_arrays.specs.Pairs.{AreWalks, are_pairs, length_fault, walk_in_arrays, two_walks_fault};
 
 use crate::mesh::add_up_to;
 use compact_surfaces::CompactSurface;
@@ -97,7 +97,7 @@ pub(crate) fn fault_of(
     second: &[u32],
 ) -> Result<WalkFault, AllocError>
     requires { AreWalks surface.now first.now second.now → ⊥ }
-    ensures { IfOk result (λ fault. walks_fault surface.now first.now second.now ≡ Some fault) }
+    ensures { IfOk result (λ fault. two_walks_fault surface.now first.now second.now ≡ Some fault) }
 {
     match check_walks(alloc, surface.sides(), first, second)? {
         Checked::Faulty(fault) => Ok(fault),
@@ -142,7 +142,7 @@ pub(crate) fn are_pairs(sizes: &[u32], vertices: &[u32]) -> bool
 pub(crate) fn slice_at<'a>(sizes: &[u32], vertices: &'a [u32], place: usize) -> &'a [u32]
     requires sizes { sum sizes.now ≡ length vertices.now }
     requires place { place < length sizes.now }
-    ensures { result.now ≡ walk_at sizes.now vertices.now place }
+    ensures { result.now ≡ walk_in_arrays sizes.now vertices.now place }
 {
     let mut at = 0;
     for before in 0..place {

@@ -1,6 +1,6 @@
 //! Surfaces that lie in arrays.
-ghost use Rattle.homotopy_arrays.specs.MeshArrays.{mesh_in};
-ghost use Rattle.homotopy_arrays.specs.Surfaces.{EndsOn, IsMeasured, IsSurfaceFault, IsSurfaceOf};
+ghost use Rattle.homotopy_arrays.specs.MeshArrays.{mesh_in_arrays};
+ghost use Rattle.homotopy_arrays.specs.Surfaces.{EndsOn, IsMeasureOf, IsSurfaceFault, IsSurfaceOf};
 
 use crate::fault::Fault;
 use crate::mesh::{MeshArrays, mesh_of_arrays};
@@ -18,7 +18,7 @@ pub struct Measured {
 
 /// The numbers of the orientable closed surface that the arrays are, and the genus of each of its components; or what is first wrong.
 pub fn measure_arrays(alloc: Global, mesh: MeshArrays<'_>) -> Result<Measured, Fault>
-    ensures { EndsOn (mesh_in mesh.entry) IsMeasured IsSurfaceFault result }
+    ensures { EndsOn (mesh_in_arrays mesh.entry) IsMeasureOf IsSurfaceFault result }
 {
     let surface = surface_of_arrays(alloc, mesh)?;
     let parts = Parts::build(alloc, &surface.faces, &surface.sides)?;
@@ -29,7 +29,7 @@ pub fn measure_arrays(alloc: Global, mesh: MeshArrays<'_>) -> Result<Measured, F
 
 /// The orientable closed surface that the arrays are, in one piece or in several; or what is first wrong.
 pub(crate) fn surface_of_arrays(alloc: Global, mesh: MeshArrays<'_>) -> Result<SignedMesh, Fault>
-    ensures { EndsOn (mesh_in mesh.entry) IsSurfaceOf IsSurfaceFault result }
+    ensures { EndsOn (mesh_in_arrays mesh.entry) IsSurfaceOf IsSurfaceFault result }
 {
     let faces = mesh_of_arrays(alloc, mesh)?;
     Ok(SignedMesh::of(alloc, faces)?)

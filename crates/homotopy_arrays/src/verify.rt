@@ -5,7 +5,7 @@ ghost use Rattle.surf_model.specs.Walks.{IsWalk};
 ghost use Rattle.walk_files.specs.Readers.{count_in, is_list, moves_left};
 ghost use Rattle.walk_files.specs.declared.limits.TheConstants.{MOST_PEAK};
 ghost use Rattle.homotopy_arrays.specs.Judgements.{IsFaultOfMoves, IsFaultOfSpelling, IsFaultOfText, IsVerdictOnMoves, IsVerifyFault, Judges, JudgesSpelt, JudgesText, JudgesWalks, IsFaultOfWalks};
-ghost use Rattle.homotopy_arrays.specs.MeshArrays.{mesh_in};
+ghost use Rattle.homotopy_arrays.specs.MeshArrays.{mesh_in_arrays};
 
 use crate::fault::Fault;
 use crate::mesh::{MeshArrays, mesh_of_arrays};
@@ -88,8 +88,8 @@ pub fn verify_arrays(
     second: &[u32],
     certificate: &[u8],
 ) -> Result<Judgement, VerifyFault>
-    ensures { MatchResult result (Judges (mesh_in mesh.entry) first.now second.now certificate.now)
-        (IsVerifyFault (mesh_in mesh.entry) first.now second.now certificate.now) }
+    ensures { MatchResult result (Judges (mesh_in_arrays mesh.entry) first.now second.now certificate.now)
+        (IsVerifyFault (mesh_in_arrays mesh.entry) first.now second.now certificate.now) }
 {
     let faces = mesh_of_arrays(alloc, mesh)?;
     let judged = verify_on(alloc, &faces, first, second, certificate);

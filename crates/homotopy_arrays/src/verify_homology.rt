@@ -3,7 +3,7 @@ ghost use Rattle.std.specs.Prelude.{◌≡◌, IfOk, MatchResult};
 ghost use Rattle.surf_model.specs.Edges.{IsTableOf};
 ghost use Rattle.surf_model.specs.Walks.{IsWalk};
 ghost use Rattle.homotopy_arrays.specs.HomologyJudgements.{IsArrayVerdict, IsVerifyHomologyFault, IsVerifyHomologyFaultOn, JudgesNumbers, JudgesNumbersOn};
-ghost use Rattle.homotopy_arrays.specs.MeshArrays.{mesh_in};
+ghost use Rattle.homotopy_arrays.specs.MeshArrays.{mesh_in_arrays};
 
 use crate::fault::Fault;
 use crate::mesh::{MeshArrays, mesh_of_arrays};
@@ -60,8 +60,8 @@ pub fn verify_homology_arrays(
     claim: HomologyClaim,
     numbers: &[i64],
 ) -> Result<ArrayVerdict, VerifyHomologyFault>
-    ensures { MatchResult result (JudgesNumbers (mesh_in mesh.entry) first.now second.now claim numbers.now)
-        (IsVerifyHomologyFault (mesh_in mesh.entry) first.now second.now) }
+    ensures { MatchResult result (JudgesNumbers (mesh_in_arrays mesh.entry) first.now second.now claim numbers.now)
+        (IsVerifyHomologyFault (mesh_in_arrays mesh.entry) first.now second.now) }
 {
     let faces = mesh_of_arrays(alloc, mesh)?;
     let judged = verify_on(alloc, &faces, first, second, claim, numbers);

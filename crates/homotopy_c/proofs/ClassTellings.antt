@@ -1,6 +1,6 @@
 -- What is told of the classes of walks, and what it means.
-use Rattle.homotopy_c.proofs.Common.{IsCompactSurface, walk_at, IsMeshClassesCall, done, told_no_classes, AreClassesTold, IsClassesCall, IsPut, TellsClasses, in_front, Outcome, ◌≡◌, ◌≢◌, ◌↔◌, inl, inr, ℕ, ◌<◌, ◌≤◌, List, [], ◌++◌, length, get_or, take, sym, ap, ◌∙◌, subst, arith, cases_lt, get_or_append_left, take_at, Vec, MatchResult, Option, Some, None, Result, Ok, Err, FaceList}
-use Rattle.homotopy_arrays.specs.Classes.{AreClassed, IsNoClassesIn, walks_in}
+use Rattle.homotopy_c.proofs.Common.{IsCompactSurface, walk_in_arrays, IsMeshClassesCall, done, told_no_classes, AreClassesTold, IsClassesCall, IsPut, TellsClasses, in_front, Outcome, ◌≡◌, ◌≢◌, ◌↔◌, inl, inr, ℕ, ◌<◌, ◌≤◌, List, [], ◌++◌, length, get_or, take, sym, ap, ◌∙◌, subst, arith, cases_lt, get_or_append_left, take_at, Vec, MatchResult, Option, Some, None, Result, Ok, Err, FaceList}
+use Rattle.homotopy_arrays.specs.Classes.{AreClassed, IsNoClassesIn, walks_in_arrays}
 use Rattle.homotopy_arrays.specs.declared.classes.NoClasses.{NoClasses}
 use Rattle.std.proofs.Common.{drop}
 use Rattle.std.proofs.lemmas.List.FromFn.{get_or-map-range_with_len, length-map-range_with_len}
@@ -31,7 +31,7 @@ classed mesh sizes vertices old classes outcome (Ok given) right tells = (
   λ _. record {
     given = given.items;
     is = tells.0;
-    each = right.classes.classes.each_walk ∙ length-map-range_with_len (walk_at sizes vertices) 0 (length sizes);
+    each = right.classes.classes.each_walk ∙ length-map-range_with_len (walk_in_arrays sizes vertices) 0 (length sizes);
     classed = right;
   },
   λ differs. absurd (differs (code_is outcome done tells.1)),
@@ -53,31 +53,32 @@ stand mesh sizes vertices old classes outcome h =
 
 pub classes_mean : (mesh : FaceList) (sizes vertices old classes : List ℕ) (outcome : Outcome)
     → IsMeshClassesCall (Some mesh) sizes vertices old classes outcome → outcome.code ≡ codes.DONE
-    → IsCompactSurface mesh × AreClasses mesh (walks_in sizes vertices) (take (length sizes) classes)
+    → IsCompactSurface mesh × AreClasses mesh (walks_in_arrays sizes vertices) (take (length sizes) classes)
 classes_mean mesh sizes vertices old classes outcome h e =
     let stands = (stand mesh sizes vertices old classes outcome h).0 e in
     let front : take (length sizes) classes ≡ stands.given =
     ap (take (length sizes)) stands.is ∙ take_at stands.given (drop (length stands.given) old) (length sizes) stands.each in
-    (stands.classed.surface, subst (AreClasses mesh (walks_in sizes vertices)) (sym front) stands.classed.classes.classes)
+    (stands.classed.surface, subst (AreClasses mesh (walks_in_arrays sizes vertices)) (sym front) stands.classed.classes.classes)
 
 pub classes_alike : (mesh : FaceList) (sizes vertices old classes : List ℕ) (outcome : Outcome)
     → IsMeshClassesCall (Some mesh) sizes vertices old classes outcome → outcome.code ≡ codes.DONE
     → (i j : ℕ) → i < length sizes → j < length sizes
-    → (get_or classes i 0 ≡ get_or classes j 0) ↔ AreInOneClass mesh (walk_at sizes vertices i) (walk_at sizes vertices j)
+    → (get_or classes i 0 ≡ get_or classes j 0) ↔ AreInOneClass mesh (walk_in_arrays sizes vertices i) (walk_in_arrays sizes vertices j)
 classes_alike mesh sizes vertices old classes outcome h e i j l m =
     let stands = (stand mesh sizes vertices old classes outcome h).0 e in
-    let walks : List (List ℕ) = walks_in sizes vertices in
-    let many : length walks ≡ length sizes = length-map-range_with_len (walk_at sizes vertices) 0 (length sizes) in
-    let read : (k : ℕ) → k < length sizes → get_or walks k [] ≡ walk_at sizes vertices k =
-    λ k below. get_or-map-range_with_len (walk_at sizes vertices) 0 (length sizes) k k [] below (omega arith) in
+    let walks : List (List ℕ) = walks_in_arrays sizes vertices in
+    let many : length walks ≡ length sizes = length-map-range_with_len (walk_in_arrays sizes vertices) 0 (length sizes) in
+    let read : (k : ℕ) → k < length sizes → get_or walks k [] ≡ walk_in_arrays sizes vertices k =
+    λ k below. get_or-map-range_with_len (walk_in_arrays sizes vertices) 0 (length sizes) k k [] below (omega arith) in
     let number : (k : ℕ) → k < length sizes → get_or classes k 0 ≡ get_or stands.given k 0 =
     λ k below. ap (λ (xs : List ℕ). get_or xs k 0) stands.is
     ∙ get_or_append_left stands.given (drop (length stands.given) old) 0 k (omega (arith, below, stands.each)) in
     let told =
     told_by_numbers mesh walks stands.given i j stands.classed.classes.classes (omega (arith, l, many)) (omega (arith, m, many)) in
     let alike : (get_or stands.given i 0 ≡ get_or stands.given j 0)
-    ↔ AreInOneClass mesh (walk_at sizes vertices i) (walk_at sizes vertices j) =
-    subst (λ (w : List ℕ). (get_or stands.given i 0 ≡ get_or stands.given j 0) ↔ AreInOneClass mesh (walk_at sizes vertices i) w) (read j m)
+    ↔ AreInOneClass mesh (walk_in_arrays sizes vertices i) (walk_in_arrays sizes vertices j) =
+    subst (λ (w : List ℕ). (get_or stands.given i 0 ≡ get_or stands.given j 0) ↔ AreInOneClass mesh (walk_in_arrays sizes vertices i) w)
+    (read j m)
     (subst (λ (w : List ℕ). (get_or stands.given i 0 ≡ get_or stands.given j 0) ↔ AreInOneClass mesh w (get_or walks j [])) (read i l)
     told) in (
       λ same. alike.0 (sym (number i l) ∙ same ∙ number j m),
@@ -95,7 +96,7 @@ pub put_classes : (mesh : FaceList) (sizes vertices old classes items : List ℕ
     → length sizes ≤ length old → AreClassesTold mesh sizes vertices old classes outcome
 put_classes mesh sizes vertices old classes items given put outcome are is e h room =
     let each : length given.items ≡ length sizes =
-    are.classes.classes.each_walk ∙ length-map-range_with_len (walk_at sizes vertices) 0 (length sizes) in
+    are.classes.classes.each_walk ∙ length-map-range_with_len (walk_in_arrays sizes vertices) 0 (length sizes) in
     let front = h.room (omega (arith, room, each, ap (λ (xs : List ℕ). length xs) is)) in
     record {
       end = Ok given;

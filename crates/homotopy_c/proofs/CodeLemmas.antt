@@ -1,5 +1,5 @@
 -- What is told of a fault is no answer.
-use Rattle.homotopy_c.proofs.Common.{CertifyFault, Fault, WalkFault, Empty, Long, Pair, Loops, VerifyFault, told_certify, told_certificate, told_verify, told, told_walks, walk_code, ◌<◌, true, false, arith, NotTwo, NoVertex, NoEdge, EndsDiffer}
+use Rattle.homotopy_c.proofs.Common.{CertifyFault, Fault, WalkFault, Empty, Long, Pair, Loops, VerifyFault, told_certify, told_certificate, told_verify, told_fault, told_walks, walk_code, ◌<◌, true, false, arith, NotTwo, NoVertex, NoEdge, EndsDiffer}
 use Rattle.walk_files.specs.declared.fault.CertFault.{CertFault}
 use Rattle.walk_files.specs.declared.fault.CertFault.TheVariants as certificates
 use Rattle.walk_files.specs.declared.loops.LoopFault.TheVariants as loops
@@ -10,7 +10,7 @@ use Rattle.homotopy_arrays.specs.declared.verify.VerifyFault.TheVariants as veri
 use Rattle.homotopy_c.specs.declared.codes.TheConstants as codes
 
 -- the codes of answers that stand in an outcome are at most that of acceptance, and those of faults are greater
-pub fault_code : (fault : Fault) → codes.ACCEPTED < (told fault).code
+pub fault_code : (fault : Fault) → codes.ACCEPTED < (told_fault fault).code
 fault_code faults.ManyVertices = omega arith
 fault_code faults.CornerCount = omega arith
 fault_code faults.ManySides = omega arith

@@ -10,9 +10,9 @@ pub use Rattle.homotopy_arrays.specs.Compact.{IsCompactFault, IsCompactKept, IsD
 pub use Rattle.homotopy_arrays.specs.Decisions.{AreAnsweredOn, IsAskedFault, IsDecideFault, IsKept}
 pub use Rattle.homotopy_arrays.specs.Homologies.{AreShown, AreShownAs, IsHomologyFaultOn, ShowsWalksOn}
 pub use Rattle.homotopy_arrays.specs.Loops.{IsLoopAnswer}
-pub use Rattle.homotopy_arrays.specs.MeshArrays.{mesh_of}
-pub use Rattle.homotopy_arrays.specs.Pairs.{AreWalks, IsAnswer, are_pairs, walk_at}
-pub use Rattle.homotopy_arrays.specs.Surfaces.{EndsOn, IsMeasured, IsSurfaceFault, OfMesh}
+pub use Rattle.homotopy_arrays.specs.MeshArrays.{mesh_from_arrays}
+pub use Rattle.homotopy_arrays.specs.Pairs.{AreWalks, IsAnswer, are_pairs, walk_in_arrays}
+pub use Rattle.homotopy_arrays.specs.Surfaces.{EndsOn, IsMeasureOf, IsSurfaceFault, OfMesh}
 pub use Rattle.homotopy_arrays.specs.contracts.kept.KeptMesh.{the_row}
 pub use Rattle.homotopy_arrays.specs.declared.certify.CertifyFault.{CertifyFault}
 pub use Rattle.homotopy_arrays.specs.declared.decide.PairAnswer.TheVariants.{Different, Faulty, Homotopic}
@@ -22,11 +22,11 @@ pub use Rattle.homotopy_arrays.specs.declared.pair.WalkFault.TheVariants.{Empty,
 pub use Rattle.homotopy_arrays.specs.declared.verify.VerifyFault.{VerifyFault}
 pub use Rattle.homotopy_c.specs.Certified.{IsCertifyCall, TellsCertificate, code_of, told_certify}
 pub use Rattle.homotopy_c.specs.Handles.{holds_at}
-pub use Rattle.homotopy_c.specs.Homologous.{IsHomologyCall, IsHomologyCallAs, TellsHomology, answer_code, numbers_of, told_homology}
+pub use Rattle.homotopy_c.specs.Homologous.{IsHomologyCall, IsHomologyCallAs, TellsHomology, answer_code, homology_numbers_of, told_homology}
 pub use Rattle.homotopy_c.specs.Judged.{IsVerifyCall, ended, judged, judged_denial, judged_labels, judged_moves, move_code, told_certificate, told_verify}
 pub use Rattle.homotopy_c.specs.Kept.{IsMeshAnswersCall, IsMeshClassesCall, IsMeshDecideCall, IsMeshNewAnyCall, IsMeshNewCall, TellsHeld, TellsKept}
-pub use Rattle.homotopy_c.specs.Meanings.{DoesAnswer, DoesAnswerLoops, DoesMeasure, IsAccepted, IsAcceptedChain, IsAcceptedCocycle, Shows, ShowsDifferent, ShowsHomologousOn, ShowsHomotopic, ShowsNotHomologousOn, StandCounted}
-pub use Rattle.homotopy_c.specs.Outcomes.{byte_of, done, loop_byte, told, told_no_classes, told_walks, walk_code}
+pub use Rattle.homotopy_c.specs.Meanings.{CertificateHolds, DoesAnswer, DoesAnswerLoops, DoesMeasure, IsAcceptedChain, IsAcceptedCocycle, Shows, ShowsDifferent, ShowsHomologousOn, ShowsHomotopic, ShowsNotHomologousOn, StandCounted}
+pub use Rattle.homotopy_c.specs.Outcomes.{byte_of, done, loop_byte, told_fault, told_no_classes, told_walks, walk_code}
 pub use Rattle.homotopy_c.specs.Told.{AreClassesTold, IsBytesCall, IsClassesCall, IsDecideAnyCall, IsDecideCall, IsPut, IsSurfaceTold, TellsBytes, TellsClasses, TellsSurface, in_front}
 pub use Rattle.homotopy_c.specs.declared.outcome.Outcome.{Outcome}
 pub use Rattle.std.proofs.Common.{List, ap, append_assoc, arith, false, get_or, inl, inr, length, length-take-le, lit<, refl, set, subst, sym, take, true, ℕ, [], ◌*◌, ◌++◌, ◌+◌, ◌/◌, ◌<◌, ◌↔◌, ◌∙◌, ◌∷◌, ◌≡◌, ◌≢◌, ◌≤◌, ◌⊎◌}

@@ -1,5 +1,5 @@
 -- What is told of homology, and what it means.
-use Rattle.homotopy_c.proofs.Common.{HomologyNumbers, Chain, Cocycle, AreShownAs, IsHomologyFaultOn, ShowsWalksOn, Fault, WalkFault, Empty, Long, Pair, Loops, IsHomologyCallAs, TellsHomology, answer_code, numbers_of, told_homology, StandCounted, ShowsHomologousOn, ShowsNotHomologousOn, told, told_walks, Outcome, ◌≡◌, ◌≢◌, ◌⊎◌, inl, inr, ℕ, true, false, List, length, get_or, refl, sym, ap, ◌∙◌, arith, cases_lt, Result, Ok, Err, MatchResult, Bool, ℤ, ◌==◌, ◌||◌, FaceList, NotTwo, NoVertex, NoEdge, EndsDiffer}
+use Rattle.homotopy_c.proofs.Common.{HomologyNumbers, Chain, Cocycle, AreShownAs, IsHomologyFaultOn, ShowsWalksOn, Fault, WalkFault, Empty, Long, Pair, Loops, IsHomologyCallAs, TellsHomology, answer_code, homology_numbers_of, told_homology, StandCounted, ShowsHomologousOn, ShowsNotHomologousOn, told_fault, told_walks, Outcome, ◌≡◌, ◌≢◌, ◌⊎◌, inl, inr, ℕ, true, false, List, length, get_or, refl, sym, ap, ◌∙◌, arith, cases_lt, Result, Ok, Err, MatchResult, Bool, ℤ, ◌==◌, ◌||◌, FaceList, NotTwo, NoVertex, NoEdge, EndsDiffer}
 use Rattle.homotopy_arrays.specs.declared.homologies.HomologyFault.{HomologyFault}
 use Rattle.homotopy_arrays.specs.declared.fault.Fault.TheVariants as faults
 use Rattle.homotopy_arrays.specs.declared.homologies.HomologyFault.TheVariants as homologies
@@ -12,7 +12,7 @@ use Rattle.homotopy_c.proofs.TellingLemmas.{of_one}
 abbrev pub is_answer : ℕ → Bool
 is_answer code = code == codes.HOMOLOGOUS || code == codes.NOT_HOMOLOGOUS
 
-fault_else : (fault : Fault) → is_answer (told fault).code ≡ false
+fault_else : (fault : Fault) → is_answer (told_fault fault).code ≡ false
 fault_else faults.ManyVertices = refl
 fault_else faults.CornerCount = refl
 fault_else faults.ManySides = refl
@@ -78,13 +78,13 @@ module _ (IsSurface : FaceList → Type 0) (Refuses : FaceList → Fault → Typ
     pub surface : IsSurface mesh
     pub are : AreShownAs Small mesh first second shown
     pub code : outcome.code ≡ answer_code shown
-    pub stand : StandCounted (numbers_of shown) old new outcome
+    pub stand : StandCounted (homology_numbers_of shown) old new outcome
 
   written : (mesh : FaceList) (first second : List ℕ) (old new : List ℤ) (outcome : Outcome) (end : Result HomologyNumbers HomologyFault)
       → MatchResult end (ShowsWalksOn IsSurface Small (Ok mesh) first second) (IsHomologyFaultOn IsSurface Refuses (Ok mesh) first second)
       → TellsHomology end old new outcome → AreWritten mesh first second old new outcome ⊎ AreNotWritten old new outcome
   written mesh first second old new outcome (Ok shown) right put =
-      elim (cases_lt (length old) (length (numbers_of shown))) [
+      elim (cases_lt (length old) (length (homology_numbers_of shown))) [
         | inl less ↦
             (let short = put.short less in
             inr (record { same = short.0; code = ap (λ (o : Outcome). is_answer o.code) short.1 }))
@@ -108,7 +108,8 @@ module _ (IsSurface : FaceList → Type 0) (Refuses : FaceList → Fault → Typ
 
   -- numbers with the first code are those of a chain, and with the other one those of a cocycle
   shows_yes : (mesh : FaceList) (first second : List ℕ) (old new : List ℤ) (outcome : Outcome) (shown : HomologyNumbers) → IsSurface mesh
-      → AreShownAs Small mesh first second shown → answer_code shown ≡ codes.HOMOLOGOUS → StandCounted (numbers_of shown) old new outcome
+      → AreShownAs Small mesh first second shown → answer_code shown ≡ codes.HOMOLOGOUS
+      → StandCounted (homology_numbers_of shown) old new outcome
       → ShowsHomologousOn IsSurface mesh first second old new outcome
   shows_yes mesh first second old new outcome (Chain numbers) surface are e stand = record {
     surface = surface;
@@ -122,7 +123,7 @@ module _ (IsSurface : FaceList → Type 0) (Refuses : FaceList → Fault → Typ
 
   shows_no : (mesh : FaceList) (first second : List ℕ) (old new : List ℤ) (outcome : Outcome) (shown : HomologyNumbers) → IsSurface mesh
       → AreShownAs Small mesh first second shown → answer_code shown ≡ codes.NOT_HOMOLOGOUS
-      → StandCounted (numbers_of shown) old new outcome
+      → StandCounted (homology_numbers_of shown) old new outcome
       → ShowsNotHomologousOn IsSurface mesh first second old new outcome
   shows_no mesh first second old new outcome (Chain numbers) surface are e stand = absurd (omega (arith, e))
   shows_no mesh first second old new outcome (Cocycle numbers) surface are e stand = record {

@@ -1,5 +1,5 @@
 -- What is told of numbers that are judged, and what it means.
-use Rattle.homotopy_c.proofs.Common.{AreSmall, HomologyNumbers, Chain, Cocycle, AreShown, AreWalks, IsSurfaceFault, Fault, IsHomologyCall, answer_code, numbers_of, IsAcceptedChain, IsAcceptedCocycle, Outcome, ◌≡◌, ◌≢◌, ◌⊎◌, inl, inr, ℕ, ◌<◌, List, length, get_or, take, refl, sym, ap, ◌∙◌, subst, arith, false, take-append_seam, ne_eqb, Option, Some, None, Result, Ok, Err, MatchResult, ℤ, ◌==◌, FaceList, IsOrientableSurface}
+use Rattle.homotopy_c.proofs.Common.{AreSmall, HomologyNumbers, Chain, Cocycle, AreShown, AreWalks, IsSurfaceFault, Fault, IsHomologyCall, answer_code, homology_numbers_of, IsAcceptedChain, IsAcceptedCocycle, Outcome, ◌≡◌, ◌≢◌, ◌⊎◌, inl, inr, ℕ, ◌<◌, List, length, get_or, take, refl, sym, ap, ◌∙◌, subst, arith, false, take-append_seam, ne_eqb, Option, Some, None, Result, Ok, Err, MatchResult, ℤ, ◌==◌, FaceList, IsOrientableSurface}
 use Rattle.homology.proofs.PairingLemmas.{refuted}
 use Rattle.homology.specs.Chains.{AreHomologous}
 use Rattle.homology.specs.Tallies.{number_at}
@@ -136,7 +136,8 @@ pub written_told : (mesh : FaceList) (first second : List ℕ) (old numbers : Li
     → (judged.code ≡ codes.ACCEPTED) ⊎ (judged.code ≡ codes.NO_MEMORY)
 written_told mesh first second old numbers written judged h answered call =
     elim (call_written IsOrientableSurface IsSurfaceFault AreSmall mesh first second old numbers written h) [
-      | inl w ↦ by_shown w.shown w.are (subst (λ (c : ℕ). Call c (numbers_of w.shown)) w.code (subst (Call written.code) (stood w) call))
+      | inl w ↦ by_shown w.shown w.are
+          (subst (λ (c : ℕ). Call c (homology_numbers_of w.shown)) w.code (subst (Call written.code) (stood w) call))
       | inr none ↦ absurd (elim answered [
         | inl e ↦ clash (is_answer written.code) (ap is_answer e) none.code
         | inr e ↦ clash (is_answer written.code) (ap is_answer e) none.code
@@ -146,13 +147,14 @@ written_told mesh first second old numbers written judged h answered call =
     Call : ℕ → List ℤ → Type 0
     Call answer shown = IsVerifyHomologyCall (Ok mesh) first second answer shown judged
 
-    stood : (w : AreWritten IsOrientableSurface IsSurfaceFault AreSmall mesh first second old numbers written) → take (get_or written.numbers 0 0) numbers ≡ numbers_of w.shown
+    stood : (w : AreWritten IsOrientableSurface IsSurfaceFault AreSmall mesh first second old numbers written)
+        → take (get_or written.numbers 0 0) numbers ≡ homology_numbers_of w.shown
     stood w =
-        let shown : List ℤ = numbers_of w.shown in
+        let shown : List ℤ = homology_numbers_of w.shown in
         ap (λ (n : ℕ). take n numbers) w.stand.counted ∙ ap (take (length shown)) w.stand.stand
         ∙ take-append_seam shown (drop (length shown) old)
 
-    by_shown : (shown : HomologyNumbers) → AreShown mesh first second shown → Call (answer_code shown) (numbers_of shown)
+    by_shown : (shown : HomologyNumbers) → AreShown mesh first second shown → Call (answer_code shown) (homology_numbers_of shown)
         → (judged.code ≡ codes.ACCEPTED) ⊎ (judged.code ≡ codes.NO_MEMORY)
     by_shown (Chain lines) are h =
         chain_told mesh first second lines.items judged h (record { walks = are.walks; chain = are.show; small = are.small })

@@ -1,15 +1,15 @@
 -- What is told of certificates, that are written and that are judged, and what it means.
-use Rattle.homotopy_c.proofs.Common.{AreWalks, CertifyFault, VerifyFault, IsCertifyCall, TellsCertificate, code_of, IsVerifyCall, ended, judged, judged_denial, judged_labels, judged_moves, move_code, told_verify, IsAccepted, Shows, ShowsDifferent, ShowsHomotopic, in_front, Outcome, ◌≡◌, ◌≢◌, ◌⊎◌, inl, inr, ℕ, ◌<◌, ◌≤◌, List, length, get_or, take, refl, sym, ap, ◌∙◌, subst, arith, take-append_seam, cases_lt, Result, Ok, Err, MatchResult, FaceList, IsFaceList, HasFileSize, IsOrientableSurface}
+use Rattle.homotopy_c.proofs.Common.{AreWalks, CertifyFault, VerifyFault, IsCertifyCall, TellsCertificate, code_of, IsVerifyCall, ended, judged, judged_denial, judged_labels, judged_moves, move_code, told_verify, CertificateHolds, Shows, ShowsDifferent, ShowsHomotopic, in_front, Outcome, ◌≡◌, ◌≢◌, ◌⊎◌, inl, inr, ℕ, ◌<◌, ◌≤◌, List, length, get_or, take, refl, sym, ap, ◌∙◌, subst, arith, take-append_seam, cases_lt, Result, Ok, Err, MatchResult, FaceList, IsFaceList, HasFileSize, IsOrientableSurface}
 use Rattle.commands.specs.Certificates.{Convinces, certificate_text, decision_of}
 use Rattle.commands.specs.Inputs.{SpellsCertificate}
 use Rattle.commands.specs.declared.certificate.Certificate.{Certificate}
 use Rattle.commands.specs.declared.certificate.Certificate.TheVariants.{Moves, Denial}
 use Rattle.commands.specs.declared.inputs.TheConstants.{MOST_BYTES}
-use Rattle.homotopy_arrays.specs.Certifications.{Certifies, IsCertified, IsCertifyFault}
+use Rattle.homotopy_arrays.specs.Certifications.{Certifies, IsCertificateFor, IsCertifyFault}
 use Rattle.homotopy_arrays.specs.Judgements.{IsFaultOfSpelling, IsFaultOfText, IsFaultOfWalks, IsJudgement, IsVerifyFault, Judges, JudgesWalks, no_memory}
 use Rattle.homotopy_arrays.specs.declared.verify.Judgement.{Judgement}
 use Rattle.labellings.proofs.VerdictLemmas.{one_verdict}
-use Rattle.labellings.specs.DenialVerdicts.{IsVerdict}
+use Rattle.labellings.specs.DenialVerdicts.{IsDenialVerdict}
 use Rattle.labellings.specs.declared.fault.LabelFault.{LabelFault}
 use Rattle.labellings.specs.declared.verdict.DenialVerdict.{DenialVerdict}
 use Rattle.move_checker.proofs.Judgement.{accepted_exactly}
@@ -34,7 +34,7 @@ use Rattle.homotopy_c.proofs.TellingLemmas.{of_one}
 pub record IsWritten (mesh : FaceList) (first second old text : List ℕ) (outcome : Outcome) : Type 0 where
   pub shown : Certificate
   pub surface : IsOrientableSurface mesh
-  pub certified : IsCertified mesh first second shown
+  pub certified : IsCertificateFor mesh first second shown
   pub code : outcome.code ≡ code_of shown
   pub long : get_or outcome.numbers 0 0 ≡ length (certificate_text shown)
   pub room : length (certificate_text shown) ≤ length old
@@ -55,7 +55,7 @@ written mesh first second old text outcome (Ok shown) right (inl put) =
           inr (record { same = short.0; code = (let code = ap (λ (o : Outcome). o.code) short.1 in omega (arith, code)) }))
       | inr room ↦
           (let there = put.room room in
-          let holds = of_one mesh (λ m. IsOrientableSurface m × IsCertified m first second shown) right in
+          let holds = of_one mesh (λ m. IsOrientableSurface m × IsCertificateFor m first second shown) right in
           inl (record {
             shown = shown;
             surface = holds.0;
@@ -159,7 +159,7 @@ denial_accepted denials.Equal e = absurd (omega (arith, e))
 
 -- a judgement has that code exactly where the certificate is accepted
 accepted_code : (mesh : FaceList) (first second : List ℕ) (shown : Certificate) (judgement : Judgement)
-    → IsJudgement mesh first second shown judgement → ((judged judgement).code ≡ codes.ACCEPTED) ↔ IsAccepted mesh first second shown
+    → IsJudgement mesh first second shown judgement → ((judged judgement).code ≡ codes.ACCEPTED) ↔ CertificateHolds mesh first second shown
 accepted_code mesh first second (Moves list) (judgements.Moves verdict) is =
     let exactly = accepted_exactly mesh first second list verdict is in (
       λ e. (let leads = exactly.0 (moves_accepted verdict e) in record { leads = leads.0; within = leads.1 }),
@@ -168,20 +168,20 @@ accepted_code mesh first second (Moves list) (judgements.Moves verdict) is =
 accepted_code mesh first second (Moves list) (judgements.Denial verdict) is = absurd is
 accepted_code mesh first second (Denial denial) (judgements.Moves verdict) is = absurd is
 accepted_code mesh first second (Denial denial) (judgements.Denial verdict) is = (
-  λ e. subst (IsVerdict mesh first second denial) (denial_accepted verdict e) is,
+  λ e. subst (IsDenialVerdict mesh first second denial) (denial_accepted verdict e) is,
   λ h. ap (λ (v : DenialVerdict). (judged_denial v).code) (one_verdict mesh first second denial verdict denials.Accepted is h),
 )
 
 -- what `homotopy_verify` tells where it tells that a certificate is accepted
 pub accepted_convinces : (mesh : FaceList) (first second text : List ℕ) (outcome : Outcome)
     → IsVerifyCall (Ok mesh) first second text outcome → outcome.code ≡ codes.ACCEPTED
-    → AreWalks mesh first second × (shown : Certificate) × SpellsCertificate shown text × IsAccepted mesh first second shown
+    → AreWalks mesh first second × (shown : Certificate) × SpellsCertificate shown text × CertificateHolds mesh first second shown
 accepted_convinces mesh first second text outcome h e = by_end h.end h.right (sym (ap (λ (o : Outcome). o.code) h.tells) ∙ e)
   where
     by_end : (end : Result Judgement VerifyFault)
         → MatchResult end (Judges (Ok mesh) first second text) (IsVerifyFault (Ok mesh) first second text)
         → (ended end).code ≡ codes.ACCEPTED
-        → AreWalks mesh first second × (shown : Certificate) × SpellsCertificate shown text × IsAccepted mesh first second shown
+        → AreWalks mesh first second × (shown : Certificate) × SpellsCertificate shown text × CertificateHolds mesh first second shown
     by_end (Ok judgement) right code =
         let there = of_one mesh (λ m. JudgesWalks m first second text judgement) right in
         (there.0, there.1.1.0, there.1.1.1, (accepted_code mesh first second there.1.1.0 judgement there.1.1.2).0 code)
@@ -210,7 +210,7 @@ only_memory mesh first second text shown fault walks few spells (inr (inr on_mes
 
 pub convinces_accepted : (mesh : FaceList) (first second text : List ℕ) (outcome : Outcome) (shown : Certificate)
     → IsVerifyCall (Ok mesh) first second text outcome → AreWalks mesh first second → length text ≤ MOST_BYTES
-    → SpellsCertificate shown text → IsAccepted mesh first second shown
+    → SpellsCertificate shown text → CertificateHolds mesh first second shown
     → (outcome.code ≡ codes.ACCEPTED) ⊎ (outcome.code ≡ codes.NO_MEMORY)
 convinces_accepted mesh first second text outcome shown h walks few spells holds =
     by_end h.end h.right (ap (λ (o : Outcome). o.code) h.tells)
@@ -230,7 +230,7 @@ convinces_accepted mesh first second text outcome shown h walks few spells holds
 -- ---- what is written is accepted
 
 convincing : (mesh : FaceList) (first second : List ℕ) (shown : Certificate) → Convinces mesh first second shown
-    → IsAccepted mesh first second shown
+    → CertificateHolds mesh first second shown
 convincing mesh first second (Moves list) h = record { leads = h.leads; within = omega (arith, h.peak) }
 convincing mesh first second (Denial denial) h = h
 

@@ -1,5 +1,5 @@
 -- What is told of surfaces and of pairs, and what it means.
-use Rattle.homotopy_c.proofs.Common.{IsCompactSurface, IsCompactFault, IsCompactKept, IsDecideAnyFault, AreAnsweredOn, IsKept, IsAskedFault, IsDecideFault, IsLoopAnswer, IsAnswer, walk_at, are_pairs, EndsOn, IsMeasured, IsSurfaceFault, OfMesh, Homotopic, Different, Faulty, Fault, IsMeshAnswersCall, IsMeshDecideCall, IsMeshNewAnyCall, IsMeshNewCall, TellsHeld, TellsKept, DoesAnswer, DoesAnswerLoops, DoesMeasure, byte_of, done, loop_byte, told, IsBytesCall, IsDecideAnyCall, IsDecideCall, IsSurfaceTold, TellsBytes, TellsSurface, Outcome, ◌≡◌, ◌≢◌, inl, inr, ℕ, ◌+◌, ◌*◌, ◌/◌, ◌<◌, List, length, get_or, refl, sym, ap, ◌∙◌, subst, arith, false, cases_lt, get_or_append_left, get_or-map, length-map, Vec, Box, Option, Some, None, Result, Ok, Err, FaceList, IsOrientableSurface}
+use Rattle.homotopy_c.proofs.Common.{IsCompactSurface, IsCompactFault, IsCompactKept, IsDecideAnyFault, AreAnsweredOn, IsKept, IsAskedFault, IsDecideFault, IsLoopAnswer, IsAnswer, walk_in_arrays, are_pairs, EndsOn, IsMeasureOf, IsSurfaceFault, OfMesh, Homotopic, Different, Faulty, Fault, IsMeshAnswersCall, IsMeshDecideCall, IsMeshNewAnyCall, IsMeshNewCall, TellsHeld, TellsKept, DoesAnswer, DoesAnswerLoops, DoesMeasure, byte_of, done, loop_byte, told_fault, IsBytesCall, IsDecideAnyCall, IsDecideCall, IsSurfaceTold, TellsBytes, TellsSurface, Outcome, ◌≡◌, ◌≢◌, inl, inr, ℕ, ◌+◌, ◌*◌, ◌/◌, ◌<◌, List, length, get_or, refl, sym, ap, ◌∙◌, subst, arith, false, cases_lt, get_or_append_left, get_or-map, length-map, Vec, Box, Option, Some, None, Result, Ok, Err, FaceList, IsOrientableSurface}
 use Rattle.compact_surfaces.proofs.ClosedLemmas.{compact_surface}
 use Rattle.homotopy_arrays.proofs.EndLemmas.{on_kind}
 use Rattle.homotopy_arrays.specs.declared.decide.PairAnswer.{PairAnswer}
@@ -59,7 +59,7 @@ module _ {A : Type 0} (IsSurface : FaceList → Type 0) (Refuses : (sizes vertic
   abbrev DoTell : FaceList → (sizes vertices answers : List ℕ) → Type 0
   DoTell mesh sizes vertices answers =
       IsSurface mesh × ((k : ℕ) → k < length sizes / 2
-      → Means mesh (walk_at sizes vertices (2 * k)) (walk_at sizes vertices (2 * k + 1)) (get_or answers k 0))
+      → Means mesh (walk_in_arrays sizes vertices (2 * k)) (walk_in_arrays sizes vertices (2 * k + 1)) (get_or answers k 0))
 
   abbrev IsRight : FaceList → (sizes vertices : List ℕ) → Result (Vec A) Fault → Type 0
   IsRight mesh sizes vertices end =
@@ -79,12 +79,12 @@ module _ {A : Type 0} (IsSurface : FaceList → Type 0) (Refuses : (sizes vertic
             ∙ get_or_append_left (map byte given.items) (drop (length (map byte given.items)) old) 0 k
             (omega (arith, few, length-map given.items byte))
             ∙ get_or-map byte given.items k some 0 few in
-            subst (Means mesh (walk_at sizes vertices (2 * k)) (walk_at sizes vertices (2 * k + 1))) (sym here)
-            (means mesh (walk_at sizes vertices (2 * k)) (walk_at sizes vertices (2 * k + 1)) (get_or given.items k some)
+            subst (Means mesh (walk_in_arrays sizes vertices (2 * k)) (walk_in_arrays sizes vertices (2 * k + 1))) (sym here)
+            (means mesh (walk_in_arrays sizes vertices (2 * k)) (walk_in_arrays sizes vertices (2 * k + 1)) (get_or given.items k some)
             (are.answers.answer k some few)),
       )
   answered mesh sizes vertices old answers outcome (Err fault) right tells e =
-      absurd (omega (arith, e, code_is outcome (told fault) tells.1, fault_code fault))
+      absurd (omega (arith, e, code_is outcome (told_fault fault) tells.1, fault_code fault))
 
   pub answers_mean : (mesh : FaceList) (sizes vertices old answers : List ℕ) (outcome : Outcome)
       → IsBytesCall byte (IsRight mesh sizes vertices) sizes old answers outcome → outcome.code ≡ codes.DONE
@@ -132,12 +132,12 @@ told_not_orientable {A} IsSurface Is byte mesh sizes vertices old answers outcom
         → EndsOn (Ok mesh) (λ m given. AreAnsweredOn IsSurface Is sizes vertices m given.items) (IsAskedFault IsSurface sizes vertices) end
         → TellsBytes byte end old answers outcome → ⊥
     by_end (Ok given) right tells = omega (arith, e, code_is outcome done tells.1)
-    by_end (Err fault) (inl memory) tells = omega (arith, e, code_is outcome (told OutOfMemory) (tells.1 ∙ ap told memory))
+    by_end (Err fault) (inl memory) tells = omega (arith, e, code_is outcome (told_fault OutOfMemory) (tells.1 ∙ ap told_fault memory))
     by_end (Err fault) (inr (inl bad)) tells = absurd cc
     by_end (Err fault) (inr (inr of)) tells =
         elim (of_one mesh (λ m. IsAskedFault IsSurface sizes vertices m fault) of) [
           | inl other ↦ other.0 is
-          | inr count ↦ omega (arith, e, code_is outcome (told WalkCount) (tells.1 ∙ ap told count.2))
+          | inr count ↦ omega (arith, e, code_is outcome (told_fault WalkCount) (tells.1 ∙ ap told_fault count.2))
         ]
 
 -- ---- meshes that are kept
@@ -157,7 +157,7 @@ held_now : (read : Result FaceList Fault) (Keeps : FaceList → FaceList → Typ
     → (kept : FaceList) × (held ≡ Some kept) × OfMesh read (λ mesh. Keeps mesh kept)
 held_now read Keeps Refuses (Ok kept) old held made of tells e = (kept, tells.0, of)
 held_now read Keeps Refuses (Err fault) old held made right tells e =
-    absurd (omega (arith, e, code_is made (told fault) tells.1, fault_code fault))
+    absurd (omega (arith, e, code_is made (told_fault fault) tells.1, fault_code fault))
 
 -- and else what it held
 held_before : (end : Result FaceList Fault) (old held : Option FaceList) (made : Outcome) → TellsKept end old held made
@@ -234,7 +234,7 @@ any_kept_else_same read old held made h differs = held_before h.end old held mad
 -- ---- surfaces
 
 measured : (mesh : FaceList) (before numbers : SurfaceNumbers) (old genera : List ℕ) (outcome : Outcome) (end : Result Measured Fault)
-    → EndsOn (Ok mesh) IsMeasured IsSurfaceFault end → TellsSurface end before numbers old genera outcome
+    → EndsOn (Ok mesh) IsMeasureOf IsSurfaceFault end → TellsSurface end before numbers old genera outcome
     → (outcome.code ≡ codes.DONE → DoesMeasure mesh numbers old genera) × (outcome.code ≢ codes.DONE → genera ≡ old)
 measured mesh before numbers old genera outcome (Ok own) right tells =
     elim (cases_lt (length old) (length own.genera.items)) [
@@ -243,7 +243,7 @@ measured mesh before numbers old genera outcome (Ok own) right tells =
           ((λ e. absurd (omega (arith, e, code_is outcome _ short.1))), (λ _. short.0)))
       | inr room ↦
           (let put = tells.1.room room in
-          let is : IsMeasured mesh own = of_one mesh (λ m. IsMeasured m own) right in (
+          let is : IsMeasureOf mesh own = of_one mesh (λ m. IsMeasureOf m own) right in (
             λ _. record {
               surface = is.surface;
               measured = own.numbers;
@@ -261,7 +261,7 @@ measured mesh before numbers old genera outcome (Ok own) right tells =
           ))
     ]
 measured mesh before numbers old genera outcome (Err fault) right tells =
-    ((λ e. absurd (omega (arith, e, code_is outcome (told fault) tells.2, fault_code fault))), (λ _. tells.1))
+    ((λ e. absurd (omega (arith, e, code_is outcome (told_fault fault) tells.2, fault_code fault))), (λ _. tells.1))
 
 pub surface_means : (mesh : FaceList) (before numbers : SurfaceNumbers) (old genera : List ℕ) (outcome : Outcome)
     → IsSurfaceTold (Ok mesh) before numbers old genera outcome

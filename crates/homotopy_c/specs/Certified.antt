@@ -9,7 +9,7 @@ use Rattle.homotopy_arrays.specs.Certifications.{Certifies, IsCertifyFault}
 use Rattle.homotopy_arrays.specs.declared.certify.CertifyFault.{CertifyFault}
 use Rattle.homotopy_arrays.specs.declared.certify.CertifyFault.TheVariants.{Mesh, Walks, Over}
 use Rattle.homotopy_arrays.specs.declared.fault.Fault.{Fault}
-use Rattle.homotopy_c.specs.Outcomes.{coded, told, told_walks}
+use Rattle.homotopy_c.specs.Outcomes.{coded, told_fault, told_walks}
 use Rattle.homotopy_c.specs.Told.{in_front}
 use Rattle.homotopy_c.specs.declared.codes.TheConstants as codes
 use Rattle.homotopy_c.specs.declared.outcome.Outcome.{Outcome}
@@ -21,7 +21,7 @@ code_of (Denial denial) = codes.DIFFERENT
 
 -- why there is none
 abbrev pub told_certify : CertifyFault → Outcome
-told_certify (Mesh fault) = told fault
+told_certify (Mesh fault) = told_fault fault
 told_certify (Walks fault) = told_walks fault
 told_certify (Over (Sides sides)) = coded codes.CERTIFY_SIDES sides 0 0
 told_certify (Over (Darts darts)) = coded codes.CERTIFY_DARTS darts 0 0

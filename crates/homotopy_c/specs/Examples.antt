@@ -28,7 +28,7 @@ use Rattle.homotopy_c.specs.Certified.{told_certify}
 use Rattle.homotopy_c.specs.Homologous.{answer_code, told_homology}
 use Rattle.homotopy_c.specs.Judged.{judged_moves, judged_labels, judged_denial, told_certificate, told_verify}
 use Rattle.homotopy_c.specs.NumbersJudged.{claim_of, judged_numbers, told_verify_homology}
-use Rattle.homotopy_c.specs.Outcomes.{byte_of, coded, done, loop_byte, no_mesh, short_room, told, told_no_classes, told_walks}
+use Rattle.homotopy_c.specs.Outcomes.{byte_of, coded, done, loop_byte, no_mesh, short_room, told_fault, told_no_classes, told_walks}
 
 abbrev named : ℕ → VertexName
 named v = record { 0 = v }
@@ -39,24 +39,24 @@ face f = record { 0 = f }
 -- ---- arrays, and the meshes that they are
 
 arrays :
-    (done ≡ coded 0 0 0 0) × (short_room 9 ≡ coded 4 9 0 0) × (told faults.OutOfMemory ≡ coded 5 0 0 0)
-    × (no_mesh ≡ coded 6 0 0 0) × (told faults.ManyVertices ≡ coded 10 0 0 0) × (told faults.CornerCount ≡ coded 11 0 0 0)
-    × (told faults.ManySides ≡ coded 12 0 0 0)
-    × (told (faults.FewCorners (face 3)) ≡ coded 13 3 0 0) × (told (faults.NoVertex (face 3)) ≡ coded 14 3 0 0)
-    × (told (faults.EqualNeighbours (face 3)) ≡ coded 15 3 0 0)
+    (done ≡ coded 0 0 0 0) × (short_room 9 ≡ coded 4 9 0 0) × (told_fault faults.OutOfMemory ≡ coded 5 0 0 0)
+    × (no_mesh ≡ coded 6 0 0 0) × (told_fault faults.ManyVertices ≡ coded 10 0 0 0) × (told_fault faults.CornerCount ≡ coded 11 0 0 0)
+    × (told_fault faults.ManySides ≡ coded 12 0 0 0)
+    × (told_fault (faults.FewCorners (face 3)) ≡ coded 13 3 0 0) × (told_fault (faults.NoVertex (face 3)) ≡ coded 14 3 0 0)
+    × (told_fault (faults.EqualNeighbours (face 3)) ≡ coded 15 3 0 0)
 arrays = (refl, refl, refl, refl, refl, refl, refl, refl, refl, refl)
 
 meshes :
-    (told faults.NoFace ≡ coded 20 0 0 0) × (told (faults.EdgeSides (named 1) (named 2) 3) ≡ coded 21 1 2 3)
-    × (told (faults.Pinched (named 4)) ≡ coded 22 4 0 0) × (told faults.NotOrientable ≡ coded 23 0 0 0)
-    × (told faults.DoubleVertices ≡ coded 24 0 0 0) × (told faults.DoubleSides ≡ coded 25 0 0 0)
-    × (told faults.CoverVertices ≡ coded 26 0 0 0) × (told faults.CoverSides ≡ coded 27 0 0 0)
+    (told_fault faults.NoFace ≡ coded 20 0 0 0) × (told_fault (faults.EdgeSides (named 1) (named 2) 3) ≡ coded 21 1 2 3)
+    × (told_fault (faults.Pinched (named 4)) ≡ coded 22 4 0 0) × (told_fault faults.NotOrientable ≡ coded 23 0 0 0)
+    × (told_fault faults.DoubleVertices ≡ coded 24 0 0 0) × (told_fault faults.DoubleSides ≡ coded 25 0 0 0)
+    × (told_fault faults.CoverVertices ≡ coded 26 0 0 0) × (told_fault faults.CoverSides ≡ coded 27 0 0 0)
 meshes = (refl, refl, refl, refl, refl, refl, refl, refl)
 
 -- ---- walks
 
 walks :
-    (told faults.WalkCount ≡ coded 30 0 0 0) × (told_walks (Empty 2) ≡ coded 31 2 0 0) × (told_walks (Long 1) ≡ coded 32 1 0 0)
+    (told_fault faults.WalkCount ≡ coded 30 0 0 0) × (told_walks (Empty 2) ≡ coded 31 2 0 0) × (told_walks (Long 1) ≡ coded 32 1 0 0)
     × (told_walks (Pair (NoVertex 1 5)) ≡ coded 33 1 5 0) × (told_walks (Pair (NoEdge 2 0)) ≡ coded 34 2 0 0)
     × (told_walks (Pair (EndsDiffer true)) ≡ coded 35 0 0 0) × (told_walks (Pair (EndsDiffer false)) ≡ coded 36 0 0 0)
 walks = (refl, refl, refl, refl, refl, refl, refl)

@@ -7,7 +7,7 @@ use Rattle.homotopy_arrays.specs.Homologies.{IsHomologyFault, IsHomologyFaultOnA
 use Rattle.homotopy_arrays.specs.declared.fault.Fault.{Fault}
 use Rattle.homotopy_arrays.specs.declared.homologies.HomologyFault.{HomologyFault}
 use Rattle.homotopy_arrays.specs.declared.homologies.HomologyFault.TheVariants.{Mesh, Walks, Darts}
-use Rattle.homotopy_c.specs.Outcomes.{coded, told, told_walks}
+use Rattle.homotopy_c.specs.Outcomes.{coded, told_fault, told_walks}
 use Rattle.homotopy_c.specs.Told.{in_front}
 use Rattle.homotopy_c.specs.declared.codes.TheConstants as codes
 use Rattle.homotopy_c.specs.declared.outcome.Outcome.{Outcome}
@@ -17,13 +17,13 @@ abbrev pub answer_code : HomologyNumbers → ℕ
 answer_code (Chain numbers) = codes.HOMOLOGOUS
 answer_code (Cocycle numbers) = codes.NOT_HOMOLOGOUS
 
-abbrev pub numbers_of : HomologyNumbers → List ℤ
-numbers_of (Chain numbers) = numbers.items
-numbers_of (Cocycle numbers) = numbers.items
+abbrev pub homology_numbers_of : HomologyNumbers → List ℤ
+homology_numbers_of (Chain numbers) = numbers.items
+homology_numbers_of (Cocycle numbers) = numbers.items
 
 -- why nothing is shown
 abbrev pub told_homology : HomologyFault → Outcome
-told_homology (Mesh fault) = told fault
+told_homology (Mesh fault) = told_fault fault
 told_homology (Walks fault) = told_walks fault
 told_homology (Darts darts) = coded codes.HOMOLOGY_DARTS darts 0 0
 
@@ -35,7 +35,7 @@ pub record AreNumbersPut (numbers old new : List ℤ) (code : ℕ) (outcome : Ou
 
 -- how the question ended is told
 abbrev pub TellsHomology : Result HomologyNumbers HomologyFault → (old new : List ℤ) → Outcome → Type 0
-TellsHomology (Ok shown) old new outcome = AreNumbersPut (numbers_of shown) old new (answer_code shown) outcome
+TellsHomology (Ok shown) old new outcome = AreNumbersPut (homology_numbers_of shown) old new (answer_code shown) outcome
 TellsHomology (Err fault) old new outcome = (new ≡ old) × (outcome ≡ told_homology fault)
 
 -- an end of the question that is right is told

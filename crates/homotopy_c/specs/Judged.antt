@@ -17,7 +17,7 @@ use Rattle.homotopy_arrays.specs.declared.verify.Judgement.{Judgement}
 use Rattle.homotopy_arrays.specs.declared.verify.Judgement.TheVariants.{Moves, Denial}
 use Rattle.homotopy_arrays.specs.declared.verify.VerifyFault.{VerifyFault}
 use Rattle.homotopy_arrays.specs.declared.verify.VerifyFault.TheVariants.{Mesh, Walks, Long, Certificate}
-use Rattle.homotopy_c.specs.Outcomes.{coded, told, told_walks}
+use Rattle.homotopy_c.specs.Outcomes.{coded, told_fault, told_walks}
 use Rattle.homotopy_c.specs.declared.codes.TheConstants as codes
 use Rattle.homotopy_c.specs.declared.outcome.Outcome.{Outcome}
 
@@ -66,7 +66,7 @@ told_certificate certificates.OutOfMemory = coded codes.NO_MEMORY 0 0 0
 
 -- why nothing comes of it
 abbrev pub told_verify : VerifyFault → Outcome
-told_verify (Mesh fault) = told fault
+told_verify (Mesh fault) = told_fault fault
 told_verify (Walks fault) = told_walks fault
 told_verify Long = coded codes.LONG_CERTIFICATE 0 0 0
 told_verify (Certificate fault) = told_certificate fault

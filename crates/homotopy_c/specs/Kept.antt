@@ -9,14 +9,14 @@ use Rattle.homotopy_arrays.specs.Loops.{IsLoopAnswer}
 use Rattle.homotopy_arrays.specs.Pairs.{IsAnswer}
 use Rattle.homotopy_arrays.specs.Surfaces.{EndsOn, IsSurfaceFault}
 use Rattle.homotopy_arrays.specs.declared.fault.Fault.{Fault}
-use Rattle.homotopy_c.specs.Outcomes.{byte_of, done, loop_byte, no_mesh, told}
+use Rattle.homotopy_c.specs.Outcomes.{byte_of, done, loop_byte, no_mesh, told_fault}
 use Rattle.homotopy_c.specs.Told.{IsBytesCall, IsClassesCall}
 use Rattle.homotopy_c.specs.declared.outcome.Outcome.{Outcome}
 
 -- how it ended is told: the handle holds the mesh; or what is wrong, and it holds what it held
 abbrev pub TellsKept : Result FaceList Fault → (old new : Option FaceList) → Outcome → Type 0
 TellsKept (Ok kept) old new outcome = (new ≡ Some kept) × (outcome ≡ done)
-TellsKept (Err fault) old new outcome = (new ≡ old) × (outcome ≡ told fault)
+TellsKept (Err fault) old new outcome = (new ≡ old) × (outcome ≡ told_fault fault)
 
 -- `read` is the mesh that the arrays are, or what is first wrong with them
 pub record IsMeshNewCall (read : Result FaceList Fault) (old new : Option FaceList) (outcome : Outcome) : Type 0 where

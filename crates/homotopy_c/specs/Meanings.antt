@@ -6,7 +6,7 @@ use Rattle.surf_model.specs.Moves as moves
 use Rattle.closed_walks.specs.FreeHomotopy.{FreelyHomotopic}
 use Rattle.homology.specs.ArrayCertificates.{AreChainNumbers, AreCocycleNumbers}
 use Rattle.homology.specs.Chains.{AreHomologous}
-use Rattle.homology.specs.Tallies.{AreWithin}
+use Rattle.homology.specs.Tallies.{AreNumbersWithin}
 use Rattle.homology.specs.declared.certificate.TheConstants.{MOST_NUMBER}
 use Rattle.labellings.specs.Denials.{DenialHolds}
 use Rattle.move_checker.specs.Verdicts.{LeadsWithin}
@@ -128,18 +128,18 @@ abbrev pub ShowsNotHomologous : FaceList → (first second : List ℕ) → (old 
 ShowsNotHomologous mesh first second old new outcome = ShowsNotHomologousOn IsOrientableSurface mesh first second old new outcome
 
 -- a list of moves leads within its peak, or a denial holds
-abbrev pub IsAccepted : FaceList → (first second : List ℕ) → Certificate → Type 0
-IsAccepted mesh first second (shown.Moves list) = LeadsWithin mesh list.peak first list.moves second
-IsAccepted mesh first second (shown.Denial denial) = DenialHolds mesh first second denial
+abbrev pub CertificateHolds : FaceList → (first second : List ℕ) → Certificate → Type 0
+CertificateHolds mesh first second (shown.Moves list) = LeadsWithin mesh list.peak first list.moves second
+CertificateHolds mesh first second (shown.Denial denial) = DenialHolds mesh first second denial
 
 -- two walks of the mesh with common ends, and numbers of its faces that are a chain for them, none too large
 pub record IsAcceptedChain (mesh : FaceList) (first second : List ℕ) (numbers : List ℤ) : Type 0 where
   pub walks : AreWalks mesh first second
   pub chain : AreChainNumbers mesh first second numbers
-  pub small : AreWithin MOST_NUMBER numbers
+  pub small : AreNumbersWithin MOST_NUMBER numbers
 
 -- two walks of the mesh with common ends, and numbers of its sides that are those of a cocycle which separates them, none too large
 pub record IsAcceptedCocycle (mesh : FaceList) (first second : List ℕ) (numbers : List ℤ) : Type 0 where
   pub walks : AreWalks mesh first second
   pub cocycle : AreCocycleNumbers mesh first second numbers
-  pub small : AreWithin MOST_NUMBER numbers
+  pub small : AreNumbersWithin MOST_NUMBER numbers

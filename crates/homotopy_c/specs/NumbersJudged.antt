@@ -11,7 +11,7 @@ use Rattle.homotopy_arrays.specs.declared.verify_homology.HomologyClaim.{Homolog
 use Rattle.homotopy_arrays.specs.declared.verify_homology.HomologyClaim.TheVariants.{Homologous, NotHomologous}
 use Rattle.homotopy_arrays.specs.declared.verify_homology.VerifyHomologyFault.{VerifyHomologyFault}
 use Rattle.homotopy_arrays.specs.declared.verify_homology.VerifyHomologyFault.TheVariants.{Mesh, Walks}
-use Rattle.homotopy_c.specs.Outcomes.{coded, told, told_walks}
+use Rattle.homotopy_c.specs.Outcomes.{coded, told_fault, told_walks}
 use Rattle.homotopy_c.specs.declared.codes.TheConstants as codes
 use Rattle.homotopy_c.specs.declared.outcome.Outcome.{Outcome}
 
@@ -39,7 +39,7 @@ judged_numbers (Judged verdict) = judged_certificate verdict
 
 -- why nothing comes of it
 abbrev pub told_verify_homology : VerifyHomologyFault → Outcome
-told_verify_homology (Mesh fault) = told fault
+told_verify_homology (Mesh fault) = told_fault fault
 told_verify_homology (Walks fault) = told_walks fault
 
 -- how the question ended

@@ -31,23 +31,23 @@ abbrev pub no_mesh : Outcome
 no_mesh = coded codes.NO_MESH 0 0 0
 
 -- what is wrong
-abbrev pub told : Fault → Outcome
-told faults.ManyVertices = coded codes.MANY_VERTICES 0 0 0
-told faults.CornerCount = coded codes.CORNER_COUNT 0 0 0
-told faults.ManySides = coded codes.MANY_SIDES 0 0 0
-told (faults.FewCorners face) = coded codes.FEW_CORNERS face.0 0 0
-told (faults.NoVertex face) = coded codes.CORNER_RANGE face.0 0 0
-told (faults.EqualNeighbours face) = coded codes.EQUAL_NEIGHBOURS face.0 0 0
-told faults.NoFace = coded codes.NO_FACE 0 0 0
-told (faults.EdgeSides low high sides) = coded codes.EDGE_SIDES low.0 high.0 sides
-told (faults.Pinched vertex) = coded codes.PINCHED vertex.0 0 0
-told faults.NotOrientable = coded codes.NOT_ORIENTABLE 0 0 0
-told faults.DoubleVertices = coded codes.DOUBLE_VERTICES 0 0 0
-told faults.DoubleSides = coded codes.DOUBLE_SIDES 0 0 0
-told faults.CoverVertices = coded codes.COVER_VERTICES 0 0 0
-told faults.CoverSides = coded codes.COVER_SIDES 0 0 0
-told faults.WalkCount = coded codes.WALK_COUNT 0 0 0
-told faults.OutOfMemory = coded codes.NO_MEMORY 0 0 0
+abbrev pub told_fault : Fault → Outcome
+told_fault faults.ManyVertices = coded codes.MANY_VERTICES 0 0 0
+told_fault faults.CornerCount = coded codes.CORNER_COUNT 0 0 0
+told_fault faults.ManySides = coded codes.MANY_SIDES 0 0 0
+told_fault (faults.FewCorners face) = coded codes.FEW_CORNERS face.0 0 0
+told_fault (faults.NoVertex face) = coded codes.CORNER_RANGE face.0 0 0
+told_fault (faults.EqualNeighbours face) = coded codes.EQUAL_NEIGHBOURS face.0 0 0
+told_fault faults.NoFace = coded codes.NO_FACE 0 0 0
+told_fault (faults.EdgeSides low high sides) = coded codes.EDGE_SIDES low.0 high.0 sides
+told_fault (faults.Pinched vertex) = coded codes.PINCHED vertex.0 0 0
+told_fault faults.NotOrientable = coded codes.NOT_ORIENTABLE 0 0 0
+told_fault faults.DoubleVertices = coded codes.DOUBLE_VERTICES 0 0 0
+told_fault faults.DoubleSides = coded codes.DOUBLE_SIDES 0 0 0
+told_fault faults.CoverVertices = coded codes.COVER_VERTICES 0 0 0
+told_fault faults.CoverSides = coded codes.COVER_SIDES 0 0 0
+told_fault faults.WalkCount = coded codes.WALK_COUNT 0 0 0
+told_fault faults.OutOfMemory = coded codes.NO_MEMORY 0 0 0
 
 -- what is wrong with two walks
 abbrev pub walk_code : WalkFault → ℕ

@@ -6,11 +6,11 @@ use Rattle.homotopy_arrays.specs.Classes.{AreClassed, IsNoClassesIn}
 use Rattle.homotopy_arrays.specs.Compact.{AreDecidedOnAny, IsDecideAnyFault}
 use Rattle.homotopy_arrays.specs.Decisions.{AreAnswered, IsDecideFault}
 use Rattle.homotopy_arrays.specs.Pairs.{IsAnswer}
-use Rattle.homotopy_arrays.specs.Surfaces.{EndsOn, IsMeasured, IsSurfaceFault}
+use Rattle.homotopy_arrays.specs.Surfaces.{EndsOn, IsMeasureOf, IsSurfaceFault}
 use Rattle.homotopy_arrays.specs.declared.classes.NoClasses.{NoClasses}
 use Rattle.homotopy_arrays.specs.declared.fault.Fault.{Fault}
 use Rattle.homotopy_arrays.specs.declared.surface.Measured.{Measured}
-use Rattle.homotopy_c.specs.Outcomes.{byte_of, done, short_room, told, told_no_classes}
+use Rattle.homotopy_c.specs.Outcomes.{byte_of, done, short_room, told_fault, told_no_classes}
 use Rattle.homotopy_c.specs.declared.outcome.Outcome.{Outcome}
 use Rattle.homotopy_c.specs.declared.surface.SurfaceNumbers.{SurfaceNumbers}
 
@@ -26,8 +26,8 @@ pub record IsPut {T : Type 0} (items old new : List T) (put outcome : Outcome) :
 
 -- ---- surfaces
 
-abbrev pub numbers_of : Measured → SurfaceNumbers
-numbers_of measured =
+abbrev pub surface_numbers_of : Measured → SurfaceNumbers
+surface_numbers_of measured =
     record {
       vertices = measured.numbers.vertices;
       edges = measured.numbers.edges;
@@ -39,15 +39,15 @@ numbers_of measured =
 -- how the question ended is told: the numbers and the genera; or what is wrong, and nothing else is written
 abbrev pub TellsSurface : Result Measured Fault → (old_numbers numbers : SurfaceNumbers) → (old_genera genera : List ℕ) → Outcome → Type 0
 TellsSurface (Ok measured) old_numbers numbers old_genera genera outcome =
-    (numbers ≡ numbers_of measured) × IsPut measured.genera.items old_genera genera done outcome
+    (numbers ≡ surface_numbers_of measured) × IsPut measured.genera.items old_genera genera done outcome
 TellsSurface (Err fault) old_numbers numbers old_genera genera outcome =
-    (numbers ≡ old_numbers) × (genera ≡ old_genera) × (outcome ≡ told fault)
+    (numbers ≡ old_numbers) × (genera ≡ old_genera) × (outcome ≡ told_fault fault)
 
 -- `read` is the mesh that the arrays are, or what is first wrong with them
 pub record IsSurfaceTold (read : Result FaceList Fault) (old_numbers numbers : SurfaceNumbers) (old_genera genera : List ℕ)
     (outcome : Outcome) : Type 0 where
   pub end : Result Measured Fault
-  pub right : EndsOn read IsMeasured IsSurfaceFault end
+  pub right : EndsOn read IsMeasureOf IsSurfaceFault end
   pub tells : TellsSurface end old_numbers numbers old_genera genera outcome
 
 -- ---- answers on pairs, each of which is told by a byte
@@ -55,7 +55,7 @@ pub record IsSurfaceTold (read : Result FaceList Fault) (old_numbers numbers : S
 -- how the question ended is told: a byte for each pair; or what is wrong, and nothing else is written
 abbrev pub TellsBytes : {A : Type 0} → (A → ℕ) → Result (Vec A) Fault → (old answers : List ℕ) → Outcome → Type 0
 TellsBytes byte (Ok given) old answers outcome = (answers ≡ in_front (map byte given.items) old) × (outcome ≡ done)
-TellsBytes byte (Err fault) old answers outcome = (answers ≡ old) × (outcome ≡ told fault)
+TellsBytes byte (Err fault) old answers outcome = (answers ≡ old) × (outcome ≡ told_fault fault)
 
 -- an end of the question that is right is told
 pub record AreAnswersTold {A : Type 0} (byte : A → ℕ) (IsRight : Result (Vec A) Fault → Type 0) (old answers : List ℕ)

@@ -1,6 +1,6 @@
 //! Certificates of two walks.
 ghost use Rattle.std.specs.Prelude.{◌≡◌};
-ghost use Rattle.homotopy_arrays.specs.MeshArrays.{mesh_of};
+ghost use Rattle.homotopy_arrays.specs.MeshArrays.{mesh_from_arrays};
 ghost use Rattle.homotopy_c.specs.Certified.{IsCertifyCall, IsShownPut, IsTextPut, code_of, told_certify};
 
 use crate::codes;
@@ -25,7 +25,7 @@ pub extern "C" fn homotopy_certify(
     text: &mut [u8],
     outcome: &mut Outcome,
 )
-    ensures { IsCertifyCall (mesh_of vertices sizes.now corners.now) first.now second.now text.old text.new outcome.new }
+    ensures { IsCertifyCall (mesh_from_arrays vertices sizes.now corners.now) first.now second.now text.old text.new outcome.new }
 {
     let mesh = MeshArrays {
         vertices,

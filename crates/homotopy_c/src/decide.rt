@@ -1,6 +1,6 @@
 //! Whether walks are homotopic, pair by pair.
 ghost use Rattle.std.specs.Prelude.{◌≡◌, ◌≤◌, length, map, IfOk};
-ghost use Rattle.homotopy_arrays.specs.MeshArrays.{mesh_of};
+ghost use Rattle.homotopy_arrays.specs.MeshArrays.{mesh_from_arrays};
 ghost use Rattle.homotopy_c.specs.Told.{IsDecideCall, TellsBytes, in_front};
 
 use crate::codes;
@@ -25,7 +25,8 @@ pub extern "C" fn homotopy_decide(
     answers: &mut [u8],
     outcome: &mut Outcome,
 )
-    ensures { IsDecideCall (mesh_of vertices sizes.now corners.now) walk_sizes.now walk_vertices.now answers.old answers.new outcome.new }
+    ensures { IsDecideCall (mesh_from_arrays vertices sizes.now corners.now) walk_sizes.now walk_vertices.now answers.old answers.new
+        outcome.new }
 {
     let wanted = walk_sizes.len() / 2;
     if answers.len() < wanted {

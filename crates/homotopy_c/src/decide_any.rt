@@ -1,5 +1,5 @@
 //! Whether walks are homotopic on a compact surface, closed or with boundary, orientable or not, pair by pair.
-ghost use Rattle.homotopy_arrays.specs.MeshArrays.{mesh_of};
+ghost use Rattle.homotopy_arrays.specs.MeshArrays.{mesh_from_arrays};
 ghost use Rattle.homotopy_c.specs.Told.{IsDecideAnyCall};
 
 use crate::decide::put_bytes;
@@ -24,7 +24,7 @@ pub extern "C" fn homotopy_decide_any(
     answers: &mut [u8],
     outcome: &mut Outcome,
 )
-    ensures { IsDecideAnyCall (mesh_of vertices sizes.now corners.now) walk_sizes.now walk_vertices.now answers.old answers.new
+    ensures { IsDecideAnyCall (mesh_from_arrays vertices sizes.now corners.now) walk_sizes.now walk_vertices.now answers.old answers.new
         outcome.new }
 {
     let wanted = walk_sizes.len() / 2;

@@ -1,7 +1,7 @@
 //! Whether two walks are homologous.
 ghost use Rattle.std.specs.Prelude.{◌≡◌};
-ghost use Rattle.homotopy_arrays.specs.MeshArrays.{mesh_of};
-ghost use Rattle.homotopy_c.specs.Homologous.{AreNumbersPut, IsHomologyCall, TellsHomology, answer_code, numbers_of, told_homology};
+ghost use Rattle.homotopy_arrays.specs.MeshArrays.{mesh_from_arrays};
+ghost use Rattle.homotopy_c.specs.Homologous.{AreNumbersPut, IsHomologyCall, TellsHomology, answer_code, homology_numbers_of, told_homology};
 
 use crate::codes;
 use crate::outcome::{Outcome, coded, told, told_walks};
@@ -27,7 +27,7 @@ pub extern "C" fn homotopy_homology(
     numbers: &mut [i64],
     outcome: &mut Outcome,
 )
-    ensures { IsHomologyCall (mesh_of vertices sizes.now corners.now) first.now second.now numbers.old numbers.new outcome.new }
+    ensures { IsHomologyCall (mesh_from_arrays vertices sizes.now corners.now) first.now second.now numbers.old numbers.new outcome.new }
 {
     let mesh = MeshArrays {
         vertices,
@@ -49,7 +49,7 @@ pub(crate) fn put_homology(end: Result<HomologyNumbers, HomologyFault>, room: &m
 
 /// Writes what shows the answer in front of an array, if it fits.
 fn put_shown(shown: &HomologyNumbers, room: &mut [i64]) -> Outcome
-    ensures { AreNumbersPut (numbers_of shown.now) room.old room.new (answer_code shown.now) result }
+    ensures { AreNumbersPut (homology_numbers_of shown.now) room.old room.new (answer_code shown.now) result }
 {
     match shown {
         HomologyNumbers::Chain(numbers) => put_numbers(numbers, room, codes::HOMOLOGOUS),

@@ -1,5 +1,5 @@
 //! Whether two walks of a surface that may have boundary are homologous.
-ghost use Rattle.homotopy_arrays.specs.MeshArrays.{mesh_of};
+ghost use Rattle.homotopy_arrays.specs.MeshArrays.{mesh_from_arrays};
 ghost use Rattle.homotopy_c.specs.Homologous.{IsHomologyAnyCall};
 
 use crate::homologies::put_homology;
@@ -22,7 +22,7 @@ pub extern "C" fn homotopy_homology_any(
     numbers: &mut [i64],
     outcome: &mut Outcome,
 )
-    ensures { IsHomologyAnyCall (mesh_of vertices sizes.now corners.now) first.now second.now numbers.old numbers.new outcome.new }
+    ensures { IsHomologyAnyCall (mesh_from_arrays vertices sizes.now corners.now) first.now second.now numbers.old numbers.new outcome.new }
 {
     let mesh = MeshArrays {
         vertices,

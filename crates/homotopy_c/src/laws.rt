@@ -13,14 +13,14 @@ ghost use Rattle.commands.specs.declared.inputs.TheConstants.{MOST_BYTES};
 ghost use Rattle.compact_surfaces.specs.CompactSurfaces.{IsCompactSurface, IsOrientableCompactSurface};
 ghost use Rattle.walk_classes.specs.WalkClasses.{AreClasses, AreInOneClass};
 ghost use Rattle.homology.specs.Chains.{AreHomologous};
-ghost use Rattle.homotopy_arrays.specs.Classes.{walks_in};
-ghost use Rattle.homotopy_arrays.specs.Pairs.{AreWalks, walk_at};
+ghost use Rattle.homotopy_arrays.specs.Classes.{walks_in_arrays};
+ghost use Rattle.homotopy_arrays.specs.Pairs.{AreWalks, walk_in_arrays};
 ghost use Rattle.homotopy_arrays.specs.declared.fault.Fault.{Fault};
 ghost use Rattle.homotopy_c.specs.Certified.{IsCertifyCall};
 ghost use Rattle.homotopy_c.specs.Homologous.{IsHomologyAnyCall, IsHomologyCall};
 ghost use Rattle.homotopy_c.specs.Judged.{IsVerifyCall};
 ghost use Rattle.homotopy_c.specs.Kept.{IsMeshClassesCall, IsMeshDecideCall, IsMeshLoopsCall, IsMeshNewAnyCall, IsMeshNewCall};
-ghost use Rattle.homotopy_c.specs.Meanings.{DoesAnswer, DoesAnswerLoops, DoesMeasure, IsAccepted, IsAcceptedChain, IsAcceptedCocycle, ShowsDifferent, ShowsHomologous, ShowsHomologousOn, ShowsHomotopic, ShowsNotHomologous, ShowsNotHomologousOn, are_distinct, all_codes};
+ghost use Rattle.homotopy_c.specs.Meanings.{DoesAnswer, DoesAnswerLoops, DoesMeasure, CertificateHolds, IsAcceptedChain, IsAcceptedCocycle, ShowsDifferent, ShowsHomologous, ShowsHomologousOn, ShowsHomotopic, ShowsNotHomologous, ShowsNotHomologousOn, are_distinct, all_codes};
 ghost use Rattle.homotopy_c.specs.NumbersJudged.{IsVerifyHomologyCall};
 ghost use Rattle.homotopy_c.specs.Told.{IsDecideAnyCall, IsDecideCall, IsSurfaceTold};
 ghost use Rattle.homotopy_c.specs.declared.codes.TheConstants as codes;
@@ -48,7 +48,7 @@ pub fn decide_tells_what_is_homotopic()
     ensures answers { (mesh : FaceList) (sizes vertices old answers : List ℕ) (outcome : Outcome)
         → IsDecideCall (Ok mesh) sizes vertices old answers outcome → outcome.code ≡ codes.DONE
         → IsOrientableSurface mesh × ((k : ℕ) → k < length sizes / 2
-        → DoesAnswer mesh (walk_at sizes vertices (2 * k)) (walk_at sizes vertices (2 * k + 1)) (slice_index answers k)) }
+        → DoesAnswer mesh (walk_in_arrays sizes vertices (2 * k)) (walk_in_arrays sizes vertices (2 * k + 1)) (slice_index answers k)) }
     ensures else_nothing { (mesh : FaceList) (sizes vertices old answers : List ℕ) (outcome : Outcome)
         → IsDecideCall (Ok mesh) sizes vertices old answers outcome → outcome.code ≢ codes.DONE → answers ≡ old }
 {}
@@ -60,7 +60,7 @@ pub fn decide_any_tells_what_is_homotopic()
     ensures answers { (mesh : FaceList) (sizes vertices old answers : List ℕ) (outcome : Outcome)
         → IsDecideAnyCall (Ok mesh) sizes vertices old answers outcome → outcome.code ≡ codes.DONE
         → IsCompactSurface mesh × ((k : ℕ) → k < length sizes / 2
-        → DoesAnswer mesh (walk_at sizes vertices (2 * k)) (walk_at sizes vertices (2 * k + 1)) (slice_index answers k)) }
+        → DoesAnswer mesh (walk_in_arrays sizes vertices (2 * k)) (walk_in_arrays sizes vertices (2 * k + 1)) (slice_index answers k)) }
     ensures else_nothing { (mesh : FaceList) (sizes vertices old answers : List ℕ) (outcome : Outcome)
         → IsDecideAnyCall (Ok mesh) sizes vertices old answers outcome → outcome.code ≢ codes.DONE → answers ≡ old }
 {}
@@ -98,7 +98,8 @@ pub fn loops_tell_what_is_freely_homotopic()
     ensures answers { (mesh : FaceList) (sizes vertices old answers : List ℕ) (outcome : Outcome)
         → IsMeshLoopsCall (Some mesh) sizes vertices old answers outcome → outcome.code ≡ codes.DONE
         → IsOrientableCompactSurface mesh × ((k : ℕ) → k < length sizes / 2
-        → DoesAnswerLoops mesh (walk_at sizes vertices (2 * k)) (walk_at sizes vertices (2 * k + 1)) (slice_index answers k)) }
+        → DoesAnswerLoops mesh (walk_in_arrays sizes vertices (2 * k)) (walk_in_arrays sizes vertices (2 * k + 1))
+        (slice_index answers k)) }
     ensures refused { (mesh : FaceList) (sizes vertices old answers : List ℕ) (outcome : Outcome) → IsCompactSurface mesh
         → IsMeshLoopsCall (Some mesh) sizes vertices old answers outcome → outcome.code ≡ codes.NOT_ORIENTABLE → IsOrientable mesh → ⊥ }
     ensures else_nothing { (held : Option FaceList) (sizes vertices old answers : List ℕ) (outcome : Outcome)
@@ -112,11 +113,11 @@ pub fn loops_tell_what_is_freely_homotopic()
 pub fn classes_tell_what_is_homotopic()
     ensures answers { (mesh : FaceList) (sizes vertices old classes : List ℕ) (outcome : Outcome)
         → IsMeshClassesCall (Some mesh) sizes vertices old classes outcome → outcome.code ≡ codes.DONE
-        → IsCompactSurface mesh × AreClasses mesh (walks_in sizes vertices) (take (length sizes) classes) }
+        → IsCompactSurface mesh × AreClasses mesh (walks_in_arrays sizes vertices) (take (length sizes) classes) }
     ensures alike { (mesh : FaceList) (sizes vertices old classes : List ℕ) (outcome : Outcome)
         → IsMeshClassesCall (Some mesh) sizes vertices old classes outcome → outcome.code ≡ codes.DONE
         → (i j : ℕ) → i < length sizes → j < length sizes → (slice_index classes i ≡ slice_index classes j)
-        ↔ AreInOneClass mesh (walk_at sizes vertices i) (walk_at sizes vertices j) }
+        ↔ AreInOneClass mesh (walk_in_arrays sizes vertices i) (walk_in_arrays sizes vertices j) }
     ensures else_nothing { (held : Option FaceList) (sizes vertices old classes : List ℕ) (outcome : Outcome)
         → IsMeshClassesCall held sizes vertices old classes outcome → outcome.code ≢ codes.DONE → classes ≡ old }
 {}
@@ -140,10 +141,10 @@ pub fn certify_shows_what_is_homotopic()
 pub fn verify_accepts_what_convinces()
     ensures convinces { (mesh : FaceList) (first second text : List ℕ) (outcome : Outcome)
         → IsVerifyCall (Ok mesh) first second text outcome → outcome.code ≡ codes.ACCEPTED
-        → AreWalks mesh first second × (shown : Certificate) × SpellsCertificate shown text × IsAccepted mesh first second shown }
+        → AreWalks mesh first second × (shown : Certificate) × SpellsCertificate shown text × CertificateHolds mesh first second shown }
     ensures accepted { (mesh : FaceList) (first second text : List ℕ) (outcome : Outcome) (shown : Certificate)
         → IsVerifyCall (Ok mesh) first second text outcome → AreWalks mesh first second → length text ≤ MOST_BYTES
-        → SpellsCertificate shown text → IsAccepted mesh first second shown
+        → SpellsCertificate shown text → CertificateHolds mesh first second shown
         → (outcome.code ≡ codes.ACCEPTED) ⊎ (outcome.code ≡ codes.NO_MEMORY) }
 {}
 

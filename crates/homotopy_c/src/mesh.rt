@@ -2,7 +2,7 @@
 ghost use Rattle.std.specs.Prelude.{◌≡◌, None, IfOk};
 ghost use Rattle.homotopy_arrays.specs.Compact.{IsCompactFault, IsCompactKept};
 ghost use Rattle.homotopy_arrays.specs.Decisions.{IsKept};
-ghost use Rattle.homotopy_arrays.specs.MeshArrays.{mesh_in, mesh_of};
+ghost use Rattle.homotopy_arrays.specs.MeshArrays.{mesh_in_arrays, mesh_from_arrays};
 ghost use Rattle.homotopy_arrays.specs.Surfaces.{EndsOn, IsSurfaceFault};
 ghost use Rattle.homotopy_c.specs.Kept.{IsAskedCall, IsMeshAnswersCall, IsMeshDecideCall, IsMeshNewAnyCall, IsMeshNewCall, TellsHeld};
 
@@ -26,7 +26,7 @@ pub extern "C" fn homotopy_mesh_new(
     mesh: &mut MeshHandle,
     outcome: &mut Outcome,
 )
-    ensures { IsMeshNewCall (mesh_of vertices sizes.now corners.now) mesh.old.kept mesh.new.kept outcome.new }
+    ensures { IsMeshNewCall (mesh_from_arrays vertices sizes.now corners.now) mesh.old.kept mesh.new.kept outcome.new }
 {
     let arrays = MeshArrays {
         vertices,
@@ -47,7 +47,7 @@ pub extern "C" fn homotopy_mesh_new_any(
     mesh: &mut MeshHandle,
     outcome: &mut Outcome,
 )
-    ensures { IsMeshNewAnyCall (mesh_of vertices sizes.now corners.now) mesh.old.kept mesh.new.kept outcome.new }
+    ensures { IsMeshNewAnyCall (mesh_from_arrays vertices sizes.now corners.now) mesh.old.kept mesh.new.kept outcome.new }
 {
     let arrays = MeshArrays {
         vertices,
@@ -83,7 +83,7 @@ pub extern "C" fn homotopy_mesh_free(alloc: Global, mesh: &mut MeshHandle)
 
 /// The orientable closed surface that the arrays are, on the heap; or what is first wrong.
 fn keep(alloc: Global, arrays: MeshArrays<'_>) -> Result<Box<KeptMesh>, Fault>
-    ensures { EndsOn (mesh_in arrays.entry) (λ mesh kept. IsKept mesh kept.value) IsSurfaceFault result }
+    ensures { EndsOn (mesh_in_arrays arrays.entry) (λ mesh kept. IsKept mesh kept.value) IsSurfaceFault result }
 {
     let kept = KeptMesh::of(alloc, arrays)?;
     Ok(on_heap(alloc, kept)?)
@@ -91,7 +91,7 @@ fn keep(alloc: Global, arrays: MeshArrays<'_>) -> Result<Box<KeptMesh>, Fault>
 
 /// The compact surface that the arrays are, on the heap; or what is first wrong.
 fn keep_any(alloc: Global, arrays: MeshArrays<'_>) -> Result<Box<KeptMesh>, Fault>
-    ensures { EndsOn (mesh_in arrays.entry) (λ mesh kept. IsCompactKept mesh kept.value) IsCompactFault result }
+    ensures { EndsOn (mesh_in_arrays arrays.entry) (λ mesh kept. IsCompactKept mesh kept.value) IsCompactFault result }
 {
     let kept = KeptMesh::of_any(alloc, arrays)?;
     Ok(on_heap(alloc, kept)?)

@@ -1,6 +1,6 @@
 //! How a call ended, as C sees it.
 ghost use Rattle.std.specs.Prelude.{◌≡◌, ℕ};
-ghost use Rattle.homotopy_c.specs.Outcomes.{byte_of, coded, loop_byte, told, told_walk, told_walks, walk_code};
+ghost use Rattle.homotopy_c.specs.Outcomes.{byte_of, coded, loop_byte, told_fault, told_walk, told_walks, walk_code};
 
 use crate::codes;
 use homotopy_arrays::{Fault, LoopAnswer, PairAnswer, WalkFault};
@@ -26,7 +26,7 @@ pub(crate) fn coded(code: u8, first: u64, second: u64, third: u64) -> Outcome
 
 /// The outcome that a fault is.
 pub(crate) fn told(fault: Fault) -> Outcome
-    ensures { result ≡ told fault }
+    ensures { result ≡ told_fault fault }
 {
     match fault {
         Fault::ManyVertices => coded(codes::MANY_VERTICES, 0, 0, 0),

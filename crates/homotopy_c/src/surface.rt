@@ -1,7 +1,7 @@
 //! The numbers of a surface.
 ghost use Rattle.std.specs.Prelude.{◌≡◌};
-ghost use Rattle.homotopy_arrays.specs.MeshArrays.{mesh_of};
-ghost use Rattle.homotopy_c.specs.Told.{IsSurfaceTold, numbers_of};
+ghost use Rattle.homotopy_arrays.specs.MeshArrays.{mesh_from_arrays};
+ghost use Rattle.homotopy_c.specs.Told.{IsSurfaceTold, surface_numbers_of};
 
 use crate::codes;
 use crate::outcome::{Outcome, coded, told};
@@ -36,7 +36,7 @@ pub extern "C" fn homotopy_surface(
     genera: &mut [u32],
     outcome: &mut Outcome,
 )
-    ensures { IsSurfaceTold (mesh_of vertices sizes.now corners.now) numbers.old numbers.new genera.old genera.new outcome.new }
+    ensures { IsSurfaceTold (mesh_from_arrays vertices sizes.now corners.now) numbers.old numbers.new genera.old genera.new outcome.new }
 {
     let mesh = MeshArrays {
         vertices,
@@ -54,7 +54,7 @@ pub extern "C" fn homotopy_surface(
 
 /// The numbers of a surface that was measured.
 fn numbers_of(measured: &Measured) -> SurfaceNumbers
-    ensures { result ≡ numbers_of measured.now }
+    ensures { result ≡ surface_numbers_of measured.now }
 {
     let numbers = measured.numbers;
     SurfaceNumbers {

@@ -1,6 +1,6 @@
 //! What comes of a certificate.
 ghost use Rattle.std.specs.Prelude.{◌≡◌};
-ghost use Rattle.homotopy_arrays.specs.MeshArrays.{mesh_of};
+ghost use Rattle.homotopy_arrays.specs.MeshArrays.{mesh_from_arrays};
 ghost use Rattle.homotopy_c.specs.Judged.{IsVerifyCall, judged, judged_denial, judged_labels, judged_moves, move_code, told_certificate, told_verify};
 
 use crate::codes;
@@ -24,7 +24,7 @@ pub extern "C" fn homotopy_verify(
     certificate: &[u8],
     outcome: &mut Outcome,
 )
-    ensures { IsVerifyCall (mesh_of vertices sizes.now corners.now) first.now second.now certificate.now outcome.new }
+    ensures { IsVerifyCall (mesh_from_arrays vertices sizes.now corners.now) first.now second.now certificate.now outcome.new }
 {
     let mesh = MeshArrays {
         vertices,

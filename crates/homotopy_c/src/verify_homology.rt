@@ -1,6 +1,6 @@
 //! What comes of numbers that are to show whether two walks are homologous.
 ghost use Rattle.std.specs.Prelude.{◌≡◌};
-ghost use Rattle.homotopy_arrays.specs.MeshArrays.{mesh_of};
+ghost use Rattle.homotopy_arrays.specs.MeshArrays.{mesh_from_arrays};
 ghost use Rattle.homotopy_c.specs.NumbersJudged.{IsVerifyHomologyCall, claim_of, judged_certificate, judged_numbers, told_verify_homology};
 
 use crate::codes;
@@ -26,7 +26,7 @@ pub extern "C" fn homotopy_verify_homology(
     numbers: &[i64],
     outcome: &mut Outcome,
 )
-    ensures { IsVerifyHomologyCall (mesh_of vertices sizes.now corners.now) first.now second.now answer numbers.now outcome.new }
+    ensures { IsVerifyHomologyCall (mesh_from_arrays vertices sizes.now corners.now) first.now second.now answer numbers.now outcome.new }
 {
     let Some(claim) = claim_of(answer) else {
         *outcome = coded(codes::UNKNOWN_ANSWER, u64::from(answer), 0, 0);

@@ -1,6 +1,6 @@
 -- Freely homotopic closed walks have one sum over the degree 4.
 use Rattle.joined_loops.proofs.Common.{step_keeps, IsClosedWalk, FreeStep, Moved, Rotated, after_free, after_all_free, FreelyHomotopic, spokes_of, sum_of_pairs, PutLaws, moves_keep, quad_path_in_pairs, quad_path_leads_to_sum, flat_wheel_of_good, IsGood, LabellingView, quad_path, in_pairs, IsWordOf, ◌≡◌, ℕ, arith, sym, ◌∙◌, ap, ap₂, List, [], ◌∷◌, ◌++◌, Some, option_and_then, ℤ, first_answer, FaceList, IsFaceList, apply_all}
-use Rattle.flat_forms.specs.FlatStates.{IsFlatWheel, IsEven, flat_next}
+use Rattle.flat_forms.specs.FlatStates.{IsFlatWheel, IsEvenPoint, flat_next}
 use Rattle.flat_forms.specs.Lemmas.FlatLaws.{flat_starts, flat_stays, flat_there_and_back, flat_across}
 use Rattle.flat_forms.specs.Vectors.{Vector, origin, plus, less, unit_step}
 use Rattle.std.proofs.lemmas.Int.{ints}
@@ -40,7 +40,7 @@ module _ (mesh : FaceList) (labelling : LabellingView) (valid : IsFaceList mesh)
   path-sum walk other =
       ap (λ q. sum (q ++ path other)) (sym (quad_path_in_pairs mesh labelling walk)) ∙ sum-append (in_pairs (path walk)) (path other)
 
-  laws : PutLaws labelling.places flat_next (λ _. IsFlatWheel labelling.places) IsEven
+  laws : PutLaws labelling.places flat_next (λ _. IsFlatWheel labelling.places) IsEvenPoint
   laws = record {
     stays = λ s i b l. flat_stays.belongs labelling.places s i b l;
     vertex = λ s i j b e l m. flat_stays.at_vertex labelling.places s i j b e l m;
@@ -52,7 +52,7 @@ module _ (mesh : FaceList) (labelling : LabellingView) (valid : IsFaceList mesh)
       sum (path walk) ≡ sum (path next)
   step-sum (Moved move) walk next closed e =
       sym (quad_path_leads_to_sum mesh labelling walk)
-      ∙ moves_keep mesh labelling flat_next (λ _. IsFlatWheel labelling.places) IsEven laws valid good (move ∷ []) walk next
+      ∙ moves_keep mesh labelling flat_next (λ _. IsFlatWheel labelling.places) IsEvenPoint laws valid good (move ∷ []) walk next
       closed.is_walk (ap (option_and_then (λ w. apply_all mesh w [])) e) origin
       (flat_wheel_of_good mesh labelling good four, flat_starts.at_vertex)
       ∙ quad_path_leads_to_sum mesh labelling next

@@ -1,14 +1,14 @@
 -- What proofs of this crate cite of its definitions and of other crates, passed on from one place (by tools/imports). Declares nothing.
 pub use Rattle.flat_forms.specs.FlatStates.{IsFlatWheel, flat_next}
 pub use Rattle.flat_forms.specs.Vectors.{Vector, origin}
-pub use Rattle.labellings.specs.DenialVerdicts.{FirstIsRight, IsFirstWrong, IsVerdict, SecondIsRight}
+pub use Rattle.labellings.specs.DenialVerdicts.{FirstIsRight, IsDenialVerdict, IsFirstWrong, SecondIsRight}
 pub use Rattle.labellings.specs.GoodLabellings.{EdgeMeetsRule, HasDegree, HasPlaces, HasShape, IsGood, MeetsSomeRule, SidesMeetRule}
-pub use Rattle.labellings.specs.LabelFaults.{FitsFace, IsFirstFault, IsLeastAgainstRules}
+pub use Rattle.labellings.specs.LabelFaults.{FitsFace, IsFirstLabelFault, IsLeastAgainstRules}
 pub use Rattle.labellings.specs.Labellings.{FaceLabels, LabellingView, head_label, label_at, labels_at, signs_of, tail_label}
 pub use Rattle.labellings.specs.QuadPaths.{quad_path, spokes, spokes_by_labels, spokes_of_sides}
 unfoldable pub use Rattle.labellings.specs.QuadPaths.{side_from}
 pub use Rattle.labellings.specs.Spokes.{spoke_list}
-pub use Rattle.labellings.specs.TableRules.{EntryMeetsRule, IsFirstAgainst}
+pub use Rattle.labellings.specs.TableRules.{EntryMeetsRule, IsFirstAgainstRules}
 pub use Rattle.labellings.specs.WalkWords.{IsWordOf, in_pairs}
 pub use Rattle.labellings.specs.declared.denial.Denial.{Denial}
 pub use Rattle.labellings.specs.declared.fault.LabelFault.{LabelFault}
@@ -44,4 +44,4 @@ pub use Rattle.turn_words.specs.SpokePaths.{turn_word_of}
 pub use Rattle.turn_words.specs.Wheels.{IsFirstTwice, IsWheel}
 pub use Rattle.turn_words.specs.declared.word.Word.{Word}
 pub use Rattle.turn_words.specs.declared.word.Word.TheVariants.{Flat, Turns}
-pub use Rattle.walk_actions.specs.Actions.{IsEdge, beyond, run, walked}
+pub use Rattle.walk_actions.specs.Actions.{IsEdge, run, vertices_beyond, walked}

@@ -1,5 +1,5 @@
 -- An edge meets a rule exactly where its entry in the table of the mesh has two sides that do.
-use Rattle.labellings.proofs.Common.{MeetsSomeRule, SidesMeetRule, EdgeMeetsRule, IsLeastAgainstRules, LabellingView, EntryMeetsRule, IsFirstAgainst, ◌≡◌, ◌≢◌, ◌⊎◌, inl, inr, ℕ, zero, suc, ◌<◌, List, [], ◌∷◌, length, get_or, sym, ◌∙◌, subst, arith, Contains, IsTrue, HasSideEnds, side_of_edge, edge_has_side, partners_of_edge, ends_agree, IsEdgeBetween, edge_between, table_pair, sides_of_edge, sides_between_swap, same_pair, place_before, Edge, IsTableOf, IsEdgeOf, IsPairBefore, edge_in, FaceList, is_edge, ArePartners, Side}
+use Rattle.labellings.proofs.Common.{MeetsSomeRule, SidesMeetRule, EdgeMeetsRule, IsLeastAgainstRules, LabellingView, EntryMeetsRule, IsFirstAgainstRules, ◌≡◌, ◌≢◌, ◌⊎◌, inl, inr, ℕ, zero, suc, ◌<◌, List, [], ◌∷◌, length, get_or, sym, ◌∙◌, subst, arith, Contains, IsTrue, HasSideEnds, side_of_edge, edge_has_side, partners_of_edge, ends_agree, IsEdgeBetween, edge_between, table_pair, sides_of_edge, sides_between_swap, same_pair, place_before, Edge, IsTableOf, IsEdgeOf, IsPairBefore, edge_in, FaceList, is_edge, ArePartners, Side}
 
 -- the rules may be read from either side
 rule-swap : (places : List ℕ) (a b c d : ℕ) → MeetsSomeRule places a b c d → MeetsSomeRule places c d a b
@@ -81,7 +81,7 @@ each-edge mesh table labelling h all u v is =
 
 -- the first edge of the table against the rules is the least
 pub least-against : (mesh : FaceList) (table : List Edge) (labelling : LabellingView) (k : ℕ) → IsTableOf mesh table
-    → IsFirstAgainst mesh table labelling k →
+    → IsFirstAgainstRules mesh table labelling k →
     IsLeastAgainstRules mesh labelling (edge_in table k).low (edge_in table k).high
 least-against mesh table labelling k h first =
     let edge : Edge = edge_in table k in

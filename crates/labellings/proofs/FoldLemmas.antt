@@ -1,6 +1,6 @@
 -- The spokes of a dart act on the states of a form that meets the laws of puts, and once round a face they change nothing: a side puts the
 -- label at its tail and then the one at its head, so round a face the labels telescope.
-use Rattle.labellings.proofs.Common.{IsGood, MeetsSomeRule, LabellingView, signs_of, label_at, tail_label, head_label, spokes, spokes_by_labels, quad_path, ◌≡◌, inl, inr, ℕ, zero, suc, ◌<◌, Bool, true, false, ◌&&◌, eqb, List, [], ◌∷◌, ◌++◌, length, get_or, refl, ap, sym, ◌∙◌, subst, arith, append_assoc, cases_Bool, eqb-true, and_parts, cond, step_within, IsSide, side_after, tail_of, head_of, FaceList, IsFaceList, face_at, next_corner, corners_from, start_under, end_under, is_flipped, Side, IsQuad, led, add, walked, run as run_from, beyond}
+use Rattle.labellings.proofs.Common.{IsGood, MeetsSomeRule, LabellingView, signs_of, label_at, tail_label, head_label, spokes, spokes_by_labels, quad_path, ◌≡◌, inl, inr, ℕ, zero, suc, ◌<◌, Bool, true, false, ◌&&◌, eqb, List, [], ◌∷◌, ◌++◌, length, get_or, refl, ap, sym, ◌∙◌, subst, arith, append_assoc, cases_Bool, eqb-true, and_parts, cond, step_within, IsSide, side_after, tail_of, head_of, FaceList, IsFaceList, face_at, next_corner, corners_from, start_under, end_under, is_flipped, Side, IsQuad, led, add, walked, run as run_from, vertices_beyond}
 use Rattle.surf_model.proofs.RoundLemmas.{corner_after}
 use Rattle.walk_actions.proofs.Corners.{once_round}
 use Rattle.walk_actions.proofs.Runs.{walked-round}
@@ -185,7 +185,7 @@ module _ {State : Type 0} (mesh : FaceList) (labelling : LabellingView) (next : 
 
     -- round a face the labels telescope
     round_face : (f t k : ℕ) → f < length mesh.faces → t < length (face_at mesh f) → (s : State) → Belongs s → IsAtVertex s
-        → run_from (spoked mesh labelling next) s (get_or (face_at mesh f) t 0) (beyond (face_at mesh f) true t k)
+        → run_from (spoked mesh labelling next) s (get_or (face_at mesh f) t 0) (vertices_beyond (face_at mesh f) true t k)
         ≡ pair labelling.places next s (label_at labelling (corner_at f t))
         (label_at labelling (corner_at f (corner_after true (length (face_at mesh f)) t k)))
     round_face f t zero l m s b v =
@@ -200,7 +200,7 @@ module _ {State : Type 0} (mesh : FaceList) (labelling : LabellingView) (next : 
         let j : ℕ = label_at labelling (corner_at f next_t) in
         let i_in : i < length places = label_within mesh labelling good (corner_at f t) (record { face = l; place = m }) in
         let j_in : j < length places = label_within mesh labelling good (corner_at f next_t) (record { face = l; place = next_in }) in
-        ap (λ x. run_from (spoked mesh labelling next) x (get_or ring next_t 0) (beyond ring true next_t k))
+        ap (λ x. run_from (spoked mesh labelling next) x (get_or ring next_t 0) (vertices_beyond ring true next_t k))
         (side_forward (corner_at f t) (record { face = l; place = m }) s b v)
         ∙ round_face f next_t k l next_in (pair places next s i j) (pair_belongs places next Belongs IsAtVertex laws s i j b i_in j_in)
         (laws.vertex s i j b v i_in j_in)

@@ -1,5 +1,5 @@
 -- The word of a walk is one, and what a denial that holds excludes.
-use Rattle.labellings.proofs.Common.{FirstIsRight, SecondIsRight, IsFirstWrong, IsVerdict, IsGood, HasPlaces, IsFirstFault, IsLeastAgainstRules, LabellingView, IsWordOf, Denial, LabelFault, Shape, Degree, PlaceTwice, EdgeRule, OutOfMemory, DenialVerdict, Label, WordWrong, Equal, Accepted, ◌≡◌, ◌⊎◌, inl, inr, ℕ, ◌<◌, Bool, List, length, refl, sym, ap, ◌∙◌, arith, ◌↔◌, IsTrue, IsPairBefore, FaceList, IsFaceList, IsWalk, IsFirstTwice, Word}
+use Rattle.labellings.proofs.Common.{FirstIsRight, SecondIsRight, IsFirstWrong, IsDenialVerdict, IsGood, HasPlaces, IsFirstLabelFault, IsLeastAgainstRules, LabellingView, IsWordOf, Denial, LabelFault, Shape, Degree, PlaceTwice, EdgeRule, OutOfMemory, DenialVerdict, Label, WordWrong, Equal, Accepted, ◌≡◌, ◌⊎◌, inl, inr, ℕ, ◌<◌, Bool, List, length, refl, sym, ap, ◌∙◌, arith, ◌↔◌, IsTrue, IsPairBefore, FaceList, IsFaceList, IsWalk, IsFirstTwice, Word}
 use Rattle.labellings.proofs.WalkWordLemmas.{one_word_of_homotopic}
 
 -- a walk has one word
@@ -43,8 +43,8 @@ least_edge mesh labelling a b c d f g = elim (compared a b c d) [
     compared : (a b c d : ℕ) → (IsPairBefore a b c d ⊎ IsPairBefore c d a b) ⊎ ((a ≡ c) × (b ≡ d))
     compared a b c d = grind arith
 
-one_fault : (mesh : FaceList) (labelling : LabellingView) (f g : LabelFault) → IsFirstFault mesh labelling f
-    → IsFirstFault mesh labelling g → f ≡ g
+one_fault : (mesh : FaceList) (labelling : LabellingView) (f g : LabelFault) → IsFirstLabelFault mesh labelling f
+    → IsFirstLabelFault mesh labelling g → f ≡ g
 one_fault mesh labelling Shape Shape p q = refl
 one_fault mesh labelling Shape (Degree n) p q = absurd (p q.0)
 one_fault mesh labelling Shape (PlaceTwice n) p q = absurd (p q.0)
@@ -65,7 +65,7 @@ one_fault mesh labelling OutOfMemory g p q = absurd p
 one_fault mesh labelling f OutOfMemory p q = absurd q
 
 -- a labelling with a fault is not good
-fault_excludes : (mesh : FaceList) (labelling : LabellingView) (fault : LabelFault) → IsFirstFault mesh labelling fault
+fault_excludes : (mesh : FaceList) (labelling : LabellingView) (fault : LabelFault) → IsFirstLabelFault mesh labelling fault
     → IsGood mesh labelling → ⊥
 fault_excludes mesh labelling Shape p good = p good.shape
 fault_excludes mesh labelling (Degree n) p good = p.1 good.degree
@@ -86,8 +86,9 @@ right_excludes : (mesh : FaceList) (first second : List ℕ) (denial : Denial) (
 right_excludes mesh first second denial k (inl p) f s = p.1 f
 right_excludes mesh first second denial k (inr p) f s = p.2 s
 
-pub one_verdict : (mesh : FaceList) (first second : List ℕ) (denial : Denial) (v w : DenialVerdict) → IsVerdict mesh first second denial v
-    → IsVerdict mesh first second denial w → v ≡ w
+pub one_verdict : (mesh : FaceList) (first second : List ℕ) (denial : Denial) (v w : DenialVerdict)
+    → IsDenialVerdict mesh first second denial v
+    → IsDenialVerdict mesh first second denial w → v ≡ w
 one_verdict mesh first second denial (Label f) (Label g) p q = ap Label (one_fault mesh denial.labelling f g p q)
 one_verdict mesh first second denial (Label f) (WordWrong m) p q = absurd (fault_excludes mesh denial.labelling f p q.0)
 one_verdict mesh first second denial (Label f) Equal p q = absurd (fault_excludes mesh denial.labelling f p q.0)

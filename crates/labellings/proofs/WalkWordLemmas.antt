@@ -116,14 +116,14 @@ one_point : (mesh : FaceList) (labelling : LabellingView) (first second : List �
     → sum_of_pairs (in_pairs (quad_path mesh labelling first)) ≡ sum_of_pairs (in_pairs (quad_path mesh labelling second))
 one_point mesh labelling first second valid good walk homotopic four =
     let places : List ℕ = labelling.places in
-    let laws : PutLaws places flat_next (λ _. IsFlatWheel places) flat.IsEven = record {
+    let laws : PutLaws places flat_next (λ _. IsFlatWheel places) flat.IsEvenPoint = record {
       stays = λ x i b l. flat_stays.belongs places x i b l;
       vertex = λ x i j b e l m. flat_stays.at_vertex places x i j b e l m;
       back = λ x i b l. flat_there_and_back places x i b l;
       quad = λ x a d b e q. flat_across places x a d b e q;
     } in
     sym (quad_path_leads_to_sum mesh labelling first)
-    ∙ moves_keep mesh labelling flat_next (λ _. IsFlatWheel places) flat.IsEven laws valid good homotopic.0 first second walk
+    ∙ moves_keep mesh labelling flat_next (λ _. IsFlatWheel places) flat.IsEvenPoint laws valid good homotopic.0 first second walk
     homotopic.1 origin
     (flat_wheel_of_good mesh labelling good four, flat_starts.at_vertex)
     ∙ quad_path_leads_to_sum mesh labelling second

@@ -2,7 +2,7 @@
 use Rattle.std.specs.Prelude.{◌≡◌, ◌⊎◌, ℕ, List}
 use Rattle.surf_model.specs.FaceLists.{FaceList}
 use Rattle.labellings.specs.GoodLabellings.{IsGood}
-use Rattle.labellings.specs.LabelFaults.{IsFirstFault}
+use Rattle.labellings.specs.LabelFaults.{IsFirstLabelFault}
 use Rattle.labellings.specs.WalkWords.{IsWordOf}
 use Rattle.labellings.specs.Denials.{DenialHolds}
 use Rattle.labellings.specs.declared.denial.Denial.{Denial}
@@ -24,9 +24,9 @@ IsFirstWrong mesh first second denial walk =
     ⊎ ((walk ≡ 2) × FirstIsRight mesh first denial × (SecondIsRight mesh second denial → ⊥))
 
 -- The first that holds: a rule of good labellings fails, the word of a walk is wrong, both are right and equal, or the denial holds.
-abbrev pub IsVerdict : FaceList → List ℕ → List ℕ → Denial → DenialVerdict → Type 0
-IsVerdict mesh first second denial (Label fault) = IsFirstFault mesh denial.labelling fault
-IsVerdict mesh first second denial (WordWrong walk) = IsGood mesh denial.labelling × IsFirstWrong mesh first second denial walk
-IsVerdict mesh first second denial Equal =
+abbrev pub IsDenialVerdict : FaceList → List ℕ → List ℕ → Denial → DenialVerdict → Type 0
+IsDenialVerdict mesh first second denial (Label fault) = IsFirstLabelFault mesh denial.labelling fault
+IsDenialVerdict mesh first second denial (WordWrong walk) = IsGood mesh denial.labelling × IsFirstWrong mesh first second denial walk
+IsDenialVerdict mesh first second denial Equal =
     IsGood mesh denial.labelling × FirstIsRight mesh first denial × SecondIsRight mesh second denial × (denial.first ≡ denial.second)
-IsVerdict mesh first second denial Accepted = DenialHolds mesh first second denial
+IsDenialVerdict mesh first second denial Accepted = DenialHolds mesh first second denial

@@ -21,10 +21,10 @@ pub record IsLeastAgainstRules (mesh : FaceList) (labelling : LabellingView) (lo
   pub least : (a b : ℕ) → a < b → IsTrue (is_edge mesh a b) → IsPairBefore a b low high → EdgeMeetsRule mesh labelling a b
 
 -- the first rule that fails, where those before it hold
-abbrev pub IsFirstFault : FaceList → LabellingView → LabelFault → Type 0
-IsFirstFault mesh labelling Shape = HasShape mesh labelling → ⊥
-IsFirstFault mesh labelling (Degree degree) = HasShape mesh labelling × (HasDegree labelling → ⊥) × (degree ≡ labelling.degree)
-IsFirstFault mesh labelling (PlaceTwice place) = HasShape mesh labelling × HasDegree labelling × IsFirstTwice labelling.places place
-IsFirstFault mesh labelling (EdgeRule low high) =
+abbrev pub IsFirstLabelFault : FaceList → LabellingView → LabelFault → Type 0
+IsFirstLabelFault mesh labelling Shape = HasShape mesh labelling → ⊥
+IsFirstLabelFault mesh labelling (Degree degree) = HasShape mesh labelling × (HasDegree labelling → ⊥) × (degree ≡ labelling.degree)
+IsFirstLabelFault mesh labelling (PlaceTwice place) = HasShape mesh labelling × HasDegree labelling × IsFirstTwice labelling.places place
+IsFirstLabelFault mesh labelling (EdgeRule low high) =
     HasShape mesh labelling × HasDegree labelling × HasPlaces labelling × IsLeastAgainstRules mesh labelling low.0 high.0
-IsFirstFault mesh labelling OutOfMemory = ⊥
+IsFirstLabelFault mesh labelling OutOfMemory = ⊥

@@ -13,7 +13,7 @@ abbrev pub EntryMeetsRule : FaceList → List Edge → LabellingView → ℕ →
 EntryMeetsRule mesh table labelling k = EdgeMeetsRule mesh labelling (edge_in table k).low (edge_in table k).high
 
 -- the first edge of the table that meets no rule
-pub record IsFirstAgainst (mesh : FaceList) (table : List Edge) (labelling : LabellingView) (k : ℕ) : Type 0 where
+pub record IsFirstAgainstRules (mesh : FaceList) (table : List Edge) (labelling : LabellingView) (k : ℕ) : Type 0 where
   pub in_table : k < length table
   pub against : EntryMeetsRule mesh table labelling k → ⊥
   pub first : (j : ℕ) → j < k → EntryMeetsRule mesh table labelling j

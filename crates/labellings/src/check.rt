@@ -2,8 +2,8 @@
 ghost use Rattle.std.specs.Prelude.{◌≡◌, ◌⊎◌, ℕ, ◌<◌, ◌↔◌, All, length, IsTrue, IfOk, OnOk, IfErr, IfSome, IfNone};
 ghost use Rattle.surf_model.specs.Edges.{IsTableOf, edge_in};
 ghost use Rattle.labellings.specs.GoodLabellings.{HasShape, HasPlaces, IsGood};
-ghost use Rattle.labellings.specs.LabelFaults.{IsFirstFault};
-ghost use Rattle.labellings.specs.TableRules.{EntryMeetsRule, IsFirstAgainst, IsPlaceFault};
+ghost use Rattle.labellings.specs.LabelFaults.{IsFirstLabelFault};
+ghost use Rattle.labellings.specs.TableRules.{EntryMeetsRule, IsFirstAgainstRules, IsPlaceFault};
 
 use crate::fault::LabelFault;
 use crate::good::GoodLabelling;
@@ -25,7 +25,7 @@ pub fn check_labelling(
     requires { IsTableOf faces.now sides.now }
     ensures labelling { IfOk result (λ good. good ≡ labelling) }
     ensures good { OnOk result (IsGood faces.now labelling) }
-    ensures fault { IfErr result (λ fault. (fault ≡ LabelFault.OutOfMemory) ⊎ IsFirstFault faces.now labelling fault) }
+    ensures fault { IfErr result (λ fault. (fault ≡ LabelFault.OutOfMemory) ⊎ IsFirstLabelFault faces.now labelling fault) }
     // A good labelling is refused for want of memory alone.
     ensures accepted { IsGood faces.now labelling → IfErr result (λ fault. fault ≡ LabelFault.OutOfMemory) }
 {
@@ -66,7 +66,7 @@ fn wheel_of(alloc: Global, labelling: &Labelling) -> Result<Wheel, LabelFault>
 fn first_against(faces: &Faces, sides: &Sides, labelling: &Labelling) -> Option<EdgeName>
     requires table { IsTableOf faces.now sides.now }
     requires shape { HasShape faces.now labelling.now }
-    ensures some { IfSome result (λ edge. IsFirstAgainst faces.now sides.now labelling.now edge.0) }
+    ensures some { IfSome result (λ edge. IsFirstAgainstRules faces.now sides.now labelling.now edge.0) }
     ensures none { IfNone result ((k : ℕ) → k < length sides.now → EntryMeetsRule faces.now sides.now labelling.now k) }
 {
     for edge in 0..sides.len() {

@@ -4,7 +4,7 @@ ghost use Rattle.surf_model.specs.Edges.{IsTableOf};
 ghost use Rattle.surf_model.specs.Walks.{IsWalk};
 ghost use Rattle.labellings.specs.GoodLabellings.{IsGood};
 ghost use Rattle.labellings.specs.WalkWords.{IsWordOf};
-ghost use Rattle.labellings.specs.DenialVerdicts.{IsVerdict};
+ghost use Rattle.labellings.specs.DenialVerdicts.{IsDenialVerdict};
 ghost use Rattle.labellings.specs.declared.verdict.DenialVerdict.{DenialVerdict};
 
 use crate::check::check_labelling;
@@ -43,9 +43,9 @@ pub fn check_denial(
     requires table { IsTableOf faces.now sides.now }
     requires first { IsWalk faces.now first.now }
     requires second { IsWalk faces.now second.now }
-    ensures verdict { IfOk result (IsVerdict faces.now first.now second.now denial) }
+    ensures verdict { IfOk result (IsDenialVerdict faces.now first.now second.now denial) }
     // So each verdict comes exactly where it is the first: a denial that holds is accepted.
-    ensures exact { (verdict : DenialVerdict) → IsVerdict faces.now first.now second.now denial verdict
+    ensures exact { (verdict : DenialVerdict) → IsDenialVerdict faces.now first.now second.now denial verdict
         → IfOk result (λ given. given ≡ verdict) }
 {
     let Denial {

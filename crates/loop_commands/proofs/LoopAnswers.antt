@@ -2,9 +2,9 @@
 use Rattle.loop_commands.proofs.Common.{IsClosedWalk, FreelyHomotopic, IsSound, IsYesOrNo, sound-decided_by, sound-then, Check, Outcome, IsAnswerOf, Status, Freely, NotFreely, free_status, free_line, free_answer, freely_decided, loops, ◌≡◌, ◌⊎◌, inl, inr, ℕ, List, [], length, get_or, refl, sym, ap, ◌∙◌, subst, Option, Some, slice_get, Files, FaceList, sound-surface_in, IsClosedPair}
 use Rattle.commands.proofs.RightAnswers.{IsRightLine, right_line}
 use Rattle.commands.specs.Answers.{Answer}
-use Rattle.commands.specs.Inputs.{walk_at}
 use Rattle.free_loops.specs.declared.deciding.FreeAnswer.{FreeAnswer}
 use Rattle.std.proofs.lemmas.Option.{get_or_from_slice_get}
+use Rattle.surf_model.specs.Walks.{walk_at}
 use Rattle.loop_commands.proofs.LoopChecks.{sound-loops_in}
 
 -- ---- a decision

@@ -11,7 +11,8 @@ use Rattle.free_loops.specs.declared.deciding.FreeAnswer.{FreeAnswer}
 use Rattle.free_loops.specs.declared.deciding.FreeAnswer.TheVariants.{Freely, NotFreely}
 use Rattle.commands.specs.Answers.{Answer, Texts, Exactly}
 use Rattle.commands.specs.Checks.{Check, decided_by, ◌>>=◌}
-use Rattle.commands.specs.Inputs.{IsInputOnSurface, walk_at, walks_unless}
+use Rattle.commands.specs.Inputs.{IsInputOnSurface, walks_unless}
+use Rattle.surf_model.specs.Walks.{walk_at}
 use Rattle.commands.specs.Lines.{line}
 use Rattle.commands.specs.Refusals.{told, told_at_place}
 use Rattle.surface_commands.specs.SurfaceInput.{surface_in}

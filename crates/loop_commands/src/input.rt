@@ -4,7 +4,7 @@ ghost use Rattle.surf_model.specs.FaceLists.{FaceList};
 ghost use Rattle.surf_model.specs.Edges.{IsTableOf};
 ghost use Rattle.walk_files.specs.ClosedPairs.{IsClosedPair};
 ghost use Rattle.commands.specs.Checks.{Passes};
-ghost use Rattle.commands.specs.Stops.{Reads, Stops, Tells};
+ghost use Rattle.commands.specs.Stops.{EndsReading, Stops, Tells};
 ghost use Rattle.loop_commands.specs.Loops.{loops_in, loops_line};
 
 use commands::{Phrase, Stop, read_list, refused, refused_at_place};
@@ -20,7 +20,7 @@ pub fn read_loops<S: Shelf>(
     name: &str,
     sides: &Sides,
 ) -> Result<WalkList, Stop>
-    ensures reads { Reads S.held S.faults shelf.old shelf.new
+    ensures reads { EndsReading S.held S.faults shelf.old shelf.new
         (λ files. (mesh : FaceList) → IsTableOf mesh sides.now
         → MatchResult result (λ list. Passes (loops_in files name.now mesh) list.walks) (Stops (loops_in files name.now mesh))) result }
     ensures loops { IfOk result (λ list. (mesh : FaceList) → IsTableOf mesh sides.now → IsClosedPair mesh list.walks) }

@@ -35,7 +35,7 @@ pub use Rattle.surf_model.specs.FaceLists.{FaceList, FaceSide, HasFileSize, IsFa
 unfoldable pub use Rattle.surf_model.specs.FaceLists.{all_sides}
 pub use Rattle.surf_model.specs.Genera.{AreNumbersOf}
 pub use Rattle.surf_model.specs.Parts.{EndsRise, parts}
-pub use Rattle.surf_model.specs.Submeshes.{renamed_move, renamed_moves, signs_among, submesh}
+pub use Rattle.surf_model.specs.Submeshes.{move_of_whole_mesh, renamed_moves, signs_among, submesh}
 pub use Rattle.surf_model.specs.Surfaces.{AreJoined, AreJoinedByWalk, ArePartners, EachEdgeHasTwoSides, HasOneRing, IsClosed, IsClosedManifold, IsCoherent, IsCornerOfSide, IsPath, IsStepAround, IsWalkBetween, RunOppositely, end_under, is_flipped, sides_between, start_under}
 pub use Rattle.surf_model.specs.Walks.{IsWalk, darts}
 pub use Rattle.surf_model.specs.declared.edges.Side.{Side}

@@ -1,16 +1,16 @@
 -- Moves of a part of a mesh that no edge joins to the rest: on its own faces, and on those of the whole mesh.
-use Rattle.manifold_check.proofs.Common.{◌≡◌, ◌↔◌, ℕ, ◌+◌, ◌-◌, ◌<◌, ◌≤◌, Bool, List, [], ◌∷◌, ◌++◌, length, get_or, refl, ap, sym, ◌∙◌, subst, arith, common_steps, max, not, Some, FaceList, face_at, corners_from, submesh, renamed_move, renamed_moves, IsWalk, darts}
+use Rattle.manifold_check.proofs.Common.{◌≡◌, ◌↔◌, ℕ, ◌+◌, ◌-◌, ◌<◌, ◌≤◌, Bool, List, [], ◌∷◌, ◌++◌, length, get_or, refl, ap, sym, ◌∙◌, subst, arith, common_steps, max, not, Some, FaceList, face_at, corners_from, submesh, move_of_whole_mesh, renamed_moves, IsWalk, darts}
 use Rattle.surf_model.proofs.ContextLemmas.{first_answer, stays_walk}
 use Rattle.surf_model.proofs.ReplacementLemmas.{by_replacing}
 use Rattle.surf_model.proofs.RoundLemmas.{first_corner}
 use Rattle.surf_model.proofs.WayBackLemmas.{keeps_walk, keeps_ends}
 use Rattle.surf_model.specs.Moves.{apply, apply_all, Leads, Homotopic, greatest_darts}
-use Rattle.surf_model.specs.Replacements.{Replaces, place_of}
+use Rattle.surf_model.specs.Replacements.{Replaces, place_of_move}
 use Rattle.surf_model.specs.declared.moves.Move.{Move}
 use Rattle.surf_model.specs.declared.moves.Move.TheVariants.{Insert, Remove, Across}
 use Rattle.manifold_check.proofs.PieceLemmas.{IsPiece, HasPlaceAmong, length-submesh, face-submesh, edge_up, edge_down, walk_inside}
 
-place_renamed : (names : List ℕ) (move : Move) → place_of (renamed_move names move) ≡ place_of move
+place_renamed : (names : List ℕ) (move : Move) → place_of_move (move_of_whole_mesh names move) ≡ place_of_move move
 place_renamed names (Insert at via) = refl
 place_renamed names (Remove at via) = refl
 place_renamed names (Across at face corner forward taken) = refl
@@ -22,17 +22,17 @@ RoundsRing forward corner taken part other ring =
     × (other ≡ corners_from ring (not forward) corner (length ring - taken))
 
 replaces_up : (mesh : FaceList) (Inside : ℕ → Type 0) (names : List ℕ) (move : Move) (part other : List ℕ) → IsPiece mesh Inside names
-    → Replaces (submesh mesh names) move part other → Replaces mesh (renamed_move names move) part other
+    → Replaces (submesh mesh names) move part other → Replaces mesh (move_of_whole_mesh names move) part other
 replaces_up mesh Inside names (Insert at via) part other h r = (r.0, edge_up mesh Inside names r.0 via.0 h r.1, r.2, r.3)
 replaces_up mesh Inside names (Remove at via) part other h r = r
 replaces_up mesh Inside names (Across at face corner forward taken) part other h r = grind (arith, length-submesh, face-submesh)
 
 -- a move of the submesh does the same on the whole mesh, once its face is named as there
 pub move_up : (mesh : FaceList) (Inside : ℕ → Type 0) (names walk next : List ℕ) (move : Move) → IsPiece mesh Inside names
-    → 0 < length walk → apply (submesh mesh names) walk move ≡ Some next → apply mesh walk (renamed_move names move) ≡ Some next
+    → 0 < length walk → apply (submesh mesh names) walk move ≡ Some next → apply mesh walk (move_of_whole_mesh names move) ≡ Some next
 move_up mesh Inside names walk next move h start e =
     let r = (by_replacing (submesh mesh names) walk next move start).0 e in
-    (by_replacing mesh walk next (renamed_move names move) start).1 (record {
+    (by_replacing mesh walk next (move_of_whole_mesh names move) start).1 (record {
       before = r.before;
       part = r.part;
       other = r.other;
@@ -51,13 +51,13 @@ entry_at walk before part after rest a is starts = grind (arith, common_steps)
 -- a move that is one of the submesh
 pub record ComesFromMove (mesh : FaceList) (names walk : List ℕ) (move : Move) (next : List ℕ) : Type 0 where
   pub move_there : Move
-  pub is : renamed_move names move_there ≡ move
+  pub is : move_of_whole_mesh names move_there ≡ move
   pub applies : apply (submesh mesh names) walk move_there ≡ Some next
 
 -- the same of what it replaces
 record Narrowed (mesh : FaceList) (names : List ℕ) (move : Move) (part other : List ℕ) : Type 0 where
   move_there : Move
-  is : renamed_move names move_there ≡ move
+  is : move_of_whole_mesh names move_there ≡ move
   replaces : Replaces (submesh mesh names) move_there part other
 
 replaces_down : (mesh : FaceList) (Inside : ℕ → Type 0) (names : List ℕ) (move : Move) (part other : List ℕ) → IsPiece mesh Inside names
@@ -102,7 +102,7 @@ move_down mesh Inside names walk next move h w start e =
         after = r.after;
         walk_is = r.walk_is;
         next_is = r.next_is;
-        place = r.place ∙ ap place_of (sym found.is) ∙ place_renamed names found.move_there;
+        place = r.place ∙ ap place_of_move (sym found.is) ∙ place_renamed names found.move_there;
         replaces = found.replaces;
       });
     }
@@ -169,5 +169,5 @@ greatest_alike mesh Inside names (move ∷ moves) walk next h start e =
     let one = move_up mesh Inside names walk told.0 move h start told.1 in
     let more = greatest_alike mesh Inside names moves told.0 next h
     (stays_walk (submesh mesh names) walk told.0 move start told.1) told.2 in
-    darts_more mesh walk told.0 (renamed_move names move) (renamed_moves names moves) one ∙ ap (max (darts walk)) more
+    darts_more mesh walk told.0 (move_of_whole_mesh names move) (renamed_moves names moves) one ∙ ap (max (darts walk)) more
     ∙ sym (darts_more (submesh mesh names) walk told.0 move moves told.1)

@@ -15,26 +15,26 @@ use Rattle.move_checker.specs.declared.judge.Verdict.TheVariants.{Accepted, Peak
 abbrev pub vertex : ℕ → VertexName
 vertex v = record { 0 = v }
 
-abbrev pub across : ℕ → ℕ → ℕ → Bool → ℕ → Move
-across at face corner forward taken = Across at (record { 0 = face }) corner forward taken
+abbrev pub across_move : ℕ → ℕ → ℕ → Bool → ℕ → Move
+across_move at face corner forward taken = Across at (record { 0 = face }) corner forward taken
 
 -- a step of the tetrahedron under a peak
 abbrev pub on_tetrahedron : ℕ → List ℕ → Move → Result (List ℕ) MoveFault
 on_tetrahedron peak walk move = step_of tetrahedron peak walk move
 
-pub two_sides_for_one : on_tetrahedron 2 (0 ∷ 1 ∷ 2 ∷ []) (across 0 0 0 true 2) ≡ Ok (0 ∷ 2 ∷ [])
+pub two_sides_for_one : on_tetrahedron 2 (0 ∷ 1 ∷ 2 ∷ []) (across_move 0 0 0 true 2) ≡ Ok (0 ∷ 2 ∷ [])
 unfolding step_of refusal apply
 two_sides_for_one = refl
 
-pub the_face_read_backward : on_tetrahedron 2 (0 ∷ 1 ∷ 2 ∷ []) (across 0 0 0 false 2) ≡ Err NotOnFace
+pub the_face_read_backward : on_tetrahedron 2 (0 ∷ 1 ∷ 2 ∷ []) (across_move 0 0 0 false 2) ≡ Err NotOnFace
 unfolding step_of refusal apply
 the_face_read_backward = refl
 
-pub place_before_face : on_tetrahedron 2 (0 ∷ 1 ∷ 2 ∷ []) (across 1 0 1 true 2) ≡ Err Place
+pub place_before_face : on_tetrahedron 2 (0 ∷ 1 ∷ 2 ∷ []) (across_move 1 0 1 true 2) ≡ Err Place
 unfolding step_of refusal apply
 place_before_face = refl
 
-pub no_such_face : on_tetrahedron 2 (0 ∷ 1 ∷ 2 ∷ []) (across 0 4 0 true 2) ≡ Err NotOnFace
+pub no_such_face : on_tetrahedron 2 (0 ∷ 1 ∷ 2 ∷ []) (across_move 0 4 0 true 2) ≡ Err NotOnFace
 unfolding step_of refusal apply
 no_such_face = refl
 
@@ -78,11 +78,11 @@ unfolding verdict_of verdict_from
 another_end = refl
 
 pub the_second_move : verdict_of tetrahedron (0 ∷ 1 ∷ 2 ∷ []) (0 ∷ 2 ∷ [])
-    (moves_within 2 (across 0 0 0 true 2 ∷ Insert 0 (vertex 0) ∷ [])) ≡ AtMove 2 NoEdge
+    (moves_within 2 (across_move 0 0 0 true 2 ∷ Insert 0 (vertex 0) ∷ [])) ≡ AtMove 2 NoEdge
 unfolding verdict_of verdict_from step_of refusal apply is_edge all_sides
 the_second_move = refl
 
 pub across_two_faces : verdict_of torus (0 ∷ 1 ∷ 3 ∷ []) (0 ∷ 2 ∷ 3 ∷ [])
-    (moves_within 2 (across 0 0 0 true 2 ∷ across 0 7 0 true 1 ∷ [])) ≡ Accepted
+    (moves_within 2 (across_move 0 0 0 true 2 ∷ across_move 0 7 0 true 1 ∷ [])) ≡ Accepted
 unfolding verdict_of verdict_from step_of refusal apply
 across_two_faces = refl

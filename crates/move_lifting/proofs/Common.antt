@@ -19,8 +19,8 @@ pub use Rattle.move_lifting.specs.Loads.{AreWeights, IsLedOn, StaysWithin, load_
 pub use Rattle.move_lifting.specs.LoopFronts.{spokes_in_front}
 pub use Rattle.move_lifting.specs.LoopsPutIn.{HasLoopIn, IsFreelyPath, signed_loop}
 pub use Rattle.move_lifting.specs.PooledWalks.{IsAlone, IsPushed, Pooled}
-pub use Rattle.move_lifting.specs.Reductions.{AreSpokesOf, HasSpokesMore, IsReductionOf, spokes_of_dart, spurs_of}
-pub use Rattle.move_lifting.specs.SpokeWalks.{AreSpokeWalks, AreTurns, HasWalk, IsLastLoop, IsLooper, IsLooping, IsSpokeWalk, along_or_back, walks_loop}
+pub use Rattle.move_lifting.specs.Reductions.{AreFreeSpokesOf, HasSpokesMore, IsReductionOf, spokes_of_dart, spurs_of}
+pub use Rattle.move_lifting.specs.SpokeWalks.{AreLoopTurns, AreSpokeWalks, HasWalk, IsLastLoop, IsLooper, IsLooping, IsSpokeWalk, along_or_back, walks_loop}
 pub use Rattle.move_lifting.specs.Tracks.{GoesOn, GrowsOrShrinks, IsNextPut, IsStepBack, TrackView, last_of}
 pub use Rattle.move_lifting.specs.TurnPeaks.{KeepsBound, RisesWithTurn}
 pub use Rattle.move_lifting.specs.declared.crossing.FaceStep.{FaceStep}

@@ -2,7 +2,7 @@
 -- of its
 -- spokes; and a walk whose spokes are gone goes nowhere.
 use Rattle.move_lifting.proofs.Common.{last_entry, OrientedMesh, IsOrientedSurface, IsCutSurface, IsFreelyPath, last_of, there_and_home, backward_is, free_equality, up, tree_ways, up_path, IsWay, PolygonView, HaveFreeSpokes, spokes_along, backward, free_walk_leads, free_walk_below, PathLeads, PathStep, ◌≡◌, ◌⊎◌, inl, inr, ℕ, suc, ◌-◌, ◌<◌, ◌≤◌, true, List, [], ◌∷◌, ◌++◌, length, drop, take, ap, sym, ◌∙◌, subst, arith, append_assoc, cases_lt, drop_more, All, slice_index, one_reduced_walk, is_used, AreFreelyEqual, HasNoSpur, Homotopic, IsWalk, SplitView, IsSplit, led}
-use Rattle.flat_forms.specs.FlatStates.{IsFlatWheel, flat_next, IsEven as IsEvenPoint}
+use Rattle.flat_forms.specs.FlatStates.{IsFlatWheel, flat_next, IsEvenPoint}
 use Rattle.flat_forms.specs.Lemmas.FlatLaws.{flat_starts, flat_stays, flat_there_and_back, flat_across}
 use Rattle.flat_forms.specs.Vectors.{origin}
 use Rattle.labellings.proofs.FoldLemmas.{PutLaws, run, run_on}
@@ -14,7 +14,7 @@ use Rattle.labellings.specs.QuadPaths.{quad_path}
 use Rattle.quad_system.proofs.PolygonLabelLemmas.{polygon_good}
 use Rattle.quad_system.specs.PolygonLabellings.{labelling_from}
 use Rattle.spoke_paths.proofs.LeavingNothing.{turns-leave, flat-leave}
-use Rattle.spoke_paths.specs.ReducedWords.{IsReduced}
+use Rattle.spoke_paths.specs.ReducedWords.{IsReducedWord}
 use Rattle.turn_words.specs.HyperStates.{HyperState, IsHyperWheel, BelongsTo, IsEven, empty_state, hyper_next}
 use Rattle.turn_words.specs.Lemmas.HyperLaws.{hyper_starts, hyper_stays, hyper_there_and_back, hyper_across}
 use Rattle.turn_words.specs.SpokePaths.{turn_word_of}
@@ -87,7 +87,7 @@ module _ {s : OrientedMesh} {split : SplitView} {polygon : PolygonView} (is_cut 
       → (first closed second end : List ℕ) (steps : List PathStep) → IsWalk s.mesh first → IsWalk s.mesh closed → 0 < length second
       → last_of closed ≡ slice_index second 0
       → Homotopic s.mesh first (closed ++ drop 1 second) → PathLeads polygon.places (spokes_along spokes closed) steps end
-      → IsReduced (length polygon.places) (turn_word_of polygon.places end) → Homotopic s.mesh first second → end ≡ []
+      → IsReducedWord (length polygon.places) (turn_word_of polygon.places end) → Homotopic s.mesh first second → end ≡ []
   nothing_is_left spokes free first closed second end steps w z second_some meets there leads reduced same =
       by degree_is
     where

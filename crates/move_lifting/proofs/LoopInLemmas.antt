@@ -1,5 +1,5 @@
 -- The loop of the last side, put into a walk behind the spokes in front, by way of the tree.
-use Rattle.move_lifting.proofs.Common.{origin_of, OrientedMesh, IsCutSurface, LeadsAtPeak, signed_loop, HasLoopIn, IsSpokeWalk, AreSpokeWalks, AreTurns, HasWalk, IsLastLoop, along_or_back, walks_loop, last_of, Lifted, before, behind, home_and_there, to_loops, by_own_loop, root_is, side_in, backward_is, SameFreely, loops_make_a_free_group, free_equality, put_in, loop_in, up, up_path, IsWay, HasWays, Loop, loop_mul, loop_inv, loop_of, back, start_used, end_used, way_home, way_on, way_walk, PolygonView, AreWaysUp, backward, by_loop, dart_loop, last_side, last_side_loop, path_loop, put_behind, spoke_loop, ◌≡◌, ℕ, suc, ◌-◌, Bool, true, false, List, [], ◌∷◌, ◌++◌, drop, get_or, ap, sym, ◌∙◌, subst, arith, append_assoc, append-nil, IsTrue, All, Some, if◌then◌else◌, FaceList, is_used, AreFreelyEqual, apply_all, IsWalk, SplitView}
+use Rattle.move_lifting.proofs.Common.{origin_of, OrientedMesh, IsCutSurface, LeadsAtPeak, signed_loop, HasLoopIn, IsSpokeWalk, AreSpokeWalks, AreLoopTurns, HasWalk, IsLastLoop, along_or_back, walks_loop, last_of, Lifted, before, behind, home_and_there, to_loops, by_own_loop, root_is, side_in, backward_is, SameFreely, loops_make_a_free_group, free_equality, put_in, loop_in, up, up_path, IsWay, HasWays, Loop, loop_mul, loop_inv, loop_of, back, start_used, end_used, way_home, way_on, way_walk, PolygonView, AreWaysUp, backward, by_loop, dart_loop, last_side, last_side_loop, path_loop, put_behind, spoke_loop, ◌≡◌, ℕ, suc, ◌-◌, Bool, true, false, List, [], ◌∷◌, ◌++◌, drop, get_or, ap, sym, ◌∙◌, subst, arith, append_assoc, append-nil, IsTrue, All, Some, if◌then◌else◌, FaceList, is_used, AreFreelyEqual, apply_all, IsWalk, SplitView}
 use Rattle.move_lifting.specs.declared.looping.Turns.{Turns}
 use Rattle.move_lifting.proofs.ApproachLemmas.{GoesFrom, free_way, goes_end, goes_walk, walk_goes, turn_goes_home, has_ways, dart_loop_way, spoke_way, path_way, spoke_walk, home_way, closed_way, down_and_up, joined_loops, no_loop, back_by_loop, last_used}
 use Rattle.move_lifting.proofs.TreeUpLemmas.{own_ways}
@@ -53,7 +53,7 @@ approach_by ways x y laid = x ∷ (ways x ++ (backward y (ways y) ++ laid))
 
 -- the loop of the last side that is taken, or the way back along it
 pub picked : (s : OrientedMesh) (split : SplitView) (polygon : PolygonView) (turns : Turns) (against : Bool) (turn : Lifted)
-    → AreTurns s split polygon turns → turn ≡ (if against then turns.back else turns.forth) → IsLastLoop s split polygon against turn
+    → AreLoopTurns s split polygon turns → turn ≡ (if against then turns.back else turns.forth) → IsLastLoop s split polygon against turn
 picked s split polygon turns true turn l is = subst (IsLastLoop s split polygon true) (sym is) l.back
 picked s split polygon turns false turn l is = subst (IsLastLoop s split polygon false) (sym is) l.forth
 

@@ -1,5 +1,5 @@
 -- The spokes of a walk, dart by dart, and how many are left after some steps.
-use Rattle.move_lifting.proofs.Common.{next_of, OrientedMesh, IsOrientedSurface, rotations_of, IsDartFrom, spokes_of_dart, HasSpokesMore, AreSpokesOf, spurs_of, dart_from, from_is, PolygonView, label_of, HasFreeSpokes, HaveFreeSpokes, spokes_along, last_side, AtPlace, at-place, old_way, new_way, IsTurned, is-turned, spur-is, later-is, PathLeads, quad_turned, after_path_step, from_vertex, PathStep, Spur, Turn, ◌≡◌, ◌≢◌, ℕ, zero, suc, ◌+◌, ◌*◌, ◌-◌, ◌<◌, ◌≤◌, Bool, true, false, List, [], ◌∷◌, ◌++◌, length, get_or, take, refl, ap, sym, ◌∙◌, subst, arith, append_assoc, length-append, common_steps, append-nil}
+use Rattle.move_lifting.proofs.Common.{next_of, OrientedMesh, IsOrientedSurface, rotations_of, IsDartFrom, spokes_of_dart, HasSpokesMore, AreFreeSpokesOf, spurs_of, dart_from, from_is, PolygonView, label_of, HasFreeSpokes, HaveFreeSpokes, spokes_along, last_side, AtPlace, at-place, old_way, new_way, IsTurned, is-turned, spur-is, later-is, PathLeads, quad_turned, after_path_step, from_vertex, PathStep, Spur, Turn, ◌≡◌, ◌≢◌, ℕ, zero, suc, ◌+◌, ◌*◌, ◌-◌, ◌<◌, ◌≤◌, Bool, true, false, List, [], ◌∷◌, ◌++◌, length, get_or, take, refl, ap, sym, ◌∙◌, subst, arith, append_assoc, length-append, common_steps, append-nil}
 use Rattle.spoke_paths.specs.PathSteps.{spur_goes}
 use Rattle.std.proofs.Common.{Some}
 
@@ -69,7 +69,7 @@ more_so_far s polygon o walk (suc k) u v old new some l one two so_far more =
 
 pub all_spokes : (s : OrientedMesh) (polygon : PolygonView) → IsOrientedSurface s → (walk : List ℕ) (n : ℕ) (path : List ℕ)
     → length walk ≤ n
-    → AreSpokesSoFar s polygon walk n path → AreSpokesOf s polygon walk path
+    → AreSpokesSoFar s polygon walk n path → AreFreeSpokesOf s polygon walk path
 all_spokes s polygon o walk n path all so_far = grind (arith, common_steps, own_spokes, have_own)
 
 -- how many spurs are taken out

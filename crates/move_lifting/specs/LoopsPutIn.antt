@@ -1,7 +1,7 @@
 -- Walks with the loop of the last side put in.
 use Rattle.std.specs.Prelude.{◌≡◌, ℕ, ◌+◌, ◌*◌, ◌<◌, ◌≤◌, ◌^◌, Bool, true, if◌then◌else◌, List, length, slice_index, All}
 use Rattle.surf_model.specs.FreeWalks.{AreFreelyEqual}
-use Rattle.surf_model.specs.Replacements.{place_of}
+use Rattle.surf_model.specs.Replacements.{place_of_move}
 use Rattle.surf_model.specs.Vertices.{numbers}
 use Rattle.surf_model.specs.declared.moves.Move.{Move}
 use Rattle.surf_model.specs.declared.names.VertexName.{VertexName}
@@ -20,7 +20,7 @@ pub record IsApproach (walk : List ℕ) (turn : Lifted) (behind : ℕ) (approach
   pub starts : slice_index (numbers approach) 0 ≡ slice_index walk 0
   pub meets : slice_index turn.walk 0 ≡ last_of (numbers approach)
   pub closed : last_of turn.walk ≡ last_of (numbers approach)
-  pub places : All (λ (mv : Move). place_of mv ≤ turn.moves.peak) turn.moves.moves
+  pub places : All (λ (mv : Move). place_of_move mv ≤ turn.moves.peak) turn.moves.moves
   pub room : 2 * length approach + length walk + length turn.walk + behind + turn.moves.peak < 2 ^ 31
 
 -- the loop of the last side, or the way back along it

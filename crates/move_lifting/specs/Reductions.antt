@@ -7,7 +7,7 @@ use Rattle.turn_words.specs.SpokePaths.{turn_word_of}
 use Rattle.polygon_cut.specs.Polygons.{PolygonView, label_of}
 use Rattle.polygon_cut.specs.SpokeLoops.{HaveFreeSpokes, spokes_along, last_side, across_last}
 use Rattle.spoke_paths.specs.PathSteps.{PathLeads}
-use Rattle.spoke_paths.specs.ReducedWords.{IsReduced}
+use Rattle.spoke_paths.specs.ReducedWords.{IsReducedWord}
 use Rattle.spoke_paths.specs.declared.step.PathStep.{PathStep}
 use Rattle.spoke_paths.specs.declared.step.PathStep.TheVariants.{Spur, Turn}
 use Rattle.move_lifting.specs.declared.reducing.Reduction.{Reduction}
@@ -28,7 +28,7 @@ pub record HasSpokesMore (surface : OrientedMesh) (polygon : PolygonView) (u v :
   pub come : new ≡ old ++ spokes_of_dart surface polygon dart
 
 -- the path is that of spokes that the darts of the walk may have up to spurs
-pub record AreSpokesOf (surface : OrientedMesh) (polygon : PolygonView) (walk path : List ℕ) : Type 0 where
+pub record AreFreeSpokesOf (surface : OrientedMesh) (polygon : PolygonView) (walk path : List ℕ) : Type 0 where
   pub spokes : ℕ → ℕ → List ℕ
   pub free : HaveFreeSpokes surface polygon spokes
   pub path_is : path ≡ spokes_along spokes walk
@@ -42,7 +42,7 @@ spurs_of (Turn at side partner up ∷ steps) = spurs_of steps
 -- the spokes are those of the walk, and the steps lead from them to a reduced path
 pub record IsReductionOf (surface : OrientedMesh) (polygon : PolygonView) (walk : List ℕ) (reduction : Reduction) : Type 0 where
   pub wheel : reduction.wheel ≡ polygon.places
-  pub spokes : AreSpokesOf surface polygon walk reduction.spokes.items
+  pub spokes : AreFreeSpokesOf surface polygon walk reduction.spokes.items
   pub end : List ℕ
   pub leads : PathLeads polygon.places reduction.spokes.items reduction.steps.items end
-  pub reduced : IsReduced (length polygon.places) (turn_word_of polygon.places end)
+  pub reduced : IsReducedWord (length polygon.places) (turn_word_of polygon.places end)

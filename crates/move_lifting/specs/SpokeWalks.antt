@@ -56,14 +56,14 @@ pub record IsLastLoop (surface : OrientedMesh) (split : SplitView) (polygon : Po
       (signed_loop surface polygon root ways back))
 
 -- the loop of the last side and the way back along it, each with moves that lead to it
-pub record AreTurns (surface : OrientedMesh) (split : SplitView) (polygon : PolygonView) (turns : Turns) : Type 0 where
+pub record AreLoopTurns (surface : OrientedMesh) (split : SplitView) (polygon : PolygonView) (turns : Turns) : Type 0 where
   pub forth : IsLastLoop surface split polygon false turns.forth
   pub back : IsLastLoop surface split polygon true turns.back
 
 -- what a looper keeps: walks of spokes, and the loop of the last side with the way back along it, if they were made
 pub record IsLooper (surface : OrientedMesh) (split : SplitView) (polygon : PolygonView) (looper : Looper) : Type 0 where
   pub spokes : AreSpokeWalks surface split polygon looper.spokes
-  pub turns : IfSome looper.turns (AreTurns surface split polygon)
+  pub turns : IfSome looper.turns (AreLoopTurns surface split polygon)
 
 -- the polygon is cut from the surface, and no more entries stand behind than a second walk has
 pub record IsLooping (looping : Looping) : Type 0 where

@@ -13,7 +13,7 @@ ghost use Rattle.polygon_cut.specs.ShortWalks.{AreShortAround};
 ghost use Rattle.polygon_cut.specs.SpokeLoops.{AreWaysUp, backward};
 ghost use Rattle.move_lifting.specs.Cuts.{IsCut};
 ghost use Rattle.move_lifting.specs.LoopsPutIn.{HasLoopIn, IsFreelyPath};
-ghost use Rattle.move_lifting.specs.SpokeWalks.{AreTurns, HasWalk, IsLooper, IsLooping, along_or_back, walks_loop};
+ghost use Rattle.move_lifting.specs.SpokeWalks.{AreLoopTurns, HasWalk, IsLooper, IsLooping, along_or_back, walks_loop};
 ghost use Rattle.move_lifting.specs.Tracks.{GoesOn, last_of};
 ghost use Rattle.move_lifting.specs.declared.expanding.TheConstants.{MOST_LIFTED_DARTS};
 ghost use Rattle.move_lifting.specs.TurnPeaks.{GoesInShortly, KeepsBound};
@@ -40,7 +40,7 @@ impl Turns {
     /// Makes them.
     fn of(alloc: Global, cut: &Cut<'_>) -> Result<Turns, AllocError>
         requires { IsCut cut.now }
-        ensures { IfOk result (AreTurns cut.now.on.surface.now cut.now.on.split.now cut.now.polygon.now) }
+        ensures { IfOk result (AreLoopTurns cut.now.on.surface.now cut.now.on.split.now cut.now.polygon.now) }
     {
         Ok(Turns {
             forth: last_loop(alloc, cut, false)?,
@@ -77,8 +77,8 @@ impl Looper {
     /// The loop of the last side and the way back along it, which are made if they were not. They are the caller's then.
     fn take_turns(&mut self, alloc: Global, cut: &Cut<'_>) -> Result<Turns, AllocError>
         requires cut { IsCut cut.now }
-        requires turns { IfSome self.old.turns (AreTurns cut.now.on.surface.now cut.now.on.split.now cut.now.polygon.now) }
-        ensures turns { IfOk result (AreTurns cut.now.on.surface.now cut.now.on.split.now cut.now.polygon.now) }
+        requires turns { IfSome self.old.turns (AreLoopTurns cut.now.on.surface.now cut.now.on.split.now cut.now.polygon.now) }
+        ensures turns { IfOk result (AreLoopTurns cut.now.on.surface.now cut.now.on.split.now cut.now.polygon.now) }
         ensures kept { self.new.spokes ≡ self.old.spokes }
     {
         match self.turns.take() {

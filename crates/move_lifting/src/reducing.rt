@@ -7,7 +7,7 @@ ghost use Rattle.halfedge_map.specs.OrientedMeshes.{IsOrientedSurface};
 ghost use Rattle.turn_words.specs.Wheels.{IsWheel};
 ghost use Rattle.polygon_cut.specs.Polygons.{IsPolygonOf};
 ghost use Rattle.spoke_paths.specs.PathSteps.{PathLeads};
-ghost use Rattle.move_lifting.specs.Reductions.{HasSpokesMore, AreSpokesOf, IsReductionOf, spurs_of};
+ghost use Rattle.move_lifting.specs.Reductions.{HasSpokesMore, AreFreeSpokesOf, IsReductionOf, spurs_of};
 ghost use Rattle.move_lifting.specs.declared.expanding.TheConstants.{MOST_LIFTED_DARTS};
 
 use halfedge_map::Surface;
@@ -92,7 +92,7 @@ fn spokes_of(
     requires cut { IsPolygonOf surface.now polygon.now }
     requires some { 0 < polygon.now.degree }
     requires walk { IsWalk surface.now.mesh (numbers walk.now) }
-    ensures spokes { IfOk result (λ spokes. AreSpokesOf surface.now polygon.now (numbers walk.now) spokes.items) }
+    ensures spokes { IfOk result (λ spokes. AreFreeSpokesOf surface.now polygon.now (numbers walk.now) spokes.items) }
     ensures few { IfOk result (λ spokes. length spokes.items ≤ 2 * length walk.now) }
 {
     let mut spokes = Vec::new(alloc);

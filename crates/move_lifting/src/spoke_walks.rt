@@ -32,13 +32,13 @@ pub(crate) struct SpokeWalks {
 
 impl Model for SpokeWalks {
     ghost use Rattle.std.specs.Prelude.{ℕ, List};
-    ghost use Rattle.move_lifting.specs.StoredWalks.{AreWithin, stored_walks};
+    ghost use Rattle.move_lifting.specs.StoredWalks.{ArePlacesWithin, stored_walks};
 
     ghost Value = { List (List ℕ) };
 
     ghost view = { λ a. stored_walks a.places.items a.vertices.items };
 
-    ghost invariant = { λ a. AreWithin a.places.items a.vertices.items };
+    ghost invariant = { λ a. ArePlacesWithin a.places.items a.vertices.items };
 }
 
 impl SpokeWalks {

@@ -1,6 +1,6 @@
 -- What proofs of this crate cite of its definitions and of other crates, passed on from one place (by tools/imports). Declares nothing.
-pub use Rattle.off_reader.specs.OffSteps.{IsSameLine, ReadsCorners, SaysHeader, TakesFaces, line_at}
-pub use Rattle.off_reader.specs.OffTexts.{Keyword, bare_counts, corners_among, counted, counts_behind, face_fault, is_single_piece, line_before, meaning_of, point_fault, ring_fault, rings_of, two_naturals}
+pub use Rattle.off_reader.specs.OffSteps.{IsSameLine, ReadsCorners, SaysHeader, TakesFaces, present_line}
+pub use Rattle.off_reader.specs.OffTexts.{Keyword, bare_counts, corners_among, counted, counts_behind, face_fault, is_single_piece, line_before, meaning_of, point_fault, ring_fault, rings_named, two_naturals}
 unfoldable pub use Rattle.off_reader.specs.OffTexts.{are_pieces, corners_of, counts_at, has_equal_neighbours, header_of, keyword_of, mesh_of, taken}
 pub use Rattle.off_reader.specs.declared.off_fault.OffFault.{OffFault}
 pub use Rattle.off_reader.specs.declared.off_fault.OffFault.TheVariants.{BadCounts, BadFace, BadVertex, Ended, EqualNeighbours, IndexRange, NoCounts, OutOfMemory, TooMany}

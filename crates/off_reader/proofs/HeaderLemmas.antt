@@ -1,5 +1,5 @@
 -- The header of a mesh text.
-use Rattle.off_reader.proofs.Common.{line_at, Keyword, two_naturals, counted, counts_at, bare_counts, counts_behind, keyword_of, header_of, line_before, NoCounts, BadCounts, TooMany, ◌≡◌, ℕ, ◌-◌, ◌^◌, ◌<◌, ◌≤◌, ◌⊎◌, min, Bool, true, false, cond, leb, ◌&&◌, List, [], ◌∷◌, refl, sym, ap, ◌∙◌, inl, inr, arith, min-le_left, min-eq_left, min-eq_right, cases_lt, and_left, and_right, le-leb, lt-leb, cond_some, none-some, same_Some, Option, Some, None, option_map, Ok, Err, MOST_VERTICES, Line, is_natural, value_of, natural_of, Unread, lines_left, next_natural}
+use Rattle.off_reader.proofs.Common.{present_line, Keyword, two_naturals, counted, counts_at, bare_counts, counts_behind, keyword_of, header_of, line_before, NoCounts, BadCounts, TooMany, ◌≡◌, ℕ, ◌-◌, ◌^◌, ◌<◌, ◌≤◌, ◌⊎◌, min, Bool, true, false, cond, leb, ◌&&◌, List, [], ◌∷◌, refl, sym, ap, ◌∙◌, inl, inr, arith, min-le_left, min-eq_left, min-eq_right, cases_lt, and_left, and_right, le-leb, lt-leb, cond_some, none-some, same_Some, Option, Some, None, option_map, Ok, Err, MOST_VERTICES, Line, is_natural, value_of, natural_of, Unread, lines_left, next_natural}
 use Rattle.off_reader.specs.declared.header.TheConstants.{MOST_FACES}
 
 pub no_cap : (o : Option ℕ) → None ≡ option_map (λ n. min n (2 ^ 64 - 1)) o → o ≡ None
@@ -98,7 +98,7 @@ unfolding counts_at
 no_line c n [] lines none = ap (counts_at c) none
 no_line c n (word ∷ words) lines none = cc
 
-pub no_line_behind : (c : ℕ) (u : Unread) → lines_left u ≡ [] → bare_counts c (line_at u) u.lines ≡ Err NoCounts
+pub no_line_behind : (c : ℕ) (u : Unread) → lines_left u ≡ [] → bare_counts c (present_line u) u.lines ≡ Err NoCounts
 no_line_behind c u none = no_line c u.line u.words u.lines none
 
 pub no_header : (lines : List Line) → lines ≡ [] → header_of lines ≡ Err NoCounts

@@ -1,5 +1,5 @@
 -- The lines of vertices and faces, one after the other.
-use Rattle.off_reader.proofs.Common.{line_at, IsSameLine, TakesFaces, taken, point_fault, face_fault, ring_fault, corners_of, rings_of, mesh_of, header_of, meaning_of, OffFault, Ended, OutOfMemory, ◌≡◌, ℕ, suc, ◌+◌, ◌-◌, ◌<◌, ◌≤◌, ◌⊎◌, List, [], ◌∷◌, ◌++◌, length, refl, sym, ap, ap₂, ◌∙◌, inl, inr, arith, cons_option, Option, Some, None, Result, Ok, Err, FaceList, total_sides, MOST_SIDES, Line, full_lines, end_line, Unread}
+use Rattle.off_reader.proofs.Common.{present_line, IsSameLine, TakesFaces, taken, point_fault, face_fault, ring_fault, corners_of, rings_named, mesh_of, header_of, meaning_of, OffFault, Ended, OutOfMemory, ◌≡◌, ℕ, suc, ◌+◌, ◌-◌, ◌<◌, ◌≤◌, ◌⊎◌, List, [], ◌∷◌, ◌++◌, length, refl, sym, ap, ap₂, ◌∙◌, inl, inr, arith, cons_option, Option, Some, None, Result, Ok, Err, FaceList, total_sides, MOST_SIDES, Line, full_lines, end_line, Unread}
 use Rattle.std.proofs.lemmas.List.Sums.{sum_by-append}
 
 abbrev Check : Type 0
@@ -45,25 +45,26 @@ pub record IsPointsTo (coordinates count : ℕ) (old : Unread) (n : ℕ) (new : 
   pub end : new.end_line ≡ old.end_line
 
 -- the next line, and what stands in it
-pub one_point : (coordinates count : ℕ) (old mid line new : Unread) (n : ℕ) → n < count → mid.lines ≡ line_at line ∷ line.lines
+pub one_point : (coordinates count : ℕ) (old mid line new : Unread) (n : ℕ) → n < count → mid.lines ≡ present_line line ∷ line.lines
     → line.end_line ≡ mid.end_line
-    → None ≡ point_fault coordinates [] (line_at line) → IsSameLine line new → IsPointsTo coordinates count old n mid
+    → None ≡ point_fault coordinates [] (present_line line) → IsSameLine line new → IsPointsTo coordinates count old n mid
     → IsPointsTo coordinates count old (n + 1) new
 one_point coordinates count old mid line new n below is end good same h =
     record {
-      before = h.before ++ line_at line ∷ [];
-      same = ap (taken (point_fault coordinates) old.end_line (h.before ++ line_at line ∷ []) (count - (n + 1))) same.lines
-          ∙ sym (one_taken (point_fault coordinates) old.end_line h.before line.lines mid.lines (line_at line) n count below is (sym good))
+      before = h.before ++ present_line line ∷ [];
+      same = ap (taken (point_fault coordinates) old.end_line (h.before ++ present_line line ∷ []) (count - (n + 1))) same.lines
+          ∙ sym (one_taken (point_fault coordinates) old.end_line h.before line.lines mid.lines (present_line line) n count below is
+          (sym good))
           ∙ h.same;
       end = same.end_line ∙ end ∙ h.end;
     }
 
 pub bad_point_line : (coordinates count : ℕ) (old mid line : Unread) (fault : OffFault) (n : ℕ) → n < count
-    → mid.lines ≡ line_at line ∷ line.lines
-    → Some fault ≡ point_fault coordinates [] (line_at line) → IsPointsTo coordinates count old n mid
+    → mid.lines ≡ present_line line ∷ line.lines
+    → Some fault ≡ point_fault coordinates [] (present_line line) → IsPointsTo coordinates count old n mid
     → taken (point_fault coordinates) old.end_line [] count old.lines ≡ Err fault
 bad_point_line coordinates count old mid line fault n below is bad h =
-    sym h.same ∙ bad_taken (point_fault coordinates) old.end_line h.before line.lines mid.lines (line_at line) fault n count below is
+    sym h.same ∙ bad_taken (point_fault coordinates) old.end_line h.before line.lines mid.lines (present_line line) fault n count below is
     (sym bad)
 
 pub no_point_line : (coordinates count : ℕ) (old mid : Unread) (fault : OffFault) (n : ℕ) → n < count → mid.lines ≡ []
@@ -86,50 +87,51 @@ pub record IsFacesTo (vertices count : ℕ) (old : Unread) (n : ℕ) (new : Unre
   pub same : taken (face_fault vertices) old.end_line before (count - n) new.lines
       ≡ taken (face_fault vertices) old.end_line [] count old.lines
   pub end : new.end_line ≡ old.end_line
-  pub mesh : faces ≡ record { count = vertices; faces = rings_of before }
+  pub mesh : faces ≡ record { count = vertices; faces = rings_named before }
   pub few : total_sides faces ≤ MOST_SIDES
 
 rings_of-append : (before : List Line) (line : Line) (ring : List ℕ) → corners_of line.words ≡ Some ring
-    → rings_of (before ++ line ∷ []) ≡ rings_of before ++ ring ∷ []
+    → rings_named (before ++ line ∷ []) ≡ rings_named before ++ ring ∷ []
 rings_of-append [] line ring e = rw e refl
 rings_of-append (first ∷ before) line ring e = by_test (corners_of first.words) (rings_of-append before line ring e)
   where
-    by_test : (o : Option (List ℕ)) → rings_of (before ++ line ∷ []) ≡ rings_of before ++ ring ∷ []
-        → cons_option o (rings_of (before ++ line ∷ [])) ≡ cons_option o (rings_of before) ++ ring ∷ []
+    by_test : (o : Option (List ℕ)) → rings_named (before ++ line ∷ []) ≡ rings_named before ++ ring ∷ []
+        → cons_option o (rings_named (before ++ line ∷ [])) ≡ cons_option o (rings_named before) ++ ring ∷ []
     by_test None later = later
     by_test (Some r) later = ap (λ (t : List (List ℕ)). r ∷ t) later
 
 -- the fault of a line is that of its corners, where the faces before are those read
 fault_in : (vertices : ℕ) (before : List Line) (u : Unread) (faces : FaceList)
-    → faces ≡ record { count = vertices; faces = rings_of before }
-    → face_fault vertices before (line_at u) ≡ ring_fault vertices (total_sides faces) u.line (corners_of u.words)
+    → faces ≡ record { count = vertices; faces = rings_named before }
+    → face_fault vertices before (present_line u) ≡ ring_fault vertices (total_sides faces) u.line (corners_of u.words)
 fault_in vertices before u faces is = ap (λ (m : FaceList). ring_fault vertices (total_sides m) u.line (corners_of u.words)) (sym is)
 
 pub one_face : (vertices count : ℕ) (old mid line new : Unread) (faces more : FaceList) (ring : List ℕ) (n : ℕ) → n < count
-    → mid.lines ≡ line_at line ∷ line.lines
+    → mid.lines ≡ present_line line ∷ line.lines
     → line.end_line ≡ mid.end_line → corners_of line.words ≡ Some ring
     → ring_fault vertices (total_sides faces) line.line (corners_of line.words) ≡ None → IsSameLine line new
     → more ≡ record { count = faces.count; faces = faces.faces ++ ring ∷ [] } → total_sides faces + length ring ≤ MOST_SIDES
     → IsFacesTo vertices count old n mid faces → IsFacesTo vertices count old (n + 1) new more
 one_face vertices count old mid line new faces more ring n below is end corners good same grown room h =
-    let fine : face_fault vertices h.before (line_at line) ≡ None = fault_in vertices h.before line faces h.mesh ∙ good in
+    let fine : face_fault vertices h.before (present_line line) ≡ None = fault_in vertices h.before line faces h.mesh ∙ good in
     record {
-      before = h.before ++ line_at line ∷ [];
-      same = ap (taken (face_fault vertices) old.end_line (h.before ++ line_at line ∷ []) (count - (n + 1))) same.lines
-          ∙ sym (one_taken (face_fault vertices) old.end_line h.before line.lines mid.lines (line_at line) n count below is fine) ∙ h.same;
+      before = h.before ++ present_line line ∷ [];
+      same = ap (taken (face_fault vertices) old.end_line (h.before ++ present_line line ∷ []) (count - (n + 1))) same.lines
+          ∙ sym (one_taken (face_fault vertices) old.end_line h.before line.lines mid.lines (present_line line) n count below is fine)
+          ∙ h.same;
       end = same.end_line ∙ end ∙ h.end;
       mesh = grown ∙ ap₂ (λ (c : ℕ) (fs : List (List ℕ)). record { count = c; faces = fs }) (ap (λ (m : FaceList). m.count) h.mesh)
-          (ap (λ (m : FaceList). m.faces ++ ring ∷ []) h.mesh ∙ sym (rings_of-append h.before (line_at line) ring corners));
+          (ap (λ (m : FaceList). m.faces ++ ring ∷ []) h.mesh ∙ sym (rings_of-append h.before (present_line line) ring corners));
       few = omega (arith, room, ap total_sides grown, sum_by-append length faces.faces (ring ∷ []));
     }
 
 pub bad_face_line : (vertices count : ℕ) (old mid line : Unread) (faces : FaceList) (fault : OffFault) (n : ℕ) → n < count
-    → mid.lines ≡ line_at line ∷ line.lines
+    → mid.lines ≡ present_line line ∷ line.lines
     → ring_fault vertices (total_sides faces) line.line (corners_of line.words) ≡ Some fault → IsFacesTo vertices count old n mid faces
     → taken (face_fault vertices) old.end_line [] count old.lines ≡ Err fault
 bad_face_line vertices count old mid line faces fault n below is bad h =
     sym h.same
-    ∙ bad_taken (face_fault vertices) old.end_line h.before line.lines mid.lines (line_at line) fault n count below is
+    ∙ bad_taken (face_fault vertices) old.end_line h.before line.lines mid.lines (present_line line) fault n count below is
     (fault_in vertices h.before line faces h.mesh ∙ bad)
 
 pub no_face_line : (vertices count : ℕ) (old mid : Unread) (faces : FaceList) (fault : OffFault) (n : ℕ) → n < count → mid.lines ≡ []

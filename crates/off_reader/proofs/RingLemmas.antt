@@ -1,5 +1,5 @@
 -- Words that pass a test, one after the other, and the corners in the line of a face.
-use Rattle.off_reader.proofs.Common.{line_at, IsSameLine, ReadsCorners, corners_among, corners_of, has_equal_neighbours, ring_fault, point_fault, OffFault, BadVertex, BadFace, IndexRange, EqualNeighbours, TooMany, OutOfMemory, ◌≡◌, ◌≢◌, ℕ, zero, suc, ◌+◌, ◌-◌, ◌^◌, ◌<◌, ◌≤◌, ◌⊎◌, min, Bool, true, false, cond, not, eqb, ltb, leb, ◌&&◌, List, [], ◌∷◌, ◌++◌, length, take, drop, map, get_or, length-take-le, length-take, zero-add, refl, sym, ap, ap₂, subst, ◌∙◌, inl, inr, arith, min-eq_left, min-eq_right, min-le_left, both_ways, eq-eqb, ne_eqb, cases_lt, and_parts, and_left, and_right, and_cases, le-leb, lt-leb, lt-ltb, le-ltb, leb-true, leb-false, ltb-true, ltb-false, map-append, length-map, take_all, cond_some, none-some, option_and_then_some, list_all, list_any, range_with_len, Option, Some, None, option_map, option_and_then, Ok, Err, All, IsFace, next_corner, numbers, MOST_VERTICES, MOST_SIDES, is_natural, value_of, natural_of, is_number_text, Unread, past_word, next_natural, next_is_number_text}
+use Rattle.off_reader.proofs.Common.{present_line, IsSameLine, ReadsCorners, corners_among, corners_of, has_equal_neighbours, ring_fault, point_fault, OffFault, BadVertex, BadFace, IndexRange, EqualNeighbours, TooMany, OutOfMemory, ◌≡◌, ◌≢◌, ℕ, zero, suc, ◌+◌, ◌-◌, ◌^◌, ◌<◌, ◌≤◌, ◌⊎◌, min, Bool, true, false, cond, not, eqb, ltb, leb, ◌&&◌, List, [], ◌∷◌, ◌++◌, length, take, drop, map, get_or, length-take-le, length-take, zero-add, refl, sym, ap, ap₂, subst, ◌∙◌, inl, inr, arith, min-eq_left, min-eq_right, min-le_left, both_ways, eq-eqb, ne_eqb, cases_lt, and_parts, and_left, and_right, and_cases, le-leb, lt-leb, lt-ltb, le-ltb, leb-true, leb-false, ltb-true, ltb-false, map-append, length-map, take_all, cond_some, none-some, option_and_then_some, list_all, list_any, range_with_len, Option, Some, None, option_map, option_and_then, Ok, Err, All, IsFace, next_corner, numbers, MOST_VERTICES, MOST_SIDES, is_natural, value_of, natural_of, is_number_text, Unread, past_word, next_natural, next_is_number_text}
 use Rattle.std.proofs.lemmas.List.Elements.{All-nil, All-cons}
 use Rattle.std.proofs.lemmas.List.Folds.{list_all-append, list_any_at, list_any_more}
 use Rattle.std.proofs.lemmas.List.FromFn.{length-range_with_len, get_or-range_with_len}
@@ -91,7 +91,7 @@ next_text (word ∷ words) = refl
 
 pub bad_point : (c n line : ℕ) (old mid : Unread) → n < c → false ≡ next_is_number_text mid.words → line ≡ mid.line
     → IsReadTo is_number_text old n mid
-    → Some (BadVertex line) ≡ point_fault c [] (line_at old)
+    → Some (BadVertex line) ≡ point_fault c [] (present_line old)
 bad_point c n line old mid below e is h =
     let none = not_read is_number_text old mid n c below (sym (e ∙ next_text mid.words)) h in
     sym (rw none (ap (λ k. Some (BadVertex k)) (sym (is ∙ h.line.line))))

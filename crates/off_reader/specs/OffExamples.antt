@@ -1,6 +1,6 @@
 -- The definitions at work. Each line is proved by computing.
 use Rattle.std.specs.Prelude.{◌≡◌, ℕ, ◌-◌, List, [], ◌∷◌, ◌++◌, map, take, Some, None, Result, Ok, Err, codes, flat_map, refl}
-use Rattle.text_scan.specs.Lines.{unmarked, cut, words, lines_from}
+use Rattle.text_scan.specs.Lines.{unmarked, cut_lines, words, lines_from}
 use Rattle.text_scan.specs.Numbers.{is_natural, value_of, is_number_text}
 use Rattle.surf_model.specs.FaceLists.{FaceList}
 use Rattle.surf_model.specs.declared.limits.TheConstants.{MOST_SIDES}
@@ -39,7 +39,7 @@ no_keywords = refl
 -- One mesh in two spellings: the second with a byte-order mark, carriage returns, colours, a comment, the counts on the
 -- keyword's line, blank lines and a line behind the end.
 plain : meaning_of (three_points (codes "3 1 3") (codes "3 0 1 2" ∷ [])) ≡ triangle
-unfolding unmarked cut words lines_from is_natural value_of is_number_text keyword_of are_pieces
+unfolding unmarked cut_lines words lines_from is_natural value_of is_number_text keyword_of are_pieces
     counts_at header_of taken corners_of has_equal_neighbours mesh_of
 plain = refl
 
@@ -49,33 +49,33 @@ decorated :
     (codes "# a triangle" ∷ codes "COFF3 1 0# counts" ∷ [] ∷ codes "0 0 0 255" ∷ codes "1e0 0 0"
     ∷ codes "   " ∷ codes " 0 1. -.5E+1" ∷ codes "3 0 1 2 0.5" ∷ codes "more" ∷ []))
     ≡ triangle
-unfolding unmarked cut words lines_from is_natural value_of is_number_text keyword_of are_pieces
+unfolding unmarked cut_lines words lines_from is_natural value_of is_number_text keyword_of are_pieces
     counts_at header_of taken corners_of has_equal_neighbours mesh_of
 decorated = refl
 
 -- The counts: behind the keyword in its line, in the next line, or without a keyword; a fault is that of their line.
 nothing : meaning_of [] ≡ Err NoCounts
-unfolding unmarked cut words lines_from header_of mesh_of
+unfolding unmarked cut_lines words lines_from header_of mesh_of
 nothing = refl
 
 only_a_keyword : meaning_of (one_line (codes "OFF")) ≡ Err NoCounts
-unfolding unmarked cut words lines_from keyword_of are_pieces counts_at header_of mesh_of
+unfolding unmarked cut_lines words lines_from keyword_of are_pieces counts_at header_of mesh_of
 only_a_keyword = refl
 
 binary : map meaning_of (one_line (codes "COFF BINARY") ∷ one_line (codes "nOFF3 1 0") ∷ []) ≡ Err (UnreadForm 1) ∷ Err (UnreadForm 1) ∷ []
-unfolding unmarked cut words lines_from keyword_of are_pieces counts_at header_of mesh_of
+unfolding unmarked cut_lines words lines_from keyword_of are_pieces counts_at header_of mesh_of
 binary = refl
 
 no_binary : map meaning_of (one_line (codes "OFFBINARY") ∷ one_line (codes "OFF4 BINARY") ∷ text (codes "OFF" ∷ codes "BINARY" ∷ []) ∷ [])
     ≡ Err (BadCounts 1) ∷ Err (BadCounts 1) ∷ Err (BadCounts 2) ∷ []
-unfolding unmarked cut words lines_from is_natural keyword_of are_pieces counts_at header_of mesh_of
+unfolding unmarked cut_lines words lines_from is_natural keyword_of are_pieces counts_at header_of mesh_of
 no_binary = refl
 
 bad_counts :
     map meaning_of
     (text (codes "OFF" ∷ codes "4 x" ∷ []) ∷ one_line (codes "4") ∷ one_line (codes "99999999999999999999999999 -1") ∷ [])
     ≡ Err (BadCounts 2) ∷ Err (BadCounts 1) ∷ Err (BadCounts 1) ∷ []
-unfolding unmarked cut words lines_from is_natural value_of keyword_of are_pieces counts_at header_of mesh_of
+unfolding unmarked cut_lines words lines_from is_natural value_of keyword_of are_pieces counts_at header_of mesh_of
 bad_counts = refl
 
 many_counts :
@@ -83,24 +83,24 @@ many_counts :
     (text (codes "OFF" ∷ codes "1000001 4 0" ∷ []) ∷ one_line (codes "99999999999999999999999999 0") ∷ one_line (codes "0 1333334 x")
     ∷ one_line (codes "0 1333333 x") ∷ [])
     ≡ Err (TooMany 2) ∷ Err (TooMany 1) ∷ Err (TooMany 1) ∷ Err (Ended 2) ∷ []
-unfolding unmarked cut words lines_from is_natural value_of keyword_of are_pieces counts_at header_of taken mesh_of
+unfolding unmarked cut_lines words lines_from is_natural value_of keyword_of are_pieces counts_at header_of taken mesh_of
 many_counts = refl
 
 no_faces : meaning_of (one_line (codes "0 0 0")) ≡ Ok (record { count = 0; faces = [] })
-unfolding unmarked cut words lines_from is_natural value_of keyword_of are_pieces counts_at header_of taken mesh_of
+unfolding unmarked cut_lines words lines_from is_natural value_of keyword_of are_pieces counts_at header_of taken mesh_of
 no_faces = refl
 
 -- Vertices: three number texts, or four with the piece 4.
 two_coordinates : meaning_of (text (codes "OFF" ∷ codes "1 0 0" ∷ codes "0 0" ∷ [])) ≡ Err (BadVertex 3)
-unfolding unmarked cut words lines_from is_natural value_of is_number_text keyword_of are_pieces counts_at header_of taken mesh_of
+unfolding unmarked cut_lines words lines_from is_natural value_of is_number_text keyword_of are_pieces counts_at header_of taken mesh_of
 two_coordinates = refl
 
 three_of_four : meaning_of (text (codes "4OFF" ∷ codes "1 0 0" ∷ codes "0 0 0" ∷ [])) ≡ Err (BadVertex 3)
-unfolding unmarked cut words lines_from is_natural value_of is_number_text keyword_of are_pieces counts_at header_of taken mesh_of
+unfolding unmarked cut_lines words lines_from is_natural value_of is_number_text keyword_of are_pieces counts_at header_of taken mesh_of
 three_of_four = refl
 
 no_number : meaning_of (text (codes "OFF" ∷ codes "1 0 0" ∷ codes "0 0 1e" ∷ [])) ≡ Err (BadVertex 3)
-unfolding unmarked cut words lines_from is_natural value_of is_number_text keyword_of are_pieces counts_at header_of taken mesh_of
+unfolding unmarked cut_lines words lines_from is_natural value_of is_number_text keyword_of are_pieces counts_at header_of taken mesh_of
 no_number = refl
 
 -- Faces, in the order in which they are looked at.
@@ -111,13 +111,13 @@ faulty_faces :
     map with_face
     (codes "3 1 2" ∷ codes "2 1 2" ∷ codes "3 0 1 x" ∷ codes "3 9 9 -1" ∷ codes "x" ∷ codes "99999999999999999999999999 0 1 2" ∷ [])
     ≡ Err (BadFace 6) ∷ Err (BadFace 6) ∷ Err (BadFace 6) ∷ Err (BadFace 6) ∷ Err (BadFace 6) ∷ Err (BadFace 6) ∷ []
-unfolding unmarked cut words lines_from is_natural value_of is_number_text keyword_of are_pieces
+unfolding unmarked cut_lines words lines_from is_natural value_of is_number_text keyword_of are_pieces
     counts_at header_of taken corners_of has_equal_neighbours mesh_of
 faulty_faces = refl
 
 no_such_vertex : map with_face (codes "3 0 0 3" ∷ codes "3 0 1 99999999999999999999999999" ∷ [])
     ≡ Err (IndexRange 6) ∷ Err (IndexRange 6) ∷ []
-unfolding unmarked cut words lines_from is_natural value_of is_number_text keyword_of are_pieces
+unfolding unmarked cut_lines words lines_from is_natural value_of is_number_text keyword_of are_pieces
     counts_at header_of taken corners_of has_equal_neighbours mesh_of
 no_such_vertex = refl
 
@@ -129,13 +129,13 @@ unfolding has_equal_neighbours
 many_before_index = refl
 
 equal_neighbours : map with_face (codes "3 0 0 1" ∷ codes "3 0 1 0" ∷ []) ≡ Err (EqualNeighbours 6) ∷ Err (EqualNeighbours 6) ∷ []
-unfolding unmarked cut words lines_from is_natural value_of is_number_text keyword_of are_pieces
+unfolding unmarked cut_lines words lines_from is_natural value_of is_number_text keyword_of are_pieces
     counts_at header_of taken corners_of has_equal_neighbours mesh_of
 equal_neighbours = refl
 
 -- A face may name a vertex more than once, and words behind its corners are not looked at.
 twice : with_face (codes "4 0 1 2 1 red") ≡ Ok (record { count = 3; faces = (0 ∷ 1 ∷ 2 ∷ 1 ∷ []) ∷ [] })
-unfolding unmarked cut words lines_from is_natural value_of is_number_text keyword_of are_pieces
+unfolding unmarked cut_lines words lines_from is_natural value_of is_number_text keyword_of are_pieces
     counts_at header_of taken corners_of has_equal_neighbours mesh_of
 twice = refl
 
@@ -146,6 +146,6 @@ cut_off n = meaning_of (take n (three_points (codes "3 1 3") (codes "3 0 1 2" �
 cut_short : map cut_off (4 ∷ 9 ∷ 13 ∷ 26 ∷ 28 ∷ 30 ∷ 34 ∷ 35 ∷ [])
     ≡ Err NoCounts ∷ Err (Ended 3) ∷ Err (BadVertex 3) ∷ Err (BadVertex 5) ∷ Err (Ended 6)
     ∷ Err (BadFace 6) ∷ Err (BadFace 6) ∷ triangle ∷ []
-unfolding unmarked cut words lines_from is_natural value_of is_number_text keyword_of are_pieces
+unfolding unmarked cut_lines words lines_from is_natural value_of is_number_text keyword_of are_pieces
     counts_at header_of taken corners_of has_equal_neighbours mesh_of
 cut_short = refl

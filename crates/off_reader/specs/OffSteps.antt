@@ -5,15 +5,15 @@ use Rattle.text_scan.specs.Lines.{Line}
 use Rattle.text_scan.specs.Numbers.{value_of}
 use Rattle.text_scan.specs.Unread.{Unread}
 use Rattle.surf_model.specs.FaceLists.{FaceList}
-use Rattle.off_reader.specs.OffTexts.{Keyword, Header, taken, point_fault, face_fault, corners_among, rings_of}
+use Rattle.off_reader.specs.OffTexts.{Keyword, Header, taken, point_fault, face_fault, corners_among, rings_named}
 use Rattle.off_reader.specs.declared.header.Header.{Header as Counts}
 use Rattle.off_reader.specs.declared.keyword.Keyword.{Keyword as KeywordParts}
 use Rattle.off_reader.specs.declared.off_fault.OffFault.{OffFault}
 use Rattle.off_reader.specs.declared.off_fault.OffFault.TheVariants.{BadFace, OutOfMemory}
 
 -- the present line, with the words left in it
-abbrev pub line_at : Unread → Line
-line_at unread = record { number = unread.line; words = unread.words }
+abbrev pub present_line : Unread → Line
+present_line unread = record { number = unread.line; words = unread.words }
 
 -- what a keyword holds
 abbrev pub keyword_seen : KeywordParts → Keyword
@@ -50,6 +50,6 @@ TakesPoints coordinates vertices old (Err fault) new = taken (point_fault coordi
 abbrev pub TakesFaces : ℕ → ℕ → Unread → Result FaceList OffFault → Type 0
 TakesFaces vertices count old (Ok mesh) =
     (lines : List Line) × (behind : List Line) × (taken (face_fault vertices) old.end_line [] count old.lines ≡ Ok (lines, behind))
-    × (mesh ≡ record { count = vertices; faces = rings_of lines })
+    × (mesh ≡ record { count = vertices; faces = rings_named lines })
 TakesFaces vertices count old (Err fault) =
     (fault ≡ OutOfMemory) ⊎ (taken (face_fault vertices) old.end_line [] count old.lines ≡ Err fault)

@@ -134,8 +134,8 @@ corners_of [] = None
 corners_of (word ∷ words) = option_and_then (corners_among words) (natural_of word)
 
 -- the faces that lines name
-abbrev pub rings_of : List Line → List (List ℕ)
-rings_of = filter_map (λ line. corners_of line.words)
+abbrev pub rings_named : List Line → List (List ℕ)
+rings_named = filter_map (λ line. corners_of line.words)
 
 -- whether two neighbours round the face are one vertex
 unfoldable pub has_equal_neighbours : List ℕ → Bool
@@ -152,7 +152,7 @@ ring_fault vertices sides number (Some ring) =
     else None
 
 abbrev pub face_fault : ℕ → List Line → Line → Option OffFault
-face_fault vertices before line = ring_fault vertices (sum_by length (rings_of before)) line.number (corners_of line.words)
+face_fault vertices before line = ring_fault vertices (sum_by length (rings_named before)) line.number (corners_of line.words)
 
 -- ---- the whole text
 
@@ -162,7 +162,7 @@ mesh_of end lines = do
   header ← header_of lines
   points ← taken (point_fault header.coordinates) end [] header.vertices header.lines
   faces ← taken (face_fault header.vertices) end [] header.faces points.1
-  Ok (record { count = header.vertices; faces = rings_of faces.0 })
+  Ok (record { count = header.vertices; faces = rings_named faces.0 })
 
 -- what a text means
 abbrev pub meaning_of : List ℕ → Result FaceList OffFault

@@ -3,7 +3,7 @@ ghost use Rattle.std.specs.Prelude.{◌≡◌, ℕ, List, [], ◌∷◌, min, �
 ghost use Rattle.text_scan.specs.Numbers.{natural_of};
 ghost use Rattle.text_scan.specs.Unread.{Unread, lines_left};
 ghost use Rattle.off_reader.specs.OffTexts.{header_of, counts_at, bare_counts, counts_behind, coordinates_of};
-ghost use Rattle.off_reader.specs.OffSteps.{line_at, keyword_seen, SaysHeader};
+ghost use Rattle.off_reader.specs.OffSteps.{present_line, keyword_seen, SaysHeader};
 ghost use Rattle.surf_model.specs.declared.limits.TheConstants.{MOST_VERTICES};
 
 use crate::keyword::{Keyword, keyword_of};
@@ -56,7 +56,7 @@ fn first_word<'a>(cursor: &mut Cursor<'a>) -> Option<&'a [u8]>
 
 /// The counts behind a keyword, which is the word before.
 fn behind_keyword(cursor: &mut Cursor, keyword: &Keyword) -> Result<Header, OffFault>
-    ensures header { SaysHeader (counts_behind (keyword_seen keyword.now) (line_at cursor.old) cursor.old.lines) result cursor.new }
+    ensures header { SaysHeader (counts_behind (keyword_seen keyword.now) (present_line cursor.old) cursor.old.lines) result cursor.new }
     ensures limits { IfOk result (λ header. header.vertices ≤ MOST_VERTICES) }
     ensures end { cursor.new.end_line ≡ cursor.old.end_line }
 {
@@ -81,7 +81,7 @@ fn coordinates_of(keyword: &Keyword) -> u32
 
 /// The counts behind a keyword with nothing behind `OFF`.
 fn behind_bare_keyword(cursor: &mut Cursor, coordinates: u32) -> Result<Header, OffFault>
-    ensures header { SaysHeader (bare_counts coordinates (line_at cursor.old) cursor.old.lines) result cursor.new }
+    ensures header { SaysHeader (bare_counts coordinates (present_line cursor.old) cursor.old.lines) result cursor.new }
     ensures limits { IfOk result (λ header. header.vertices ≤ MOST_VERTICES) }
     ensures end { cursor.new.end_line ≡ cursor.old.end_line }
 {

@@ -3,8 +3,8 @@ ghost use Rattle.std.specs.Prelude.{◌≡◌, ◌⊎◌, ◌≤◌, List, [], �
 ghost use Rattle.std.specs.Result.{result_err};
 ghost use Rattle.text_scan.specs.Lines.{Line};
 ghost use Rattle.text_scan.specs.Unread.{Unread};
-ghost use Rattle.off_reader.specs.OffTexts.{taken, point_fault, face_fault, rings_of, meaning_of};
-ghost use Rattle.off_reader.specs.OffSteps.{line_at, IsSameLine, TakesPoints, TakesFaces};
+ghost use Rattle.off_reader.specs.OffTexts.{taken, point_fault, face_fault, rings_named, meaning_of};
+ghost use Rattle.off_reader.specs.OffSteps.{present_line, IsSameLine, TakesPoints, TakesFaces};
 ghost use Rattle.surf_model.specs.declared.limits.TheConstants.{MOST_VERTICES};
 
 use crate::header::{Header, read_header};
@@ -43,7 +43,7 @@ fn pass_points(cursor: &mut Cursor, coordinates: u32, vertices: u32) -> Result<(
 /// Goes to the next line that is not blank.
 #[inline(always)]
 fn next_line(cursor: &mut Cursor) -> Result<(), OffFault>
-    ensures line { MatchResult result (λ _. cursor.old.lines ≡ line_at cursor.new ∷ cursor.new.lines)
+    ensures line { MatchResult result (λ _. cursor.old.lines ≡ present_line cursor.new ∷ cursor.new.lines)
         (λ fault. (cursor.old.lines ≡ []) × (fault ≡ OffFault.Ended cursor.old.end_line)) }
     ensures end { cursor.new.end_line ≡ cursor.old.end_line }
 {
@@ -59,7 +59,7 @@ fn next_line(cursor: &mut Cursor) -> Result<(), OffFault>
 
 /// Passes over the coordinates of a vertex.
 fn pass_point(cursor: &mut Cursor, coordinates: u32) -> Result<(), OffFault>
-    ensures fault { result_err result ≡ point_fault coordinates [] (line_at cursor.old) }
+    ensures fault { result_err result ≡ point_fault coordinates [] (present_line cursor.old) }
     ensures line { IsSameLine cursor.old cursor.new }
 {
     for _ in 0..coordinates {

@@ -11,7 +11,7 @@ pub use Rattle.std.proofs.lemmas.Result.{err_from_is_err_and}
 pub use Rattle.std.specs.List.{cons_option, list_all, list_any, range_with_len}
 pub use Rattle.std.specs.Prelude.{All, None, Ok, Option, Some, codes, decimal, flat_map, if◌then◌else◌, nat_le, nat_lt, option_and_then, replicate, slice_get, sum_by, ◌==◌}
 pub use Rattle.surf_io.proofs.Gathering.{EachPut, all-written, each-all, each-fails, each-more, each-none, each-stops, gathers-none, gathers-put, line_of-numbers, on_ok, only-none, part-written, puts-fails, puts-same, puts-then}
-pub use Rattle.surf_io.specs.Gathered.{spaced}
+pub use Rattle.surf_io.specs.Gathered.{spaced_number}
 pub use Rattle.surf_model.specs.FaceLists.{FaceList, HasFileSize, IsFace, IsFaceList, next_corner}
 pub use Rattle.surf_model.specs.Vertices.{numbers}
 pub use Rattle.text_scan.proofs.WrittenLemmas.{IsLine, IsWritable, decimal_is, decimals-writable, lines_from-written, number-writable, numbered}

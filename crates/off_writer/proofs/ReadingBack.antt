@@ -1,6 +1,6 @@
 -- The text of a mesh is read as the mesh, whatever number texts stand for its vertices.
 use Rattle.off_writer.proofs.Common.{point_words, ring_words, off_text, ◌≡◌, inl, inr, ℕ, suc, ◌+◌, ◌*◌, ◌<◌, ◌≤◌, Bool, true, false, List, [], ◌∷◌, ◌++◌, length, map, take, get_or, arith, sym, ap, ◌∙◌, subst, refl, append_assoc, cases_Bool, and_from, eqb-true, lt-ltb, le-ltb, le-leb, append-nil, length-map, take_all, length-replicate, All-nil, All-cons, All-head, All-tail, All-append, All-map, All-replicate, All-weaker, filter_map-append, Any-from_list_any, list_all, list_any, cons_option, range_with_len, Option, Some, None, option_and_then, Ok, codes, All, decimal, flat_map, sum_by, replicate, nat_le, nat_lt, ◌==◌, FaceList, IsFace, IsFaceList, HasFileSize, next_corner, IsWritable, IsLine, numbered, lines_from-written, number-writable, decimals-writable, Line, unmarked, lines_from, full_lines, end_line, is_natural, value_of, is_number_text, line_of}
-use Rattle.off_reader.specs.OffTexts.{header_of, keyword_of, are_pieces, counts_at, taken, point_fault, face_fault, corners_of, corners_among, rings_of, has_equal_neighbours, ring_fault, mesh_of, meaning_of}
+use Rattle.off_reader.specs.OffTexts.{header_of, keyword_of, are_pieces, counts_at, taken, point_fault, face_fault, corners_of, corners_among, rings_named, has_equal_neighbours, ring_fault, mesh_of, meaning_of}
 use Rattle.off_reader.specs.declared.header.TheConstants.{MOST_FACES}
 use Rattle.off_reader.specs.declared.off_fault.OffFault.{OffFault}
 use Rattle.std.proofs.lemmas.List.FromFn.{length-range_with_len, get_or-range_with_len}
@@ -153,7 +153,7 @@ in_range count (v ∷ face) all =
     (in_range count face (All-tail (λ w. w < count) v face all))
 
 fits_face : (before : List Line) (number count sides : ℕ) (face : List ℕ) → count ≤ MOST_VERTICES → IsSmall count face
-    → sum_by length (rings_of before) ≡ sides → sides + length face ≤ MOST_SIDES
+    → sum_by length (rings_named before) ≡ sides → sides + length face ≤ MOST_SIDES
     → face_fault count before (record { number = number; words = ring_words face }) ≡ None
 fits_face before number count sides face few h so_far room =
     let inside : list_all (λ v. nat_lt v count) face ≡ true = in_range count face h.is_face.in_range in
@@ -165,23 +165,23 @@ fits_face before number count sides face few h so_far room =
 record TakesFaces (count end : ℕ) (before : List Line) (n : ℕ) (lines : List Line) (rings : List (List ℕ)) : Type 0 where
   after : List Line
   taken_so : taken (face_fault count) end before n lines ≡ Ok (after, [])
-  rings_are : rings_of after ≡ rings_of before ++ rings
+  rings_are : rings_named after ≡ rings_named before ++ rings
 
 takes_faces : (count end n sides : ℕ) (before : List Line) (faces : List (List ℕ)) → count ≤ MOST_VERTICES → All (IsSmall count) faces
-    → sum_by length (rings_of before) ≡ sides → sides + sum_by length faces ≤ MOST_SIDES
+    → sum_by length (rings_named before) ≡ sides → sides + sum_by length faces ≤ MOST_SIDES
     → TakesFaces count end before (length faces) (numbered n (map ring_words faces)) faces
 unfolding taken
 takes_faces count end n sides before [] few all so_far room =
-    record { after = before; taken_so = refl; rings_are = sym (append-nil (rings_of before)) }
+    record { after = before; taken_so = refl; rings_are = sym (append-nil (rings_named before)) }
 takes_faces count end n sides before (face ∷ faces) few all so_far room =
     let h : IsSmall count face = All-head (IsSmall count) face faces all in
     let sum : sum_by length (face ∷ faces) ≡ length face + sum_by length faces = sum_by-cons {X = List ℕ} length face faces in
     let line : Line = record { number = n; words = ring_words face } in
-    let more : rings_of (before ++ line ∷ []) ≡ rings_of before ++ face ∷ [] =
+    let more : rings_named (before ++ line ∷ []) ≡ rings_named before ++ face ∷ [] =
     filter_map-append (λ l. corners_of l.words) before (line ∷ [])
-    ∙ ap (λ r. rings_of before ++ cons_option r []) (corners-read count face few h) in
-    let counted : sum_by length (rings_of (before ++ line ∷ [])) ≡ sides + length face =
-    ap (sum_by length) more ∙ sum_by_push length (rings_of before) face ∙ ap (λ k. k + length face) so_far in
+    ∙ ap (λ r. rings_named before ++ cons_option r []) (corners-read count face few h) in
+    let counted : sum_by length (rings_named (before ++ line ∷ [])) ≡ sides + length face =
+    ap (sum_by length) more ∙ sum_by_push length (rings_named before) face ∙ ap (λ k. k + length face) so_far in
     let others = takes_faces count end (n + 1) (sides + length face) (before ++ line ∷ []) faces few
     (All-tail (IsSmall count) face faces all) counted (omega arith) in
     record {
@@ -191,7 +191,7 @@ takes_faces count end n sides before (face ∷ faces) few all so_far room =
           (fits_face before n count sides face few h so_far (omega arith))
           ∙ others.taken_so;
       rings_are =
-          others.rings_are ∙ ap (λ (rs : List (List ℕ)). rs ++ faces) more ∙ append_assoc (rings_of before) (face ∷ []) faces;
+          others.rings_are ∙ ap (λ (rs : List (List ℕ)). rs ++ faces) more ∙ append_assoc (rings_named before) (face ∷ []) faces;
     }
 
 -- ---- the head of the text, and all of it
@@ -216,7 +216,7 @@ header-read v f rest few_v few_f =
 mesh-read : (end v f : ℕ) (lines rest left points faces : List Line)
     → header_of lines ≡ Ok (record { coordinates = 3; vertices = v; faces = f; lines = rest })
     → taken (point_fault 3) end [] v rest ≡ Ok (points, left) → taken (face_fault v) end [] f left ≡ Ok (faces, [])
-    → mesh_of end lines ≡ Ok (record { count = v; faces = rings_of faces })
+    → mesh_of end lines ≡ Ok (record { count = v; faces = rings_named faces })
 unfolding mesh_of
 mesh-read end v f lines rest left points faces first second third = rw (first, second, third) refl
 

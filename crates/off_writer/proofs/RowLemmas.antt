@@ -1,24 +1,24 @@
 -- The lines of faces, and the corners in them, put one after another.
-use Rattle.off_writer.proofs.Common.{head_text, point_words, ring_words, off_text, ◌≡◌, ℕ, ◌<◌, List, [], ◌∷◌, ◌++◌, length, map, ap, sym, ◌∙◌, append_assoc, arith, length-map, length-replicate, get_or-replicate, flat_map-map, slice_get-get_or, Some, flat_map, slice_get, replicate, codes, decimal, line_of-numbers, spaced, FaceList, numbers, line_of}
+use Rattle.off_writer.proofs.Common.{head_text, point_words, ring_words, off_text, ◌≡◌, ℕ, ◌<◌, List, [], ◌∷◌, ◌++◌, length, map, ap, sym, ◌∙◌, append_assoc, arith, length-map, length-replicate, get_or-replicate, flat_map-map, slice_get-get_or, Some, flat_map, slice_get, replicate, codes, decimal, line_of-numbers, spaced_number, FaceList, numbers, line_of}
 use Rattle.std.proofs.lemmas.List.Concat.{flat_map-append}
 use Rattle.surf_model.specs.declared.names.VertexName.{VertexName}
 
 -- a corner behind a blank
 abbrev pub corner_put : VertexName → List ℕ
-corner_put corner = spaced corner.0
+corner_put corner = spaced_number corner.0
 
 -- the line of a face
 abbrev pub ring_put : List ℕ → List ℕ
 ring_put face = line_of (ring_words face)
 
-pub corners_put : (ring : List VertexName) → flat_map corner_put ring ≡ flat_map spaced (numbers ring)
-corners_put ring = sym (flat_map-map spaced (λ (v : VertexName). v.0) ring)
+pub corners_put : (ring : List VertexName) → flat_map corner_put ring ≡ flat_map spaced_number (numbers ring)
+corners_put ring = sym (flat_map-map spaced_number (λ (v : VertexName). v.0) ring)
 
 pub rings_put : (faces : List (List ℕ)) → flat_map ring_put faces ≡ flat_map line_of (map ring_words faces)
 rings_put faces = sym (flat_map-map line_of ring_words faces)
 
 pub ring_line : (ring : List VertexName)
-    → decimal (length ring) ++ (flat_map spaced (numbers ring) ++ 10 ∷ []) ≡ line_of (ring_words (numbers ring))
+    → decimal (length ring) ++ (flat_map spaced_number (numbers ring) ++ 10 ∷ []) ≡ line_of (ring_words (numbers ring))
 ring_line ring =
     line_of-numbers (decimal (length ring)) (numbers ring)
     ∙ ap (λ n. line_of (decimal n ∷ map decimal (numbers ring))) (sym (length-map ring (λ (v : VertexName). v.0)))

@@ -3,7 +3,7 @@ ghost use Rattle.std.specs.Prelude.{◌≡◌, ◌≤◌, [], ◌++◌, Ok, leng
 ghost use Rattle.text_scan.specs.Plain.{line_of};
 ghost use Rattle.surf_io.specs.Bytes.{Appends, AppendsPrefix};
 ghost use Rattle.surf_io.specs.Faults.{Rose};
-ghost use Rattle.surf_io.specs.Gathered.{Puts, spaced};
+ghost use Rattle.surf_io.specs.Gathered.{Puts, spaced_number};
 ghost use Rattle.surf_model.specs.Vertices.{numbers};
 ghost use Rattle.off_reader.specs.OffTexts.{meaning_of};
 ghost use Rattle.off_writer.specs.Parts.{head_text};
@@ -86,7 +86,7 @@ fn put_ring<K: Sink>(ring: &[VertexName], piece: &mut Piece, sink: &mut K) -> Re
 
 /// Puts the corners of a face, each behind a blank.
 fn put_corners<K: Sink>(ring: &[VertexName], piece: &mut Piece, sink: &mut K) -> Result<(), Failed>
-    ensures { Puts K.written K.settled K.faults result sink.old sink.new piece.old piece.new (flat_map spaced (numbers ring.now)) }
+    ensures { Puts K.written K.settled K.faults result sink.old sink.new piece.old piece.new (flat_map spaced_number (numbers ring.now)) }
 {
     for corner in ring {
         piece.put_behind(corner.0, sink)?;

@@ -1,5 +1,5 @@
 -- The answers of the two commands: one, and the right one.
-use Rattle.open_commands.proofs.Common.{differs, yes_or_no, no_yes, IsSound, sound-decided_by, Answer, Convinces, decision_line, End, Refuse, Pass, Passes, decision_answer, walk_at, Outcome, IsAnswerOf, Moves, Status, Yes, No, IsWithin, LeadsAtPeak, MOST_OPEN_STEPS, IsListPrinted, IsShortReply, list_answer, listed, certify_open, decide_open, asked, open_pair_in, OpenPair, ◌≡◌, ◌⊎◌, inl, inr, ℕ, List, refl, sym, ap, ◌∙◌, subst, ◌↔◌, IsTrue, IfNone, IfSome, MatchOption, Option, Some, None, if◌then◌else◌, Files, FaceList, PeakedMoves}
+use Rattle.open_commands.proofs.Common.{differs, yes_or_no, no_yes, IsSound, sound-decided_by, Answer, Convinces, decision_line, End, Refuse, Pass, Passes, decision_answer, Outcome, IsAnswerOf, Moves, Status, Yes, No, IsListWithin, LeadsAtPeak, MOST_OPEN_STEPS, IsListPrinted, IsShortReply, list_answer, decided_with_list, certify_open, decide_open, asked, open_pair_in, OpenPair, ◌≡◌, ◌⊎◌, inl, inr, ℕ, List, refl, sym, ap, ◌∙◌, subst, ◌↔◌, IsTrue, IfNone, IfSome, MatchOption, Option, Some, None, if◌then◌else◌, Files, FaceList, PeakedMoves, walk_at}
 use Rattle.commands.specs.Replies.{IsReplyTo, reply_status}
 use Rattle.commands.specs.declared.reply.Reply.{Reply}
 use Rattle.std.proofs.lemmas.Bool.{both_ways}
@@ -9,7 +9,7 @@ use Rattle.surf_model.specs.declared.decisions.Answer as deciding
 use Rattle.surf_model.specs.declared.decisions.Answer.TheVariants as answers
 use Rattle.commands.specs.declared.reply.Reply.TheVariants as replies
 
-pub sound-listed : (held : Option Files) (mesh : FaceList) (first second : List ℕ) → IsSound held (listed mesh first second)
+pub sound-listed : (held : Option Files) (mesh : FaceList) (first second : List ℕ) → IsSound held (decided_with_list mesh first second)
 sound-listed held mesh first second = sound-decided_by held yes_or_no (list_answer mesh first second) (Homotopic mesh first second)
 
 -- what is answered with a list, where one is right
@@ -40,7 +40,7 @@ right_by mesh first second answers.Different status text right told =
     }
 
 pub right_list : (mesh : FaceList) (first second : List ℕ) (outcome : Outcome) (status : Status) (text : List ℕ)
-    → (listed mesh first second).Ends outcome → IsAnswerOf outcome status text → IsRightList mesh first second status text
+    → (decided_with_list mesh first second).Ends outcome → IsAnswerOf outcome status text → IsRightList mesh first second status text
 right_list mesh first second (Refuse texts) status text p answer = absurd p
 right_list mesh first second (Pass x) status text p answer =
     right_by mesh first second p.0 status text p.2 (subst (λ (y : Answer). IsAnswerOf (Pass y) status text) p.1 answer)
@@ -75,16 +75,17 @@ pub list_passes : (held : Option Files) (mesh walks : List ℕ) (pair : OpenPair
     → (decision ≡ answers.Homotopic) ↔ Homotopic pair.surface.mesh first second
     → Passes (certify_open held mesh walks) (list_answer pair.surface.mesh first second decision)
 list_passes held mesh walks pair decision first second f g p right =
-    let here : (listed pair.surface.mesh first second).Ends (Pass (list_answer pair.surface.mesh first second decision)) =
+    let here : (decided_with_list pair.surface.mesh first second).Ends (Pass (list_answer pair.surface.mesh first second decision)) =
     (decision, refl, right) in
-    let there : (listed pair.surface.mesh (walk_at pair.walks.walks 0) (walk_at pair.walks.walks 1)).Ends
+    let there : (decided_with_list pair.surface.mesh (walk_at pair.walks.walks 0) (walk_at pair.walks.walks 1)).Ends
     (Pass (list_answer pair.surface.mesh first second decision)) =
     subst
-    (λ (w : List ℕ). (listed pair.surface.mesh (walk_at pair.walks.walks 0) w).Ends
+    (λ (w : List ℕ). (decided_with_list pair.surface.mesh (walk_at pair.walks.walks 0) w).Ends
     (Pass (list_answer pair.surface.mesh first second decision)))
     (sym g)
     (subst
-    (λ (w : List ℕ). (listed pair.surface.mesh w second).Ends (Pass (list_answer pair.surface.mesh first second decision))) (sym f) here) in
+    (λ (w : List ℕ). (decided_with_list pair.surface.mesh w second).Ends (Pass (list_answer pair.surface.mesh first second decision)))
+    (sym f) here) in
     inr (asked pair, p, there)
 
 -- the reply that a found list is, or that there is none
@@ -95,8 +96,8 @@ pub record IsFoundReply (mesh : FaceList) (first second : List ℕ) (reply : Rep
 
 pub found_reply : (mesh : FaceList) (first second : List ℕ) (found : Option PeakedMoves) (reply : Reply)
     → MatchOption found (Homotopic mesh first second → ⊥) (λ list. LeadsAtPeak mesh first list second)
-    → IfSome found (IsWithin MOST_OPEN_STEPS)
-    → IfSome found (λ list. (m : FaceList) (a b : List ℕ) → LeadsAtPeak m a list b → IsWithin MOST_OPEN_STEPS list
+    → IfSome found (IsListWithin MOST_OPEN_STEPS)
+    → IfSome found (λ list. (m : FaceList) (a b : List ℕ) → LeadsAtPeak m a list b → IsListWithin MOST_OPEN_STEPS list
     → IsReplyTo (list_answer m a b answers.Homotopic) reply)
     → ((m : FaceList) (a b : List ℕ) → IfNone found (IsReplyTo (list_answer m a b answers.Different) reply))
     → IsFoundReply mesh first second reply

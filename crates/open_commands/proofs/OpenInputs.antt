@@ -1,11 +1,11 @@
 -- How the checks of an open surface and of walks of it end.
-use Rattle.open_commands.proofs.Common.{stops_next, stops_second, told_stops, walks_of_pair, sound-mesh, sound-pair, mesh_passes, pair_told, IsSound, sound-then, sound-pass_unless, meant_told, unless_told, sound-unless_fault, Exactly, Check, Refuse, Pass, Passes, Holds, IsTold, pass_unless, ◌>>=◌, mesh_in, pair_in, walk_at, SpellsMesh, orientable, Stops, Tells, MOST_OPEN_SIDES, MOST_OPEN_DARTS, open_line, open_surface, as_open_surface, open_surface_in, IsOpenPair, Question, question, limit_fault, open_pair_in, OpenPair, ◌≡◌, inr, ℕ, ◌+◌, ◌≤◌, List, refl, sym, ap, subst, arith, get_or_from_slice_get, Option, Some, None, Result, Ok, Err, IfOk, MatchResult, slice_get, Files, FaceList, IsFaceList, total_sides, darts, AreWalkPair}
+use Rattle.open_commands.proofs.Common.{stops_next, stops_second, told_stops, walks_of_pair, sound-mesh, sound-pair, mesh_passes, pair_told, IsSound, sound-then, sound-pass_unless, meant_told, unless_told, sound-unless_fault, Exactly, Check, Refuse, Pass, Passes, Holds, IsTold, pass_unless, ◌>>=◌, mesh_in, pair_in, SpellsMesh, orientable, Stops, Tells, MOST_OPEN_SIDES, MOST_OPEN_DARTS, open_line, open_surface, as_open_surface, open_surface_in, IsOpenPair, Question, question, open_limit_fault, open_pair_in, OpenPair, ◌≡◌, inr, ℕ, ◌+◌, ◌≤◌, List, refl, sym, ap, subst, arith, get_or_from_slice_get, Option, Some, None, Result, Ok, Err, IfOk, MatchResult, slice_get, Files, FaceList, IsFaceList, total_sides, walk_at, darts, AreWalkPair}
 use Rattle.commands.proofs.MeshTexts.{mesh_valid, sound-orientable}
 use Rattle.commands.specs.Refusals.{told, off_line}
 use Rattle.commands.specs.declared.stop.Stop.{Stop}
 use Rattle.free_forms.proofs.FaultLemmas.{one_fault, no_fault}
 use Rattle.free_forms.proofs.OutcomeLemmas.{open_or_fault}
-use Rattle.free_forms.specs.OpenFaults.{IsFirstFault}
+use Rattle.free_forms.specs.OpenFaults.{IsFirstOpenFault}
 use Rattle.free_forms.specs.OpenSurfaces.{IsOpenSurface}
 use Rattle.off_reader.specs.OffTexts.{meaning_of}
 use Rattle.surf_model.specs.Edges.{Edge}
@@ -15,7 +15,8 @@ use Rattle.surf_model.specs.Surfaces.{IsOrientable}
 
 pub sound-open : (held : Option Files) (mesh : FaceList) → IsFaceList mesh → IsSound held (open_surface mesh)
 sound-open held mesh valid =
-    sound-unless_fault (open_surface mesh) open_line (IsFirstFault mesh) (IsOpenSurface mesh) mesh (λ _ h. h) (λ _ h. h) (one_fault mesh)
+    sound-unless_fault (open_surface mesh) open_line (IsFirstOpenFault mesh) (IsOpenSurface mesh) mesh (λ _ h. h) (λ _ h. h)
+    (one_fault mesh)
     (no_fault mesh) held
     (λ none. open_or_fault mesh valid (λ is. none (Pass mesh) (is, refl)) (λ fault is. none (Refuse (open_line fault)) (fault, is, refl)))
 
@@ -50,7 +51,8 @@ open_told files name told = ((told, λ bytes _. meant_told files off_line (meani
 
 -- what is looked at behind the surface, and behind the walks
 abbrev pub limited : FaceList → List (List ℕ) → Check Question
-limited surface pair = pass_unless (λ line. Exactly line) (limit_fault surface (walk_at pair 0) (walk_at pair 1)) (question surface pair)
+limited surface pair =
+    pass_unless (λ line. Exactly line) (open_limit_fault surface (walk_at pair 0) (walk_at pair 1)) (question surface pair)
 
 abbrev pub after_surface : Option Files → List ℕ → FaceList → Check Question
 after_surface held walks surface = pair_in held walks surface >>= limited surface
@@ -59,7 +61,7 @@ pub sound-open_pair_in : (held : Option Files) (mesh walks : List ℕ) → IsSou
 sound-open_pair_in held mesh walks =
     sound-then held _ _ (sound-open_surface_in held mesh)
     (λ surface _. sound-then held _ _ (sound-pair held walks surface)
-    (λ pair _. sound-pass_unless held (λ line. Exactly line) (limit_fault surface (walk_at pair 0) (walk_at pair 1))
+    (λ pair _. sound-pass_unless held (λ line. Exactly line) (open_limit_fault surface (walk_at pair 0) (walk_at pair 1))
     (question surface pair)))
 
 pub pair_files_told : (held : Option Files) (mesh walks : List ℕ) → IsTold held mesh → IsTold held walks
@@ -68,7 +70,7 @@ pair_files_told held mesh walks one other = (
   open_told held mesh one,
   λ surface _. (
     pair_told held walks surface other,
-    λ pair _. unless_told held (λ line. Exactly line) (limit_fault surface (walk_at pair 0) (walk_at pair 1)) (question surface pair),
+    λ pair _. unless_told held (λ line. Exactly line) (open_limit_fault surface (walk_at pair 0) (walk_at pair 1)) (question surface pair),
   ),
 )
 
@@ -79,7 +81,7 @@ walks_stop held mesh walks surface stop p h =
 
 pub limits_stop : (held : Option Files) (mesh walks : List ℕ) (surface : FaceList) (pair : List (List ℕ)) (line : List ℕ) (stop : Stop)
     → Passes (open_surface_in held mesh) surface → Passes (pair_in held walks surface) pair
-    → limit_fault surface (walk_at pair 0) (walk_at pair 1) ≡ Some line → Tells (Exactly line) stop
+    → open_limit_fault surface (walk_at pair 0) (walk_at pair 1) ≡ Some line → Tells (Exactly line) stop
     → Stops (open_pair_in held mesh walks) stop
 limits_stop held mesh walks surface pair line stop p q e h =
     stops_next (open_surface_in held mesh) (after_surface held walks) surface stop p
@@ -88,7 +90,7 @@ limits_stop held mesh walks surface pair line stop p q e h =
 
 pub pair_passes : (held : Option Files) (mesh walks : List ℕ) (surface : FaceList) (pair : List (List ℕ))
     → Passes (open_surface_in held mesh) surface → Passes (pair_in held walks surface) pair
-    → limit_fault surface (walk_at pair 0) (walk_at pair 1) ≡ None → Passes (open_pair_in held mesh walks) (question surface pair)
+    → open_limit_fault surface (walk_at pair 0) (walk_at pair 1) ≡ None → Passes (open_pair_in held mesh walks) (question surface pair)
 pair_passes held mesh walks surface pair p q e = inr (surface, p, inr (pair, q, rw e refl))
 
 -- the pair that is asked of an open mesh that was made of the surface

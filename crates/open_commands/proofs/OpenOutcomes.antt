@@ -1,5 +1,5 @@
 -- `decide-open` and `certify-open` in the words of the mesh.
-use Rattle.open_commands.proofs.Common.{IsRightAnswer, right_answer, behind, refused_behind, sound-decided, none_over, refused_beyond, refused_so, IsOutcomeOf, spelled_pair, IsSound, held, sound-then, Answer, Exactly, Check, Passes, IsTold, ◌>>=◌, decided, pair_in, SpellsMesh, SpellsPair, Outcome, AnswersTo, IsAnswerOf, Status, Refused, IsCertifiedOpen, listed, certify_open, IsDecidedOpen, decide_open, IsOpenInput, IsRefusedLarge, IsWithinLimits, Question, limit_fault, limit_word, open_limits, open_pair_in, ◌≡◌, inr, ℕ, List, [], ◌∷◌, codes, refl, Option, Some, Files, FaceList}
+use Rattle.open_commands.proofs.Common.{IsRightAnswer, right_answer, behind, refused_behind, sound-decided, none_over, refused_beyond, refused_so, IsOutcomeOf, spelled_pair, IsSound, held, sound-then, Answer, Exactly, Check, Passes, IsTold, ◌>>=◌, decided, pair_in, SpellsMesh, SpellsPair, Outcome, AnswersTo, IsAnswerOf, Status, Refused, IsCertifiedOpen, decided_with_list, certify_open, IsDecidedOpen, decide_open, IsOpenInput, IsRefusedLarge, IsWithinOpenLimits, Question, open_limit_fault, open_limit_word, open_limits, open_pair_in, ◌≡◌, inr, ℕ, List, [], ◌∷◌, codes, refl, Option, Some, Files, FaceList}
 use Rattle.open_commands.proofs.Listing.{IsRightList, right_list, sound-listed}
 use Rattle.open_commands.proofs.OpenInputs.{spelled_open, pair_files_told, pair_passes, sound-open_pair_in}
 
@@ -28,7 +28,7 @@ module _ (next : Question → Check Answer) (keyword : List ℕ) (files : Option
   passes = spelled_pair files input.walks_name mesh first second input.walks_file
 
   -- within the limits the answer is made
-  pub made : (outcome : Outcome) → IsWithinLimits mesh first second
+  pub made : (outcome : Outcome) → IsWithinOpenLimits mesh first second
       → (open_pair_in files input.mesh_name input.walks_name >>= next).Ends outcome
       → (next (record { mesh = mesh; first = first; second = second })).Ends outcome
   unfolding asked
@@ -37,10 +37,10 @@ module _ (next : Question → Check Answer) (keyword : List ℕ) (files : Option
       (sound-open_pair_in files input.mesh_name input.walks_name) told
       (pair_passes files input.mesh_name input.walks_name mesh (first ∷ second ∷ [])
       (spelled_open files input.mesh_name mesh input.mesh_file input.is_open input.is_orientable) passes
-      (none_over open_limits limit_word mesh first second within.sides within.few)) is
+      (none_over open_limits open_limit_word mesh first second within.sides within.few)) is
 
   -- beyond them it is refused
-  pub refused : (outcome : Outcome) (status : Status) (text line : List ℕ) → limit_fault mesh first second ≡ Some line
+  pub refused : (outcome : Outcome) (status : Status) (text line : List ℕ) → open_limit_fault mesh first second ≡ Some line
       → (open_pair_in files input.mesh_name input.walks_name >>= next).Ends outcome → IsAnswerOf outcome status text
       → (status ≡ Refused) × (text ≡ line)
   refused outcome status text line e is answer =
@@ -61,7 +61,7 @@ module _ (next : Question → Check Answer) (keyword : List ℕ) (files : Option
     → AnswersTo files (open_pair_in files mesh walks >>= next) status text) where
   -- within the limits it is an outcome of what is made
   pub within_limits : (mesh : FaceList) (first second : List ℕ) → IsOpenInput keyword files words mesh first second
-      → IsWithinLimits mesh first second
+      → IsWithinOpenLimits mesh first second
       → IsOutcomeOf (next (record { mesh = mesh; first = first; second = second })) status text
   within_limits mesh first second input within =
       let a = answered input.mesh_name input.walks_name input.words_are in
@@ -72,14 +72,14 @@ module _ (next : Question → Check Answer) (keyword : List ℕ) (files : Option
       }
 
   refused_with : (mesh : FaceList) (first second : List ℕ) → IsOpenInput keyword files words mesh first second → (line : List ℕ)
-      → limit_fault mesh first second ≡ Some line → (status ≡ Refused) × (text ≡ line)
+      → open_limit_fault mesh first second ≡ Some line → (status ≡ Refused) × (text ≡ line)
   refused_with mesh first second input line e =
       let a = answered input.mesh_name input.walks_name input.words_are in
       refused next keyword files words mesh first second input a.outcome status text line e a.is_outcome a.is_answer
 
   -- beyond them it is refused
   pub beyond_limits : IsRefusedLarge keyword files words status text
-  beyond_limits = refused_beyond open_limits limit_word (IsOpenInput keyword files words) status text refused_with
+  beyond_limits = refused_beyond open_limits open_limit_word (IsOpenInput keyword files words) status text refused_with
 
 -- ---- the two commands
 
@@ -88,7 +88,7 @@ abbrev pub then_decided : Question → Check Answer
 then_decided asked = decided asked.mesh asked.first asked.second
 
 abbrev pub then_listed : Question → Check Answer
-then_listed asked = listed asked.mesh asked.first asked.second
+then_listed asked = decided_with_list asked.mesh asked.first asked.second
 
 pub decided_open_so : (files : Option Files) (words : List (List ℕ)) (status : Status) (text : List ℕ)
     → ((mesh walks : List ℕ) → words ≡ codes "decide-open" ∷ mesh ∷ walks ∷ [] → AnswersTo files (decide_open files mesh walks) status text)
@@ -101,7 +101,7 @@ decided_open_so files words status text answered =
     }
   where
     right : (mesh : FaceList) (first second : List ℕ) → IsOpenInput (codes "decide-open") files words mesh first second
-        → IsWithinLimits mesh first second → IsRightAnswer mesh first second status text
+        → IsWithinOpenLimits mesh first second → IsRightAnswer mesh first second status text
     right mesh first second input within =
         let a = within_limits then_decided (codes "decide-open") files words status text answered mesh first second input within in
         right_answer mesh first second a.outcome status text a.is_outcome a.is_answer
@@ -118,7 +118,7 @@ certified_open_so files words status text answered =
     }
   where
     right : (mesh : FaceList) (first second : List ℕ) → IsOpenInput (codes "certify-open") files words mesh first second
-        → IsWithinLimits mesh first second → IsRightList mesh first second status text
+        → IsWithinOpenLimits mesh first second → IsRightList mesh first second status text
     right mesh first second input within =
         let a = within_limits then_listed (codes "certify-open") files words status text answered mesh first second input within in
         right_list mesh first second a.outcome status text a.is_outcome a.is_answer

@@ -1,5 +1,5 @@
 -- A list of moves within the limits has a short text: its numbers are small, and so its lines are short.
-use Rattle.open_commands.proofs.Common.{certificate_text, decision_line, Moves, LeadsAtPeak, IsWithin, MOST_OPEN_SIDES, MOST_OPEN_STEPS, ◌≡◌, ℕ, zero, suc, ◌+◌, ◌*◌, ◌^◌, ◌<◌, ◌≤◌, Bool, true, false, List, [], ◌∷◌, ◌++◌, length, get_or, length-append, refl, ap, ◌∙◌, subst, arith, decimal, flat_map, map, sum_by, Some, All, FaceList, IsFace, IsFaceList, HasFileSize, is_used, face_at, corners_from, total_sides, PeakedMoves, Leads, apply, apply_all, greatest_darts, IsWalk, darts, Homotopic}
+use Rattle.open_commands.proofs.Common.{certificate_text, decision_line, Moves, LeadsAtPeak, IsListWithin, MOST_OPEN_SIDES, MOST_OPEN_STEPS, ◌≡◌, ℕ, zero, suc, ◌+◌, ◌*◌, ◌^◌, ◌<◌, ◌≤◌, Bool, true, false, List, [], ◌∷◌, ◌++◌, length, get_or, length-append, refl, ap, ◌∙◌, subst, arith, decimal, flat_map, map, sum_by, Some, All, FaceList, IsFace, IsFaceList, HasFileSize, is_used, face_at, corners_from, total_sides, PeakedMoves, Leads, apply, apply_all, greatest_darts, IsWalk, darts, Homotopic}
 use Rattle.commands.specs.declared.certificate.TheConstants.{MOST_SPHERE_MOVES}
 use Rattle.commands.specs.declared.inputs.TheConstants.{MOST_BYTES}
 use Rattle.common_ends.proofs.PeakLemmas.{greatest_darts-more}
@@ -201,7 +201,7 @@ list_short mesh first second list k most valid small sides w h some few wide mov
     )
 
 pub text_short : (mesh : FaceList) (first second : List ℕ) (list : PeakedMoves) → IsFaceList mesh → HasFileSize mesh
-    → total_sides mesh ≤ MOST_OPEN_SIDES → IsWalk mesh first → LeadsAtPeak mesh first list second → IsWithin MOST_OPEN_STEPS list
+    → total_sides mesh ≤ MOST_OPEN_SIDES → IsWalk mesh first → LeadsAtPeak mesh first list second → IsListWithin MOST_OPEN_STEPS list
     → length (certificate_text (Moves list)) ≤ MOST_OPEN_BYTES
 text_short mesh first second list valid small sides w h within =
     omega (

@@ -6,7 +6,7 @@ use Rattle.surf_model.specs.Moves as moves
 use Rattle.surf_model.specs.Moves.{PeakedMoves}
 use Rattle.surf_model.specs.declared.decisions.Answer as deciding
 use Rattle.surf_model.specs.declared.decisions.Answer.TheVariants.{Homotopic, Different}
-use Rattle.free_forms.specs.PeakedLists.{IsWithin}
+use Rattle.free_forms.specs.PeakedLists.{IsListWithin}
 use Rattle.free_forms.specs.declared.limits.TheConstants.{MOST_OPEN_STEPS}
 use Rattle.commands.specs.Answers.{Answer, OfShortList}
 use Rattle.commands.specs.Certificates.{Convinces, decision_line, certificate_text}
@@ -18,7 +18,7 @@ use Rattle.commands.specs.declared.reply.Reply.{Reply}
 use Rattle.commands.specs.declared.reply.Reply.TheVariants as replies
 use Rattle.commands.specs.declared.status.Status.{Status}
 use Rattle.commands.specs.declared.status.Status.TheVariants.{Yes, No}
-use Rattle.open_commands.specs.OpenPairs.{IsOpenInput, IsWithinLimits, IsRefusedLarge, open_pair_in}
+use Rattle.open_commands.specs.OpenPairs.{IsOpenInput, IsWithinOpenLimits, IsRefusedLarge, open_pair_in}
 use Rattle.open_commands.specs.declared.certify_open.TheConstants.{MOST_OPEN_BYTES}
 
 -- Behind the line `homotopic` a list was written, with status 0. It leads from the first walk to the second, its peak is the greatest
@@ -26,7 +26,7 @@ use Rattle.open_commands.specs.declared.certify_open.TheConstants.{MOST_OPEN_BYT
 pub record IsListPrinted (mesh : FaceList) (first second : List ℕ) (status : Status) (text : List ℕ) : Type 0 where
   pub list : PeakedMoves
   pub convinces : Convinces mesh first second (Moves list)
-  pub within : IsWithin MOST_OPEN_STEPS list
+  pub within : IsListWithin MOST_OPEN_STEPS list
   pub status_is : status ≡ Yes
   pub text_is : text ≡ certificate_text (Moves list)
 
@@ -35,17 +35,17 @@ pub record IsListPrinted (mesh : FaceList) (first second : List ℕ) (status : S
 -- limits it is refused.
 pub record IsCertifiedOpen (held : Option Files) (words : List (List ℕ)) (status : Status) (text : List ℕ) : Type 0 where
   pub answered : (mesh : FaceList) (first second : List ℕ) → IsOpenInput (codes "certify-open") held words mesh first second
-      → IsWithinLimits mesh first second
+      → IsWithinOpenLimits mesh first second
       → IsListPrinted mesh first second status text ⊎ ((status ≡ No) × (text ≡ decision_line Different))
   pub exactly : (mesh : FaceList) (first second : List ℕ) → IsOpenInput (codes "certify-open") held words mesh first second
-      → IsWithinLimits mesh first second → (status ≡ Yes) ↔ moves.Homotopic mesh first second
+      → IsWithinOpenLimits mesh first second → (status ≡ Yes) ↔ moves.Homotopic mesh first second
   pub beyond : IsRefusedLarge (codes "certify-open") held words status text
 
 -- the text is that of a list behind its decision: neither its moves nor its peak are more than this, and the text is short enough for
 -- `verify`
 pub record IsShortText (text : List ℕ) : Type 0 where
   pub list : PeakedMoves
-  pub within : IsWithin MOST_OPEN_STEPS list
+  pub within : IsListWithin MOST_OPEN_STEPS list
   pub text_is : text ≡ certificate_text (Moves list)
   pub short : length text ≤ MOST_OPEN_BYTES
 
@@ -63,10 +63,10 @@ list_answer mesh first second Homotopic = record { status = Yes; texts = OfShort
 list_answer mesh first second Different = decision_answer Different
 
 -- the decision on two walks of a mesh, with a list of moves where there is one
-abbrev pub listed : FaceList → (first second : List ℕ) → Check Answer
-listed mesh first second = decided_by Homotopic (list_answer mesh first second) (moves.Homotopic mesh first second)
+abbrev pub decided_with_list : FaceList → (first second : List ℕ) → Check Answer
+decided_with_list mesh first second = decided_by Homotopic (list_answer mesh first second) (moves.Homotopic mesh first second)
 
 abbrev pub certify_open : Option Files → (mesh walks : List ℕ) → Check Answer
 certify_open held mesh walks = do
   asked ← open_pair_in held mesh walks
-  listed asked.mesh asked.first asked.second
+  decided_with_list asked.mesh asked.first asked.second

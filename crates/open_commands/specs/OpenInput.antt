@@ -3,7 +3,7 @@
 use Rattle.std.specs.Prelude.{◌≡◌, ℕ, List, [], ◌∷◌, codes, decimal, Option}
 use Rattle.surf_io.specs.Files.{Files}
 use Rattle.surf_model.specs.FaceLists.{FaceList}
-use Rattle.free_forms.specs.OpenFaults.{IsFirstFault}
+use Rattle.free_forms.specs.OpenFaults.{IsFirstOpenFault}
 use Rattle.free_forms.specs.OpenSurfaces.{IsOpenSurface}
 use Rattle.free_forms.specs.declared.fault.OpenFault.{OpenFault}
 use Rattle.free_forms.specs.declared.fault.OpenFault.TheVariants as faults
@@ -27,7 +27,7 @@ abbrev pub open_surface : FaceList → Check FaceList
 open_surface mesh = without_files ends
   where
     ends : End FaceList → Type 0
-    ends (Refuse texts) = (fault : OpenFault) × IsFirstFault mesh fault × (texts ≡ open_line fault)
+    ends (Refuse texts) = (fault : OpenFault) × IsFirstOpenFault mesh fault × (texts ≡ open_line fault)
     ends (Pass surface) = IsOpenSurface mesh × (surface ≡ mesh)
 
 -- an orientable open surface passes

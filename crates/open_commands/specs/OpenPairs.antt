@@ -3,13 +3,13 @@ use Rattle.std.specs.Prelude.{◌≡◌, ℕ, List, [], ◌∷◌, codes, Option
 use Rattle.surf_io.specs.Files.{Files}
 use Rattle.surf_model.specs.FaceLists.{FaceList}
 use Rattle.surf_model.specs.Surfaces.{IsOrientable}
-use Rattle.surf_model.specs.Walks.{darts}
+use Rattle.surf_model.specs.Walks.{darts, walk_at}
 use Rattle.walk_files.specs.Pairs.{IsPair}
 use Rattle.free_forms.specs.OpenSurfaces.{IsOpenSurface}
 use Rattle.free_forms.specs.declared.limits.TheConstants.{MOST_OPEN_SIDES, MOST_OPEN_DARTS}
 use Rattle.commands.specs.Answers.{Exactly}
 use Rattle.commands.specs.Checks.{Check, Holds, pass_unless, ◌>>=◌}
-use Rattle.commands.specs.Inputs.{pair_in, walk_at, SpellsMesh, SpellsPair}
+use Rattle.commands.specs.Inputs.{pair_in, SpellsMesh, SpellsPair}
 use Rattle.commands.specs.Limits.{FitsLimits, IsRefusedBeyond, limit_line}
 use Rattle.commands.specs.declared.status.Status.{Status}
 use Rattle.commands.specs.declared.limits.Limits.{Limits}
@@ -32,22 +32,22 @@ pub record IsOpenInput (keyword : List ℕ) (held : Option Files) (words : List 
 abbrev pub open_limits : Limits
 open_limits = record { sides = MOST_OPEN_SIDES; darts = MOST_OPEN_DARTS }
 
-abbrev pub limit_word : List ℕ
-limit_word = codes "open"
+abbrev pub open_limit_word : List ℕ
+open_limit_word = codes "open"
 
 -- the surface and the walks are not too large
-abbrev pub IsWithinLimits : FaceList → (first second : List ℕ) → Type 0
-IsWithinLimits mesh first second = FitsLimits open_limits mesh first second
+abbrev pub IsWithinOpenLimits : FaceList → (first second : List ℕ) → Type 0
+IsWithinOpenLimits mesh first second = FitsLimits open_limits mesh first second
 
 -- what is answered of such an input beyond the limits: it is refused for the sides, and then for the darts
 abbrev pub IsRefusedLarge : (keyword : List ℕ) → Option Files → (words : List (List ℕ)) → Status → List ℕ → Type 0
-IsRefusedLarge keyword held words status text = IsRefusedBeyond open_limits limit_word (IsOpenInput keyword held words) status text
+IsRefusedLarge keyword held words status text = IsRefusedBeyond open_limits open_limit_word (IsOpenInput keyword held words) status text
 
 -- ---- what is looked at, in order
 
 -- the refusal of a surface or of walks that are too large
-abbrev pub limit_fault : FaceList → (first second : List ℕ) → Option (List ℕ)
-limit_fault mesh first second = limit_line open_limits limit_word mesh first second
+abbrev pub open_limit_fault : FaceList → (first second : List ℕ) → Option (List ℕ)
+open_limit_fault mesh first second = limit_line open_limits open_limit_word mesh first second
 
 -- an open surface and two walks of it
 pub record Question : Type 0 where
@@ -64,7 +64,7 @@ abbrev pub open_pair_in : Option Files → (mesh walks : List ℕ) → Check Que
 open_pair_in held mesh walks = do
   surface ← open_surface_in held mesh
   pair ← pair_in held walks surface
-  pass_unless (λ line. Exactly line) (limit_fault surface (walk_at pair 0) (walk_at pair 1)) (question surface pair)
+  pass_unless (λ line. Exactly line) (open_limit_fault surface (walk_at pair 0) (walk_at pair 1)) (question surface pair)
 
 -- what a pair that was read asks
 abbrev pub asked : OpenPair → Question
@@ -73,4 +73,4 @@ asked pair = question pair.surface.mesh pair.walks.walks
 -- the walks are two walks of the surface with common ends, and all is within the limits
 pub record IsOpenPair (pair : OpenPair) : Type 0 where
   pub walks : IsPair pair.surface.mesh pair.walks.walks
-  pub within : IsWithinLimits pair.surface.mesh (walk_at pair.walks.walks 0) (walk_at pair.walks.walks 1)
+  pub within : IsWithinOpenLimits pair.surface.mesh (walk_at pair.walks.walks 0) (walk_at pair.walks.walks 1)

@@ -3,7 +3,7 @@ ghost use Rattle.std.specs.Prelude.{◌≤◌, ℕ, List, IfOk, IfSome, IfNone};
 ghost use Rattle.surf_model.specs.FaceLists.{FaceList, IsFaceList, HasFileSize, total_sides};
 ghost use Rattle.surf_model.specs.Walks.{IsWalk};
 ghost use Rattle.surf_model.specs.declared.decisions.Answer.TheVariants.{Homotopic, Different};
-ghost use Rattle.free_forms.specs.PeakedLists.{LeadsAtPeak, IsWithin};
+ghost use Rattle.free_forms.specs.PeakedLists.{LeadsAtPeak, IsListWithin};
 ghost use Rattle.free_forms.specs.declared.limits.TheConstants.{MOST_OPEN_SIDES, MOST_OPEN_STEPS};
 ghost use Rattle.commands.specs.Replies.{IsReplyTo, Runs};
 ghost use Rattle.open_commands.specs.CertifyOpen.{list_answer, IsShortReply};
@@ -41,10 +41,10 @@ pub fn certify_open<S: Shelf>(
 /// The reply with a list of moves, or that there is none.
 fn reply_with(found: Option<MoveList>) -> Reply
     ensures some { IfSome found (λ list. (mesh : FaceList) (first second : List ℕ) → LeadsAtPeak mesh first list second
-        → IsWithin MOST_OPEN_STEPS list → IsReplyTo (list_answer mesh first second Homotopic) result) }
+        → IsListWithin MOST_OPEN_STEPS list → IsReplyTo (list_answer mesh first second Homotopic) result) }
     ensures none { (mesh : FaceList) (first second : List ℕ) → IfNone found (IsReplyTo (list_answer mesh first second Different) result) }
     ensures short { (mesh : FaceList) (first second : List ℕ) → IsFaceList mesh → HasFileSize mesh → total_sides mesh ≤ MOST_OPEN_SIDES
-        → IsWalk mesh first → IfSome found (λ list. LeadsAtPeak mesh first list second × IsWithin MOST_OPEN_STEPS list)
+        → IsWalk mesh first → IfSome found (λ list. LeadsAtPeak mesh first list second × IsListWithin MOST_OPEN_STEPS list)
         → IsShortReply result }
 {
     match found {

@@ -11,7 +11,7 @@ ghost use Rattle.commands.specs.declared.certificate.Certificate.{Certificate};
 ghost use Rattle.commands.specs.declared.status.Status.{Status};
 ghost use Rattle.open_commands.specs.CertifyOpen.{certify_open, IsCertifiedOpen};
 ghost use Rattle.open_commands.specs.DecideOpen.{decide_open, IsDecidedOpen};
-ghost use Rattle.open_commands.specs.OpenPairs.{IsWithinLimits};
+ghost use Rattle.open_commands.specs.OpenPairs.{IsWithinOpenLimits};
 
 /// What `decide-open` answers of two walks of an open surface, where its words are answered by its check.
 pub fn decide_open_answers()

@@ -2,7 +2,7 @@
 ghost use Rattle.std.specs.Prelude.{◌≡◌, MatchResult, IfOk, Err};
 ghost use Rattle.surf_model.specs.Edges.{IsTableOf};
 ghost use Rattle.commands.specs.Checks.{Passes};
-ghost use Rattle.commands.specs.Stops.{Reads, Stops};
+ghost use Rattle.commands.specs.Stops.{EndsReading, Stops};
 ghost use Rattle.commands.specs.Inputs.{orientable};
 ghost use Rattle.commands.specs.declared.stop.Stop.{Stop};
 ghost use Rattle.free_forms.specs.OpenSurfaces.{IsOpenSurface};
@@ -23,7 +23,7 @@ pub fn read_open_surface<S: Shelf>(
     shelf: &mut S,
     name: &str,
 ) -> Result<(Faces, Sides), Stop>
-    ensures reads { Reads S.held S.faults shelf.old shelf.new (λ files. MatchResult result
+    ensures reads { EndsReading S.held S.faults shelf.old shelf.new (λ files. MatchResult result
         (λ surface. Passes (open_surface_in files name.now) surface.0) (Stops (open_surface_in files name.now))) result }
     ensures table { IfOk result (λ surface. IsTableOf surface.0 surface.1) }
     ensures surface { IfOk result (λ surface. IsOpenSurface surface.0) }

@@ -1,7 +1,7 @@
 //! Reading an open surface and two walks of it.
 ghost use Rattle.std.specs.Prelude.{MatchResult, IfOk};
 ghost use Rattle.commands.specs.Checks.{Passes};
-ghost use Rattle.commands.specs.Stops.{Reads, Stops};
+ghost use Rattle.commands.specs.Stops.{EndsReading, Stops};
 ghost use Rattle.open_commands.specs.OpenPairs.{IsOpenPair, asked, open_pair_in};
 
 use crate::open_input::read_open_surface;
@@ -32,7 +32,7 @@ pub(crate) fn read_open_pair<S: Shelf>(
     mesh: &str,
     walks: &str,
 ) -> Result<OpenPair, Stop>
-    ensures reads { Reads S.held S.faults shelf.old shelf.new (λ files. MatchResult result
+    ensures reads { EndsReading S.held S.faults shelf.old shelf.new (λ files. MatchResult result
         (λ pair. Passes (open_pair_in files mesh.now walks.now) (asked pair)) (Stops (open_pair_in files mesh.now walks.now))) result }
     ensures pair { IfOk result IsOpenPair }
 {

@@ -1,7 +1,7 @@
 -- The other side of an edge, read from the table.
 use Rattle.orientation.proofs.Common.{partners_swap, number_once, EachEdgeHasAtMostTwoSides, IsAcross, IsAlong, map, ◌≡◌, ◌≢◌, ◌⊎◌, inl, inr, ℕ, ◌<◌, ◌≤◌, true, List, length, get_or, ap, sym, ◌∙◌, subst, arith, cases_lt, nat_tests, length-map, get_or-map, Contains, Some, None, filter, side_below, face_side_in, next_within, IsSide, side_number, tail_of, head_of, Edge, IsTableOf, IsEdgeOf, edge_in, side_name, FaceList, all_sides, joins, next_corner, total_sides, ArePartners, Side}
 use Rattle.surf_model.proofs.PartnerLemmas.{IsSideOfEdge, side_of_edge, edge_has_side, table_edge, partners_of_edge, ends_agree}
-use Rattle.surf_model.specs.EdgeDarts.{IsNextInEdge, darts_of}
+use Rattle.surf_model.specs.EdgeDarts.{IsNextInEdge, edge_darts_of}
 use Rattle.orientation.proofs.Partners.{entry_of, two_of, joined_edge, one_partner}
 
 -- the side stands at a place of edge k of the table
@@ -62,8 +62,8 @@ IsAtPlace sides i side = (i < length sides) × (get_or sides i side ≡ side)
 
 -- the place of a side's number among those of edge k is that of the side
 at_place : {mesh : FaceList} {table : List Edge} (k i default : ℕ) {side : Side} (dart : ℕ) → IsTableOf mesh table → k < length table
-    → IsSide mesh side → dart ≡ side_number mesh side → i < length (darts_of mesh (edge_in table k))
-    → get_or (darts_of mesh (edge_in table k)) i default ≡ dart → IsAtPlace (edge_in table k).sides i side
+    → IsSide mesh side → dart ≡ side_number mesh side → i < length (edge_darts_of mesh (edge_in table k))
+    → get_or (edge_darts_of mesh (edge_in table k)) i default ≡ dart → IsAtPlace (edge_in table k).sides i side
 at_place {mesh} {table} k i default {side} dart is in_table in_mesh number in_edge here =
     let sides : List Side = (edge_in table k).sides in
     let few : i < length sides = omega (arith, in_edge, length-map sides (side_number mesh)) in
@@ -74,7 +74,7 @@ at_place {mesh} {table} k i default {side} dart is in_table in_mesh number in_ed
 
 -- an edge with a side's number has the side
 pub has_numbered : {mesh : FaceList} {table : List Edge} (k : ℕ) {side : Side} (dart : ℕ) → IsTableOf mesh table → k < length table
-    → IsSide mesh side → dart ≡ side_number mesh side → Contains (darts_of mesh (edge_in table k)) dart
+    → IsSide mesh side → dart ≡ side_number mesh side → Contains (edge_darts_of mesh (edge_in table k)) dart
     → Contains (edge_in table k).sides side
 has_numbered {table} k {side} dart is in_table in_mesh number has =
     let at : IsAtPlace (edge_in table k).sides has.0 side = at_place k has.0 dart dart is in_table in_mesh number has.1 has.2 in

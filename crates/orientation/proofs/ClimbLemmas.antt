@@ -1,5 +1,5 @@
 -- The chain round a tear.
-use Rattle.orientation.proofs.Common.{joined_step, joined_trans, EachEdgeHasAtMostTwoSides, IsFaceStep, AreOfOneClass, IsTear, Growth, IsAlong, AreTrees, IsFoundFrom, differ, is_seen, place_of, Place, ◌≡◌, ◌≢◌, ℕ, ◌+◌, ◌*◌, ◌%◌, ◌<◌, ◌≤◌, Bool, true, false, not, cond, eqb, List, [], ◌∷◌, ◌++◌, length, reverse, refl, ap, sym, ◌∙◌, subst, arith, length-append, nat_tests, length_push, reverse-append, length-reverse, sum_by-cons, sum_by-append, count_by, FaceList, LeadsTo, LeadOnTo, IsOddChain, first_face, is_turned, is_flipped, ChainLink, Side}
+use Rattle.orientation.proofs.Common.{joined_step, joined_trans, EachEdgeHasAtMostTwoSides, IsFaceStep, AreOfOneClass, IsTear, Growth, IsAlong, AreTrees, IsFoundFrom, differ, is_seen, tree_place_of, Place, ◌≡◌, ◌≢◌, ℕ, ◌+◌, ◌*◌, ◌%◌, ◌<◌, ◌≤◌, Bool, true, false, not, cond, eqb, List, [], ◌∷◌, ◌++◌, length, reverse, refl, ap, sym, ◌∙◌, subst, arith, length-append, nat_tests, length_push, reverse-append, length-reverse, sum_by-cons, sum_by-append, count_by, FaceList, LeadsTo, LeadOnTo, IsOddChain, first_face, is_turned, is_flipped, ChainLink, Side}
 use Rattle.orientation.specs.declared.search.Tear.{Tear}
 use Rattle.orientation.proofs.Fitting.{link_leads, link_leads_back, link_turned}
 use Rattle.orientation.proofs.ChainLemmas.{bit, bit_differ, differ_swap}
@@ -74,11 +74,11 @@ torn_parity false false false h = absurd (h refl)
 
 -- up from a face that was found, and down to it
 pub way_up : {mesh : FaceList} {growth : Growth} {f : ℕ} (link : ChainLink) → EachEdgeHasAtMostTwoSides mesh
-    → IsFoundFrom mesh growth f (place_of growth f).from
-    → IsAlong mesh (place_of growth f).from link.low.0 link.high.0 → link.face.0 ≡ f → IsWay mesh growth.flipped 0 f (link ∷ [])
-    (place_of growth f).from.face.0
+    → IsFoundFrom mesh growth f (tree_place_of growth f).from
+    → IsAlong mesh (tree_place_of growth f).from link.low.0 link.high.0 → link.face.0 ≡ f → IsWay mesh growth.flipped 0 f (link ∷ [])
+    (tree_place_of growth f).from.face.0
 way_up {mesh} {growth} {f} link two h along face =
-    let from : Side = (place_of growth f).from in
+    let from : Side = (tree_place_of growth f).from in
     let turned : is_turned mesh link ≡ differ (is_flipped growth.flipped f) (is_flipped growth.flipped from.face.0) =
     link_turned link two h.partners along ∙ sym h.fit ∙ ap
     (λ n. differ (is_flipped growth.flipped from.face.0) (is_flipped growth.flipped n)) h.here
@@ -87,11 +87,11 @@ way_up {mesh} {growth} {f} link two h along face =
     (fitting_parity (is_turned mesh link) (is_flipped growth.flipped f) (is_flipped growth.flipped from.face.0) turned)
 
 pub way_down : {mesh : FaceList} {growth : Growth} {f : ℕ} (link : ChainLink) → EachEdgeHasAtMostTwoSides mesh
-    → IsFoundFrom mesh growth f (place_of growth f).from
-    → IsAlong mesh (place_of growth f).from link.low.0 link.high.0 → link.face.0 ≡ (place_of growth f).from.face.0
-    → IsWay mesh growth.flipped 0 (place_of growth f).from.face.0 (link ∷ []) f
+    → IsFoundFrom mesh growth f (tree_place_of growth f).from
+    → IsAlong mesh (tree_place_of growth f).from link.low.0 link.high.0 → link.face.0 ≡ (tree_place_of growth f).from.face.0
+    → IsWay mesh growth.flipped 0 (tree_place_of growth f).from.face.0 (link ∷ []) f
 way_down {mesh} {growth} {f} link two h along face =
-    let from : Side = (place_of growth f).from in
+    let from : Side = (tree_place_of growth f).from in
     let turned : is_turned mesh link ≡ differ (is_flipped growth.flipped from.face.0) (is_flipped growth.flipped f) =
     link_turned link two h.partners along ∙ sym h.fit ∙ ap
     (λ n. differ (is_flipped growth.flipped from.face.0) (is_flipped growth.flipped n)) h.here in
@@ -115,7 +115,7 @@ pub record IsClimb (mesh : FaceList) (growth : Growth) (last : ℕ) (chain down 
   pub joined : AreOfOneClass mesh face other
   pub seen : is_seen growth face ≡ true
   pub other_seen : is_seen growth other ≡ true
-  pub size : length chain + length down + (place_of growth face).depth + (place_of growth other).depth ≤ 2 * length mesh.faces
+  pub size : length chain + length down + (tree_place_of growth face).depth + (tree_place_of growth other).depth ≤ 2 * length mesh.faces
 
 pub climb_first : {mesh : FaceList} {growth : Growth} {tear : Tear} (link : ChainLink) → EachEdgeHasAtMostTwoSides mesh
     → AreTrees mesh growth → IsTear mesh growth tear
@@ -133,16 +133,16 @@ climb_first {mesh} {growth} {tear} link two trees h along face = record {
 
 pub climb_up : {mesh : FaceList} {growth : Growth} {last : ℕ} {chain down : List ChainLink} {face other : ℕ} (link : ChainLink)
     → EachEdgeHasAtMostTwoSides mesh
-    → IsClimb mesh growth last chain down face other → IsFoundFrom mesh growth face (place_of growth face).from
-    → IsAlong mesh (place_of growth face).from link.low.0 link.high.0 → link.face.0 ≡ face
-    → IsClimb mesh growth last (chain ++ link ∷ []) down (place_of growth face).from.face.0 other
+    → IsClimb mesh growth last chain down face other → IsFoundFrom mesh growth face (tree_place_of growth face).from
+    → IsAlong mesh (tree_place_of growth face).from link.low.0 link.high.0 → link.face.0 ≡ face
+    → IsClimb mesh growth last (chain ++ link ∷ []) down (tree_place_of growth face).from.face.0 other
 climb_up {mesh} {growth} {last} {chain} {face} {other} link two h found along is = record {
-  up = way-append mesh growth.flipped 1 last face (place_of growth face).from.face.0 chain (link ∷ []) h.up
+  up = way-append mesh growth.flipped 1 last face (tree_place_of growth face).from.face.0 chain (link ∷ []) h.up
       (way_up link two found along is);
   back = h.back;
   joined =
-      joined_trans (IsFaceStep mesh) (place_of growth face).from.face.0 face other
-      (joined_back (IsFaceStep mesh) (step_back mesh) face (place_of growth face).from.face.0 (up_joined found)) h.joined;
+      joined_trans (IsFaceStep mesh) (tree_place_of growth face).from.face.0 face other
+      (joined_back (IsFaceStep mesh) (step_back mesh) face (tree_place_of growth face).from.face.0 (up_joined found)) h.joined;
   seen = found.seen;
   other_seen = h.other_seen;
   size = omega (arith, h.size, found.deeper, length_push chain link);
@@ -150,16 +150,17 @@ climb_up {mesh} {growth} {last} {chain} {face} {other} link two h found along is
 
 pub climb_down : {mesh : FaceList} {growth : Growth} {last : ℕ} {chain down : List ChainLink} {face other : ℕ} (link : ChainLink)
     → EachEdgeHasAtMostTwoSides mesh
-    → IsClimb mesh growth last chain down face other → IsFoundFrom mesh growth other (place_of growth other).from
-    → IsAlong mesh (place_of growth other).from link.low.0 link.high.0 → link.face.0 ≡ (place_of growth other).from.face.0
-    → IsClimb mesh growth last chain (down ++ link ∷ []) face (place_of growth other).from.face.0
+    → IsClimb mesh growth last chain down face other → IsFoundFrom mesh growth other (tree_place_of growth other).from
+    → IsAlong mesh (tree_place_of growth other).from link.low.0 link.high.0 → link.face.0 ≡ (tree_place_of growth other).from.face.0
+    → IsClimb mesh growth last chain (down ++ link ∷ []) face (tree_place_of growth other).from.face.0
 climb_down {mesh} {growth} {last} {down} {face} {other} link two h found along is = record {
   up = h.up;
   back =
-      subst (λ links. IsWay mesh growth.flipped 0 (place_of growth other).from.face.0 links last) (sym (reverse-append down (link ∷ [])))
-      (way-append mesh growth.flipped 0 (place_of growth other).from.face.0 other last (link ∷ []) (reverse down)
+      subst (λ links. IsWay mesh growth.flipped 0 (tree_place_of growth other).from.face.0 links last)
+      (sym (reverse-append down (link ∷ [])))
+      (way-append mesh growth.flipped 0 (tree_place_of growth other).from.face.0 other last (link ∷ []) (reverse down)
       (way_down link two found along is) h.back);
-  joined = joined_trans (IsFaceStep mesh) face other (place_of growth other).from.face.0 h.joined (up_joined found);
+  joined = joined_trans (IsFaceStep mesh) face other (tree_place_of growth other).from.face.0 h.joined (up_joined found);
   seen = h.seen;
   other_seen = found.seen;
   size = omega (arith, h.size, found.deeper, length_push down link);
@@ -203,7 +204,8 @@ length-reversed a b c d h =
 -- the places as they were read
 pub found_up : {mesh : FaceList} {growth : Growth} {last : ℕ} {chain down : List ChainLink} {face other : ℕ} (p q : Place)
     → AreTrees mesh growth
-    → IsClimb mesh growth last chain down face other → face ≢ other → p ≡ place_of growth face → q ≡ place_of growth other → q.depth ≤
+    → IsClimb mesh growth last chain down face other → face ≢ other → p ≡ tree_place_of growth face → q ≡ tree_place_of growth other
+    → q.depth ≤
     p.depth → IsFoundFrom mesh growth face p.from
 found_up {mesh} {growth} {face} {other} p q trees h apart is_p is_q depth =
     subst (λ (x : Place). IsFoundFrom mesh growth face x.from) (sym is_p) (deeper_found face other trees h.seen h.other_seen h.joined apart
@@ -211,7 +213,8 @@ found_up {mesh} {growth} {face} {other} p q trees h apart is_p is_q depth =
 
 pub found_down : {mesh : FaceList} {growth : Growth} {last : ℕ} {chain down : List ChainLink} {face other : ℕ} (p q : Place)
     → AreTrees mesh growth
-    → IsClimb mesh growth last chain down face other → face ≢ other → p ≡ place_of growth face → q ≡ place_of growth other → p.depth <
+    → IsClimb mesh growth last chain down face other → face ≢ other → p ≡ tree_place_of growth face → q ≡ tree_place_of growth other
+    → p.depth <
     q.depth → IsFoundFrom mesh growth other q.from
 found_down {mesh} {growth} {face} {other} p q trees h apart is_p is_q depth =
     subst (λ (x : Place). IsFoundFrom mesh growth other x.from) (sym is_q)
@@ -220,7 +223,7 @@ found_down {mesh} {growth} {face} {other} p q trees h apart is_p is_q depth =
 
 pub climbed_up : {mesh : FaceList} {growth : Growth} {last : ℕ} {chain down : List ChainLink} {face other : ℕ} (link : ChainLink)
     (p : Place) (more : List ChainLink)
-    → EachEdgeHasAtMostTwoSides mesh → IsClimb mesh growth last chain down face other → p ≡ place_of growth face → IsFoundFrom mesh
+    → EachEdgeHasAtMostTwoSides mesh → IsClimb mesh growth last chain down face other → p ≡ tree_place_of growth face → IsFoundFrom mesh
     growth face p.from
     → IsAlong mesh p.from link.low.0 link.high.0 → link.face.0 ≡ face → more ≡ chain ++ link ∷ [] → IsClimb mesh growth last more down
     p.from.face.0 other
@@ -228,12 +231,12 @@ climbed_up {mesh} {growth} {last} {down} {face} {other} link p more two h is fou
     let F : Place → Type 0 = λ x. IsFoundFrom mesh growth face x.from in
     let A : Place → Type 0 = λ x. IsAlong mesh x.from link.low.0 link.high.0 in
     subst (λ (x : Place). IsClimb mesh growth last more down x.from.face.0 other) (sym is)
-    (subst (λ xs. IsClimb mesh growth last xs down (place_of growth face).from.face.0 other) (sym pushed)
+    (subst (λ xs. IsClimb mesh growth last xs down (tree_place_of growth face).from.face.0 other) (sym pushed)
     (climb_up link two h (subst F is found) (subst A is along) at))
 
 pub climbed_down : {mesh : FaceList} {growth : Growth} {last : ℕ} {chain down : List ChainLink} {face other : ℕ} (link : ChainLink)
     (p : Place) (more : List ChainLink)
-    → EachEdgeHasAtMostTwoSides mesh → IsClimb mesh growth last chain down face other → p ≡ place_of growth other → IsFoundFrom mesh
+    → EachEdgeHasAtMostTwoSides mesh → IsClimb mesh growth last chain down face other → p ≡ tree_place_of growth other → IsFoundFrom mesh
     growth other p.from
     → IsAlong mesh p.from link.low.0 link.high.0 → link.face.0 ≡ p.from.face.0 → more ≡ down ++ link ∷ [] → IsClimb mesh growth last
     chain more face p.from.face.0
@@ -241,7 +244,7 @@ climbed_down {mesh} {growth} {last} {chain} {face} {other} link p more two h is 
     let F : Place → Type 0 = λ x. IsFoundFrom mesh growth other x.from in
     let A : Place → Type 0 = λ x. IsAlong mesh x.from link.low.0 link.high.0 in
     subst (λ (x : Place). IsClimb mesh growth last chain more face x.from.face.0) (sym is)
-    (subst (λ xs. IsClimb mesh growth last chain xs face (place_of growth other).from.face.0) (sym pushed)
+    (subst (λ xs. IsClimb mesh growth last chain xs face (tree_place_of growth other).from.face.0) (sym pushed)
     (climb_down link two h (subst F is found) (subst A is along) (subst (λ (x : Place). link.face.0 ≡ x.from.face.0) is at)))
 
 pub apart_from_test : (a b : ℕ) → not (eqb a b) ≡ true → a ≢ b

@@ -2,8 +2,8 @@
 pub use Rattle.connectivity.proofs.CornerLemmas.{after_in_mesh, corner_used, number_once, partners_swap}
 pub use Rattle.connectivity.proofs.Joining.{joined_refl, joined_step, joined_sym, joined_trans}
 pub use Rattle.orientation.specs.Classes.{AreOfOneClass, EachEdgeHasAtMostTwoSides, IsFaceStep, IsLeastKept, IsLeastOfClass}
-pub use Rattle.orientation.specs.Searches.{Extends, GoesOn, IsKept, IsSearch, IsTear}
-pub use Rattle.orientation.specs.Trees.{AreListedCoherently, AreTrees, Fit, Growth, IsAcross, IsAlong, IsExplored, IsExploredUpTo, IsFirst, IsFoundFrom, IsFrontier, count_unseen, differ, is_seen, no_place, place_of, runs_alike, unseen, with_face}
+pub use Rattle.orientation.specs.Searches.{Extends, GrowthGoesOn, IsFaceKept, IsSearch, IsTear}
+pub use Rattle.orientation.specs.Trees.{AreListedCoherently, AreTrees, Fit, Growth, IsAcross, IsAlong, IsExplored, IsExploredUpTo, IsFirst, IsFoundFrom, IsFrontier, count_unseen, differ, is_seen, no_place, runs_alike, tree_place_of, unseen, with_tree_face}
 pub use Rattle.orientation.specs.declared.trees.Place.{Place}
 pub use Rattle.std.proofs.Common.{Bool, List, ap, arith, below_more, cond, eqb, false, get_or, inl, inr, length, length-append, map, max, min, not, refl, reverse, subst, suc, sym, take, true, zero, ℕ, [], ◌%◌, ◌*◌, ◌++◌, ◌+◌, ◌<◌, ◌∙◌, ◌∷◌, ◌≡◌, ◌≢◌, ◌≤◌, ◌⊎◌}
 pub use Rattle.std.proofs.Math.Bool.{and-true}

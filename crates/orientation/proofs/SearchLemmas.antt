@@ -1,5 +1,5 @@
 -- The steps of the search.
-use Rattle.orientation.proofs.Common.{IsLeastKept, IsSearch, GoesOn, Extends, Growth, differ, runs_alike, Fit, is_seen, place_of, with_face, AreTrees, IsExploredUpTo, IsFrontier, unseen, no_place, Place, ◌≡◌, ◌⊎◌, inl, inr, ℕ, ◌+◌, ◌<◌, ◌≤◌, Bool, true, false, not, List, [], ◌∷◌, ◌++◌, length, refl, ap, sym, ◌∙◌, subst, arith, below_more, cases_lt, both_ways, length_push, get_or_past, get_or-set_same, get_or-replicate, length-replicate, FaceList, IsFaceList, HasFileSize, face_at, ArePartners, IsCoherent, is_flipped, Side, FaceName, beq}
+use Rattle.orientation.proofs.Common.{IsLeastKept, IsSearch, GrowthGoesOn, Extends, Growth, differ, runs_alike, Fit, is_seen, tree_place_of, with_tree_face, AreTrees, IsExploredUpTo, IsFrontier, unseen, no_place, Place, ◌≡◌, ◌⊎◌, inl, inr, ℕ, ◌+◌, ◌<◌, ◌≤◌, Bool, true, false, not, List, [], ◌∷◌, ◌++◌, length, refl, ap, sym, ◌∙◌, subst, arith, below_more, cases_lt, both_ways, length_push, get_or_past, get_or-set_same, get_or-replicate, length-replicate, FaceList, IsFaceList, HasFileSize, face_at, ArePartners, IsCoherent, is_flipped, Side, FaceName, beq}
 use Rattle.std.proofs.Common.{replicate}
 use Rattle.orientation.proofs.TreeLemmas.{found, fits_then, frontier_put, fitting, with_face_extends, count-with_face, extends_more, explored_more, explored_up_to_kept, explored_all, frontier_done, frontier_last, planted, all_coherent, all_kept}
 
@@ -7,15 +7,15 @@ use Rattle.orientation.proofs.TreeLemmas.{found, fits_then, frontier_put, fittin
 pub record Crossed (mesh : FaceList) (old : Growth) (waited : List FaceName) (side other : Side) (new : Growth)
     (waiting : List FaceName) : Type 0 where
   pub search : IsSearch mesh new (side.face ∷ waiting)
-  pub goes_on : GoesOn old waited new waiting
+  pub goes_on : GrowthGoesOn old waited new waiting
   pub fits : (is_seen new other.face.0 ≡ true) × Fit mesh new.flipped side other
 
 crossed_to : {mesh : FaceList} {old : Growth} (waiting : List FaceName) {side other : Side} (b : Bool) (p : Place)
     → IsSearch mesh old (side.face ∷ waiting)
     → ArePartners mesh side other → is_seen old other.face.0 ≡ false → b ≡ not
     (beq (is_flipped old.flipped side.face.0) (runs_alike mesh side other))
-    → p.from ≡ side → p.depth ≡ (place_of old side.face.0).depth + 1 → Crossed mesh old waiting side other
-    (with_face old other.face.0 b p) (waiting ++ other.face ∷ [])
+    → p.from ≡ side → p.depth ≡ (tree_place_of old side.face.0).depth + 1 → Crossed mesh old waiting side other
+    (with_tree_face old other.face.0 b p) (waiting ++ other.face ∷ [])
 crossed_to {mesh} {old} waiting {side} {other} b p h partners none is from depth =
     let seen : is_seen old side.face.0 ≡ true = h.frontier.queued 0 side.face (omega arith) in
     let fits : differ (is_flipped old.flipped side.face.0) b ≡ runs_alike mesh side other = ap
@@ -40,15 +40,15 @@ pub crossed : {mesh : FaceList} {old : Growth} (waited : List FaceName) {side ot
     (waiting : List FaceName)
     → IsSearch mesh old (side.face ∷ waited) → ArePartners mesh side other → is_seen old other.face.0 ≡ false
     → b ≡ not (beq (is_flipped old.flipped side.face.0) (runs_alike mesh side other)) → p.from ≡ side → p.depth ≡
-    (place_of old side.face.0).depth + 1
-    → new ≡ with_face old other.face.0 b p → waiting ≡ waited ++ other.face ∷ [] → Crossed mesh old waited side other new waiting
+    (tree_place_of old side.face.0).depth + 1
+    → new ≡ with_tree_face old other.face.0 b p → waiting ≡ waited ++ other.face ∷ [] → Crossed mesh old waited side other new waiting
 crossed {mesh} {old} waited {side} {other} b p new waiting h partners none is from depth grown pushed =
     subst (λ g. Crossed mesh old waited side other g waiting) (sym grown)
-    (subst (Crossed mesh old waited side other (with_face old other.face.0 b p)) (sym pushed)
+    (subst (Crossed mesh old waited side other (with_tree_face old other.face.0 b p)) (sym pushed)
     (crossed_to waited b p h partners none is from depth))
 
-pub goes_on_more : {old new newer : Growth} {waited waiting wait : List FaceName} → GoesOn old waited new waiting
-    → GoesOn new waiting newer wait → GoesOn old waited newer wait
+pub goes_on_more : {old new newer : Growth} {waited waiting wait : List FaceName} → GrowthGoesOn old waited new waiting
+    → GrowthGoesOn new waiting newer wait → GrowthGoesOn old waited newer wait
 goes_on_more h k =
     record { extends = extends_more h.extends k.extends; count = omega (arith, h.count, k.count) }
 
@@ -57,7 +57,7 @@ pub record IsExploring (mesh : FaceList) (start : Growth) (waited : List FaceNam
     (face : FaceName) (at : ℕ) : Type 0 where
   pub search : IsSearch mesh growth (face ∷ waiting)
   pub up_to : IsExploredUpTo mesh growth face.0 at
-  pub goes_on : GoesOn start waited growth waiting
+  pub goes_on : GrowthGoesOn start waited growth waiting
 
 -- a side with nothing across it
 pub exploring_past : {mesh : FaceList} {start : Growth} {waited : List FaceName} {growth : Growth} {waiting : List FaceName} (side : Side)
@@ -73,7 +73,7 @@ exploring_past {mesh} {growth} side h none = record {
 pub exploring_across : {mesh : FaceList} {start : Growth} {waited : List FaceName} {growth : Growth} {waiting : List FaceName}
     (side other : Side) {new : Growth} {more : List FaceName}
     → IsExploring mesh start waited growth waiting side.face side.at → ((partner : Side) → ArePartners mesh side partner → partner ≡ other)
-    → IsSearch mesh new (side.face ∷ more) → GoesOn growth waiting new more → (is_seen new other.face.0 ≡ true) × Fit mesh new.flipped
+    → IsSearch mesh new (side.face ∷ more) → GrowthGoesOn growth waiting new more → (is_seen new other.face.0 ≡ true) × Fit mesh new.flipped
     side other
     → IsExploring mesh start waited new more side.face (side.at + 1)
 exploring_across {mesh} side other {new} h only search on fits = record {
@@ -109,11 +109,11 @@ pub record IsGrowing (mesh : FaceList) (start : Growth) (root : ℕ) (growth : G
 
 pub growing_first : {mesh : FaceList} {start : Growth} (root : FaceName) (p : Place) (new : Growth) (waiting : List FaceName)
     → IsSearch mesh start [] → root.0 < length mesh.faces
-    → is_seen start root.0 ≡ false → ((g : ℕ) → g < root.0 → is_seen start g ≡ true) → p.depth ≡ 0 → new ≡ with_face start root.0 false
+    → is_seen start root.0 ≡ false → ((g : ℕ) → g < root.0 → is_seen start g ≡ true) → p.depth ≡ 0 → new ≡ with_tree_face start root.0 false
     p → waiting ≡ root ∷ []
     → IsGrowing mesh start root.0 new waiting
 growing_first {mesh} {start} root p new waiting h few none before depth grown pushed =
-    let here : IsGrowing mesh start root.0 (with_face start root.0 false p) (root ∷ []) = record {
+    let here : IsGrowing mesh start root.0 (with_tree_face start root.0 false p) (root ∷ []) = record {
       search = record {
         trees = planted root.0 p h.trees h.frontier few none before depth;
         frontier = frontier_put mesh start root false p [] h.trees few none h.frontier;
@@ -122,7 +122,7 @@ growing_first {mesh} {start} root p new waiting h few none before depth grown pu
       seen = get_or-set_same start.seen root.0 true false (omega (arith, few, h.trees.each_face));
     } in
     subst (λ g. IsGrowing mesh start root.0 g waiting) (sym grown)
-    (subst (IsGrowing mesh start root.0 (with_face start root.0 false p)) (sym pushed) here)
+    (subst (IsGrowing mesh start root.0 (with_tree_face start root.0 false p)) (sym pushed) here)
 
 -- whichever face is taken, it may be taken as the first
 pub taken : {mesh : FaceList} {growth : Growth} (face : FaceName) (rest : List FaceName) {waiting : List FaceName}

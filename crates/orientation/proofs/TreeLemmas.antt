@@ -1,5 +1,5 @@
 -- What a search knows, and how it grows by one face.
-use Rattle.orientation.proofs.Common.{partners_swap, joined_step, joined_trans, IsFaceStep, AreOfOneClass, IsLeastOfClass, IsLeastKept, IsKept, Extends, Growth, differ, runs_alike, Fit, is_seen, place_of, with_face, count_unseen, IsFirst, IsFoundFrom, AreTrees, IsExplored, IsExploredUpTo, IsFrontier, Place, ◌*◌, ◌≡◌, ◌≢◌, ◌⊎◌, inl, inr, ℕ, zero, suc, ◌+◌, ◌<◌, ◌≤◌, Bool, true, false, not, cond, List, [], ◌∷◌, ◌++◌, length, get_or, refl, ap, sym, ◌∙◌, subst, arith, cases_lt, cases_Bool, both_ways, get_or-set_other, get_or-set_same, sum_by-set, count_by-le-length, sum_by-cons, sum_by, All, Contains, FaceList, IsFaceList, HasFileSize, IsFace, face_at, IsPath, ArePartners, IsCoherent, is_flipped, Side, FaceName, beq}
+use Rattle.orientation.proofs.Common.{partners_swap, joined_step, joined_trans, IsFaceStep, AreOfOneClass, IsLeastOfClass, IsLeastKept, IsFaceKept, Extends, Growth, differ, runs_alike, Fit, is_seen, tree_place_of, with_tree_face, count_unseen, IsFirst, IsFoundFrom, AreTrees, IsExplored, IsExploredUpTo, IsFrontier, Place, ◌*◌, ◌≡◌, ◌≢◌, ◌⊎◌, inl, inr, ℕ, zero, suc, ◌+◌, ◌<◌, ◌≤◌, Bool, true, false, not, cond, List, [], ◌∷◌, ◌++◌, length, get_or, refl, ap, sym, ◌∙◌, subst, arith, cases_lt, cases_Bool, both_ways, get_or-set_other, get_or-set_same, sum_by-set, count_by-le-length, sum_by-cons, sum_by, All, Contains, FaceList, IsFaceList, HasFileSize, IsFace, face_at, IsPath, ArePartners, IsCoherent, is_flipped, Side, FaceName, beq}
 use Rattle.std.proofs.Math.ListN.{length-set}
 use Rattle.std.proofs.lemmas.List.Elements.{Contains-append_left, Contains-push, Contains-push_cases, All-weaker, All-push, All-head, All-tail, All-contains, Contains-get_or}
 use Rattle.surf_model.specs.declared.limits.TheConstants.{MOST_SIDES}
@@ -9,8 +9,8 @@ use Rattle.orientation.proofs.ClassLemmas.{step_back, joined_back}
 pub extends_more : {old new newer : Growth} → Extends old new → Extends new newer → Extends old newer
 extends_more {old} {new} {newer} h k = record {
   kept = λ f seen.
-      let first : IsKept old new f = h.kept f seen in
-      let then : IsKept new newer f = k.kept f first.seen in
+      let first : IsFaceKept old new f = h.kept f seen in
+      let then : IsFaceKept new newer f = k.kept f first.seen in
       record { seen = then.seen; sign = then.sign ∙ first.sign; place = then.place ∙ first.place };
 }
 
@@ -18,7 +18,7 @@ seen_differs : (growth : Growth) (f g : ℕ) → is_seen growth f ≡ true → i
 seen_differs growth f g h k same = both_ways (is_seen growth g) k (ap (is_seen growth) (sym same) ∙ h)
 
 pub with_face_extends : (growth : Growth) (g : ℕ) (b : Bool) (p : Place) → is_seen growth g ≡ false
-    → Extends growth (with_face growth g b p)
+    → Extends growth (with_tree_face growth g b p)
 with_face_extends growth g b p none = record {
   kept = λ f seen.
       let other : f ≢ g = seen_differs growth f g seen none in
@@ -30,7 +30,7 @@ with_face_extends growth g b p none = record {
 }
 
 -- a face that is seen then was seen before, or is the new one
-pub seen_before : (growth : Growth) (g f : ℕ) (b : Bool) (p : Place) → is_seen (with_face growth g b p) f ≡ true
+pub seen_before : (growth : Growth) (g f : ℕ) (b : Bool) (p : Place) → is_seen (with_tree_face growth g b p) f ≡ true
     → (f ≡ g) ⊎ (is_seen growth f ≡ true)
 seen_before growth g f b p seen =
     elim (cases_Nat f g) [
@@ -45,7 +45,7 @@ seen_before growth g f b p seen =
     ]
 
 pub count-with_face : (growth : Growth) (g : ℕ) (b : Bool) (p : Place) → g < length growth.seen → is_seen growth g ≡ false
-    → count_unseen (with_face growth g b p) + 1 ≡ count_unseen growth
+    → count_unseen (with_tree_face growth g b p) + 1 ≡ count_unseen growth
 count-with_face growth g b p few none =
     let sum = sum_by-set (λ (x : Bool). cond (not x) 1 0) growth.seen g true false few in
     let one : cond {A = ℕ} (not (get_or growth.seen g false)) 1 0 ≡ 1 = ap (λ x. cond {A = ℕ} (not x) 1 0) none in
@@ -54,7 +54,7 @@ count-with_face growth g b p few none =
 -- what holds of a face that was seen before holds still
 first_kept : {mesh : FaceList} {old new : Growth} {f : ℕ} → Extends old new → is_seen old f ≡ true → IsFirst mesh old f → IsFirst mesh new f
 first_kept {old} {new} {f} more seen h =
-    let same : IsKept old new f = more.kept f seen in
+    let same : IsFaceKept old new f = more.kept f seen in
     record { depth = ap (λ (p : Place). p.depth) same.place ∙ h.depth; kept = same.sign ∙ h.kept; least = h.least }
 
 fit_kept : (mesh : FaceList) {old new : Growth} (side other : Side) → Extends old new → is_seen old side.face.0 ≡ true
@@ -65,18 +65,18 @@ fit_kept mesh {old} {new} side other more seen too fit =
     ∙ ap (differ (is_flipped old.flipped side.face.0)) (more.kept other.face.0 too).sign ∙ fit
 
 found_kept : {mesh : FaceList} {old new : Growth} {f : ℕ} → Extends old new → is_seen old f ≡ true
-    → IsFoundFrom mesh old f (place_of old f).from
-    → IsFoundFrom mesh new f (place_of new f).from
+    → IsFoundFrom mesh old f (tree_place_of old f).from
+    → IsFoundFrom mesh new f (tree_place_of new f).from
 found_kept {mesh} {old} {new} {f} more seen h =
-    let same : IsKept old new f = more.kept f seen in
-    let before : IsKept old new (place_of old f).from.face.0 = more.kept (place_of old f).from.face.0 h.seen in
+    let same : IsFaceKept old new f = more.kept f seen in
+    let before : IsFaceKept old new (tree_place_of old f).from.face.0 = more.kept (tree_place_of old f).from.face.0 h.seen in
     subst (λ (p : Place). IsFoundFrom mesh new f p.from) (sym same.place) (record {
       side = h.side;
       partners = h.partners;
       here = h.here;
       seen = before.seen;
       deeper = ap (λ (p : Place). p.depth) same.place ∙ h.deeper ∙ ap (λ (p : Place). p.depth + 1) (sym before.place);
-      fit = fit_kept mesh (place_of old f).from h.side more h.seen (subst (λ n. is_seen old n ≡ true) (sym h.here) seen) h.fit;
+      fit = fit_kept mesh (tree_place_of old f).from h.side more h.seen (subst (λ n. is_seen old n ≡ true) (sym h.here) seen) h.fit;
     })
 
 pub explored_kept : (mesh : FaceList) {old new : Growth} (f : ℕ) → Extends old new → is_seen old f ≡ true → IsExplored mesh old f
@@ -98,14 +98,15 @@ explored_up_to_kept mesh {old} f at more seen h side other partners here below =
 -- one more face, which is either a first one or found from another
 put_kept : {mesh : FaceList} {growth : Growth} (g : ℕ) (b : Bool) (p : Place) → AreTrees mesh growth → g < length mesh.faces
     → is_seen growth g ≡ false
-    → IsFirst mesh (with_face growth g b p) g ⊎ IsFoundFrom mesh (with_face growth g b p) g p.from → p.depth + count_unseen growth ≤
+    → IsFirst mesh (with_tree_face growth g b p) g ⊎ IsFoundFrom mesh (with_tree_face growth g b p) g p.from
+    → p.depth + count_unseen growth ≤
     length mesh.faces
-    → AreTrees mesh (with_face growth g b p)
+    → AreTrees mesh (with_tree_face growth g b p)
 put_kept {mesh} {growth} g b p h few none new shallow =
-    let more : Extends growth (with_face growth g b p) = with_face_extends growth g b p none in
-    let count : count_unseen (with_face growth g b p) + 1 ≡ count_unseen growth = count-with_face growth g b p
+    let more : Extends growth (with_tree_face growth g b p) = with_face_extends growth g b p none in
+    let count : count_unseen (with_tree_face growth g b p) + 1 ≡ count_unseen growth = count-with_face growth g b p
     (omega (arith, few, h.each_face)) none in
-    let place : place_of (with_face growth g b p) g ≡ p = get_or-set_same growth.places g p _ (omega (arith, few, h.places)) in
+    let place : tree_place_of (with_tree_face growth g b p) g ≡ p = get_or-set_same growth.places g p _ (omega (arith, few, h.places)) in
     record {
       mesh_is = h.mesh_is;
       small = h.small;
@@ -114,21 +115,26 @@ put_kept {mesh} {growth} g b p h few none new shallow =
       places = length-set growth.places g p ∙ h.places;
       placed = λ f seen. elim (seen_before growth g f b p seen) [
         | inl same ↦
-            (let at_g : IsFirst mesh (with_face growth g b p) g ⊎ IsFoundFrom mesh (with_face growth g b p) g
-            (place_of (with_face growth g b p) g).from =
+            (let at_g : IsFirst mesh (with_tree_face growth g b p) g ⊎ IsFoundFrom mesh (with_tree_face growth g b p) g
+            (tree_place_of (with_tree_face growth g b p) g).from =
             elim new [
               | inl first ↦ inl first
-              | inr found ↦ inr (subst (λ (q : Place). IsFoundFrom mesh (with_face growth g b p) g q.from) (sym place) found)
+              | inr found ↦ inr (subst (λ (q : Place). IsFoundFrom mesh (with_tree_face growth g b p) g q.from) (sym place) found)
             ] in
-            subst (λ n. IsFirst mesh (with_face growth g b p) n ⊎ IsFoundFrom mesh (with_face growth g b p) n
-            (place_of (with_face growth g b p) n).from) (sym same) at_g)
+            subst (λ n. IsFirst mesh (with_tree_face growth g b p) n ⊎ IsFoundFrom mesh (with_tree_face growth g b p) n
+            (tree_place_of (with_tree_face growth g b p) n).from) (sym same) at_g)
         | inr before ↦ elim (h.placed f before) [
           | inl first ↦ inl (first_kept more before first)
           | inr found ↦ inr (found_kept more before found)
         ]
       ];
       shallow = λ f seen. elim (seen_before growth g f b p seen) [
-        | inl same ↦ omega (arith, shallow, count, ap (λ (q : Place). q.depth) (ap (place_of (with_face growth g b p)) same ∙ place))
+        | inl same ↦ omega (
+          arith,
+          shallow,
+          count,
+          ap (λ (q : Place). q.depth) (ap (tree_place_of (with_tree_face growth g b p)) same ∙ place),
+        )
         | inr before ↦ omega (arith, h.shallow f before, count, ap (λ (q : Place). q.depth) (more.kept f before).place)
       ];
     }
@@ -162,7 +168,7 @@ least_unseen {mesh} {growth} f h none before other joined =
 
 pub planted : {mesh : FaceList} {growth : Growth} (f : ℕ) (p : Place) → AreTrees mesh growth → IsFrontier mesh growth []
     → f < length mesh.faces → is_seen growth f ≡ false
-    → ((g : ℕ) → g < f → is_seen growth g ≡ true) → p.depth ≡ 0 → AreTrees mesh (with_face growth f false p)
+    → ((g : ℕ) → g < f → is_seen growth g ≡ true) → p.depth ≡ 0 → AreTrees mesh (with_tree_face growth f false p)
 planted {growth} f p h frontier few none before depth =
     put_kept f false p h few none (inl (record {
       depth = ap (λ (q : Place). q.depth) (get_or-set_same growth.places f p _ (omega (arith, few, h.places))) ∙ depth;
@@ -178,14 +184,15 @@ pub found : {mesh : FaceList} {growth : Growth} {from side : Side} (b : Bool) (p
     → ArePartners mesh from side
     → is_seen growth from.face.0 ≡ true → is_seen growth side.face.0 ≡ false → differ (is_flipped growth.flipped from.face.0) b ≡
     runs_alike mesh from side
-    → p.from ≡ from → p.depth ≡ (place_of growth from.face.0).depth + 1 → AreTrees mesh (with_face growth side.face.0 b p)
+    → p.from ≡ from → p.depth ≡ (tree_place_of growth from.face.0).depth + 1 → AreTrees mesh (with_tree_face growth side.face.0 b p)
 found {mesh} {growth} {from} {side} b p h partners seen none fits is depth =
     let g : ℕ = side.face.0 in
     let few : g < length mesh.faces = partners.second.face in
-    let more : Extends growth (with_face growth g b p) = with_face_extends growth g b p none in
-    let kept : IsKept growth (with_face growth g b p) from.face.0 = more.kept from.face.0 seen in
-    let sign : is_flipped (with_face growth g b p).flipped g ≡ b = get_or-set_same growth.flipped g b false (omega (arith, few, h.signs)) in
-    put_kept g b p h few none (inr (subst (IsFoundFrom mesh (with_face growth g b p) g) (sym is) (record {
+    let more : Extends growth (with_tree_face growth g b p) = with_face_extends growth g b p none in
+    let kept : IsFaceKept growth (with_tree_face growth g b p) from.face.0 = more.kept from.face.0 seen in
+    let sign : is_flipped (with_tree_face growth g b p).flipped g ≡ b =
+    get_or-set_same growth.flipped g b false (omega (arith, few, h.signs)) in
+    put_kept g b p h few none (inr (subst (IsFoundFrom mesh (with_tree_face growth g b p) g) (sym is) (record {
       side = side;
       partners = partners;
       here = refl;
@@ -193,7 +200,7 @@ found {mesh} {growth} {from} {side} b p h partners seen none fits is depth =
       deeper =
           ap (λ (q : Place). q.depth) (get_or-set_same growth.places g p _ (omega (arith, few, h.places))) ∙ depth
           ∙ ap (λ (q : Place). q.depth + 1) (sym kept.place);
-      fit = ap (λ c. differ c (is_flipped (with_face growth g b p).flipped g)) kept.sign ∙ ap
+      fit = ap (λ c. differ c (is_flipped (with_tree_face growth g b p).flipped g)) kept.sign ∙ ap
           (differ (is_flipped growth.flipped from.face.0)) sign ∙ fits;
     }))) (omega (arith, depth, h.shallow from.face.0 seen))
 
@@ -201,24 +208,26 @@ pub fits_then : {mesh : FaceList} {growth : Growth} {from side : Side} (b : Bool
     → ArePartners mesh from side
     → is_seen growth from.face.0 ≡ true → is_seen growth side.face.0 ≡ false → differ (is_flipped growth.flipped from.face.0) b ≡
     runs_alike mesh from side
-    → (is_seen (with_face growth side.face.0 b p) side.face.0 ≡ true) × Fit mesh (with_face growth side.face.0 b p).flipped from side
+    → (is_seen (with_tree_face growth side.face.0 b p) side.face.0 ≡ true)
+    × Fit mesh (with_tree_face growth side.face.0 b p).flipped from side
 fits_then {mesh} {growth} {from} {side} b p h partners seen none fits =
     let g : ℕ = side.face.0 in
     let few : g < length mesh.faces = partners.second.face in
-    let kept : IsKept growth (with_face growth g b p) from.face.0 = (with_face_extends growth g b p none).kept from.face.0 seen in
-    let sign : is_flipped (with_face growth g b p).flipped g ≡ b = get_or-set_same growth.flipped g b false
+    let kept : IsFaceKept growth (with_tree_face growth g b p) from.face.0 = (with_face_extends growth g b p none).kept from.face.0 seen in
+    let sign : is_flipped (with_tree_face growth g b p).flipped g ≡ b = get_or-set_same growth.flipped g b false
     (omega (arith, few, h.signs)) in (
       get_or-set_same growth.seen g true false (omega (arith, few, h.each_face)),
-      ap (λ c. differ c (is_flipped (with_face growth g b p).flipped g)) kept.sign ∙ ap (differ (is_flipped growth.flipped from.face.0))
+      ap (λ c. differ c (is_flipped (with_tree_face growth g b p).flipped g)) kept.sign
+          ∙ ap (differ (is_flipped growth.flipped from.face.0))
           sign ∙ fits,
     )
 
 -- the frontier, as it moves
 pub frontier_put : (mesh : FaceList) (growth : Growth) (g : FaceName) (b : Bool) (p : Place) (waiting : List FaceName)
     → AreTrees mesh growth → g.0 < length mesh.faces
-    → is_seen growth g.0 ≡ false → IsFrontier mesh growth waiting → IsFrontier mesh (with_face growth g.0 b p) (waiting ++ g ∷ [])
+    → is_seen growth g.0 ≡ false → IsFrontier mesh growth waiting → IsFrontier mesh (with_tree_face growth g.0 b p) (waiting ++ g ∷ [])
 frontier_put mesh growth g b p waiting trees few none h =
-    let new : Growth = with_face growth g.0 b p in
+    let new : Growth = with_tree_face growth g.0 b p in
     let more : Extends growth new = with_face_extends growth g.0 b p none in
     record {
       queued =
@@ -309,13 +318,13 @@ all_coherent {growth} trees h all = record {
   ];
 }
 
-pub up_joined : {mesh : FaceList} {growth : Growth} {f : ℕ} → IsFoundFrom mesh growth f (place_of growth f).from
-    → AreOfOneClass mesh f (place_of growth f).from.face.0
+pub up_joined : {mesh : FaceList} {growth : Growth} {f : ℕ} → IsFoundFrom mesh growth f (tree_place_of growth f).from
+    → AreOfOneClass mesh f (tree_place_of growth f).from.face.0
 up_joined {mesh} {growth} {f} h =
-    joined_step (IsFaceStep mesh) f (place_of growth f).from.face.0 (record {
+    joined_step (IsFaceStep mesh) f (tree_place_of growth f).from.face.0 (record {
       side = h.side;
-      partner = (place_of growth f).from;
-      partners = partners_swap mesh (place_of growth f).from h.side h.partners;
+      partner = (tree_place_of growth f).from;
+      partners = partners_swap mesh (tree_place_of growth f).from h.side h.partners;
       from = h.here;
       to = refl;
     })
@@ -327,13 +336,13 @@ pub record HasFirst (mesh : FaceList) (growth : Growth) (f : ℕ) : Type 0 where
   pub joined : AreOfOneClass mesh f first
 
 first_above : {mesh : FaceList} {growth : Growth} (n f : ℕ) → AreTrees mesh growth → is_seen growth f ≡ true
-    → (place_of growth f).depth < n → HasFirst mesh growth f
+    → (tree_place_of growth f).depth < n → HasFirst mesh growth f
 first_above zero f h seen depth = absurd (omega arith)
 first_above {mesh} {growth} (suc n) f h seen depth =
     elim (h.placed f seen) [
       | inl is_first ↦ record { first = f; is_first = is_first; joined = ([], refl) }
       | inr from ↦
-          (let parent : ℕ = (place_of growth f).from.face.0 in
+          (let parent : ℕ = (tree_place_of growth f).from.face.0 in
           let next : HasFirst mesh growth parent = first_above n parent h from.seen (omega (arith, from.deeper)) in
           record {
             first = next.first;
@@ -343,7 +352,7 @@ first_above {mesh} {growth} (suc n) f h seen depth =
     ]
 
 pub has_first : {mesh : FaceList} {growth : Growth} (f : ℕ) → AreTrees mesh growth → is_seen growth f ≡ true → HasFirst mesh growth f
-has_first {growth} f h seen = first_above ((place_of growth f).depth + 1) f h seen (omega arith)
+has_first {growth} f h seen = first_above ((tree_place_of growth f).depth + 1) f h seen (omega arith)
 
 pub all_kept : {mesh : FaceList} {growth : Growth} → AreTrees mesh growth → ((f : ℕ) → f < length mesh.faces → is_seen growth f ≡ true)
     → IsLeastKept mesh growth.flipped
@@ -355,13 +364,13 @@ all_kept {mesh} {growth} h all f few least =
           let below : f ≤ top.first = least top.first top.joined in
           let above : top.first ≤ f = top.is_first.least f (joined_back (IsFaceStep mesh) (step_back mesh) f top.first top.joined) in
           let same : top.first ≡ f = omega arith in
-          absurd (omega (arith, from.deeper, top.is_first.depth, ap (λ n. (place_of growth n).depth) same)))
+          absurd (omega (arith, from.deeper, top.is_first.depth, ap (λ n. (tree_place_of growth n).depth) same)))
     ]
 
 -- of two different faces of one class, one that lies no less deep than the other was found from another
 pub deeper_found : {mesh : FaceList} {growth : Growth} (f g : ℕ) → AreTrees mesh growth → is_seen growth f ≡ true
     → is_seen growth g ≡ true → AreOfOneClass mesh f g → f ≢ g
-    → (place_of growth g).depth ≤ (place_of growth f).depth → IsFoundFrom mesh growth f (place_of growth f).from
+    → (tree_place_of growth g).depth ≤ (tree_place_of growth f).depth → IsFoundFrom mesh growth f (tree_place_of growth f).from
 deeper_found {mesh} f g h seen too joined other depth =
     elim (h.placed f seen) [
       | inr from ↦ from

@@ -3,17 +3,17 @@ use Rattle.std.specs.Prelude.{◌≡◌, ℕ, ◌+◌, true, List, length}
 use Rattle.surf_model.specs.FaceLists.{FaceList}
 use Rattle.surf_model.specs.Surfaces.{ArePartners, is_flipped}
 use Rattle.surf_model.specs.declared.names.FaceName.{FaceName}
-use Rattle.orientation.specs.Trees.{Growth, AreTrees, IsFrontier, Fit, count_unseen, is_seen, place_of}
+use Rattle.orientation.specs.Trees.{Growth, AreTrees, IsFrontier, Fit, count_unseen, is_seen, tree_place_of}
 use Rattle.orientation.specs.declared.search.Tear.{Tear}
 
 -- a face that was seen stays as it is
-pub record IsKept (old new : Growth) (f : ℕ) : Type 0 where
+pub record IsFaceKept (old new : Growth) (f : ℕ) : Type 0 where
   pub seen : is_seen new f ≡ true
   pub sign : is_flipped new.flipped f ≡ is_flipped old.flipped f
-  pub place : place_of new f ≡ place_of old f
+  pub place : tree_place_of new f ≡ tree_place_of old f
 
 pub record Extends (old new : Growth) : Type 0 where
-  pub kept : (f : ℕ) → is_seen old f ≡ true → IsKept old new f
+  pub kept : (f : ℕ) → is_seen old f ≡ true → IsFaceKept old new f
 
 -- a search under way
 pub record IsSearch (mesh : FaceList) (growth : Growth) (waiting : List FaceName) : Type 0 where
@@ -21,7 +21,7 @@ pub record IsSearch (mesh : FaceList) (growth : Growth) (waiting : List FaceName
   pub frontier : IsFrontier mesh growth waiting
 
 -- a later state: what was seen stays, and each face that was seen since then waits
-pub record GoesOn (old : Growth) (waited : List FaceName) (new : Growth) (waiting : List FaceName) : Type 0 where
+pub record GrowthGoesOn (old : Growth) (waited : List FaceName) (new : Growth) (waiting : List FaceName) : Type 0 where
   pub extends : Extends old new
   pub count : count_unseen new + length waiting ≡ count_unseen old + length waited
 

@@ -51,12 +51,12 @@ unseen n = record { seen = replicate n false; flipped = replicate n false; place
 abbrev pub is_seen : Growth → ℕ → Bool
 is_seen growth f = slice_index_or growth.seen f false
 
-abbrev pub place_of : Growth → ℕ → Place
-place_of growth f = slice_index_or growth.places f no_place
+abbrev pub tree_place_of : Growth → ℕ → Place
+tree_place_of growth f = slice_index_or growth.places f no_place
 
 -- face f is put into a tree
-abbrev pub with_face : Growth → ℕ → Bool → Place → Growth
-with_face growth f flipped place =
+abbrev pub with_tree_face : Growth → ℕ → Bool → Place → Growth
+with_tree_face growth f flipped place =
     record {
       seen = slice_set growth.seen f true;
       flipped = slice_set growth.flipped f flipped;
@@ -73,12 +73,12 @@ pub record IsFoundFrom (mesh : FaceList) (growth : Growth) (f : ℕ) (from : Sid
   pub partners : ArePartners mesh from side
   pub here : side.face.0 ≡ f
   pub seen : is_seen growth from.face.0 ≡ true
-  pub deeper : (place_of growth f).depth ≡ (place_of growth from.face.0).depth + 1
+  pub deeper : (tree_place_of growth f).depth ≡ (tree_place_of growth from.face.0).depth + 1
   pub fit : Fit mesh growth.flipped from side
 
 -- the first face of a tree: the least of its class, and kept
 pub record IsFirst (mesh : FaceList) (growth : Growth) (f : ℕ) : Type 0 where
-  pub depth : (place_of growth f).depth ≡ 0
+  pub depth : (tree_place_of growth f).depth ≡ 0
   pub kept : is_flipped growth.flipped f ≡ false
   pub least : IsLeastOfClass mesh f
 
@@ -89,8 +89,8 @@ pub record AreTrees (mesh : FaceList) (growth : Growth) : Type 0 where
   pub each_face : length growth.seen ≡ length mesh.faces
   pub signs : length growth.flipped ≡ length mesh.faces
   pub places : length growth.places ≡ length mesh.faces
-  pub placed : (f : ℕ) → is_seen growth f ≡ true → IsFirst mesh growth f ⊎ IsFoundFrom mesh growth f (place_of growth f).from
-  pub shallow : (f : ℕ) → is_seen growth f ≡ true → (place_of growth f).depth + count_unseen growth < length mesh.faces
+  pub placed : (f : ℕ) → is_seen growth f ≡ true → IsFirst mesh growth f ⊎ IsFoundFrom mesh growth f (tree_place_of growth f).from
+  pub shallow : (f : ℕ) → is_seen growth f ≡ true → (tree_place_of growth f).depth + count_unseen growth < length mesh.faces
 
 -- all faces across the sides of face f before one place were seen, with signs that fit
 abbrev pub IsExploredUpTo : FaceList → Growth → ℕ → ℕ → Type 0

@@ -4,7 +4,7 @@ ghost use Rattle.surf_model.specs.Edges.{IsTableOf};
 ghost use Rattle.surf_model.specs.Surfaces.{ArePartners, IsCoherent};
 ghost use Rattle.orientation.specs.Classes.{EachEdgeHasAtMostTwoSides, IsLeastKept};
 ghost use Rattle.orientation.specs.Trees.{Fit, AreTrees, is_seen};
-ghost use Rattle.orientation.specs.Searches.{IsSearch, GoesOn, Extends, IsTear};
+ghost use Rattle.orientation.specs.Searches.{IsSearch, GrowthGoesOn, Extends, IsTear};
 
 use crate::across::{across, run_alike};
 use crate::trees::{Place, Trees};
@@ -31,7 +31,7 @@ fn cross(
     requires search { IsSearch faces.now trees.old (side.face ∷ waiting.old) }
     requires partners { ArePartners faces.now side other }
     ensures search { OnOk result (IsSearch faces.now trees.new (side.face ∷ waiting.new)) }
-    ensures goes_on { OnOk result (GoesOn trees.old waiting.old trees.new waiting.new) }
+    ensures goes_on { OnOk result (GrowthGoesOn trees.old waiting.old trees.new waiting.new) }
     ensures fits { IfOk result (λ fits. fits ≡ true
         → (is_seen trees.new other.face.0 ≡ true) × Fit faces.now trees.new.flipped side other) }
     ensures torn { IfOk result (λ fits. fits ≡ false → IsTear faces.now trees.new (record { side = side; other = other })) }
@@ -61,7 +61,7 @@ fn explore(
     requires two { EachEdgeHasAtMostTwoSides faces.now }
     requires search { IsSearch faces.now trees.old (face ∷ waiting.old) }
     ensures trees { OnOk result (AreTrees faces.now trees.new) }
-    ensures goes_on { OnOk result (GoesOn trees.old waiting.old trees.new waiting.new) }
+    ensures goes_on { OnOk result (GrowthGoesOn trees.old waiting.old trees.new waiting.new) }
     ensures search { IfOk result (λ tear. IfNone tear (IsSearch faces.now trees.new waiting.new)) }
     ensures torn { IfOk result (λ tear. IfSome tear (IsTear faces.now trees.new)) }
 {

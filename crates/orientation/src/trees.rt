@@ -35,7 +35,7 @@ impl Model for Trees {
 
 impl Trees {
     ghost use Rattle.surf_model.specs.Surfaces.{is_flipped};
-    ghost use Rattle.orientation.specs.Trees.{Growth, unseen, is_seen, place_of, with_face};
+    ghost use Rattle.orientation.specs.Trees.{Growth, unseen, is_seen, tree_place_of, with_tree_face};
 
     /// Of so many faces none is seen.
     pub fn new(alloc: Global, faces: u32) -> Result<Trees, AllocError>
@@ -74,7 +74,7 @@ impl Trees {
     /// The place of a face.
     pub fn place(&self, face: FaceName) -> Place
         requires { face.0 < length self.now.seen }
-        ensures { result ≡ place_of self.now face.0 }
+        ensures { result ≡ tree_place_of self.now face.0 }
     {
         self.places[face.0 as usize]
     }
@@ -82,7 +82,7 @@ impl Trees {
     /// Puts a face into a tree.
     pub fn put(&mut self, face: FaceName, flipped: bool, place: Place)
         requires { face.0 < length self.old.seen }
-        ensures { self.new ≡ with_face self.old face.0 flipped place }
+        ensures { self.new ≡ with_tree_face self.old face.0 flipped place }
     {
         self.seen[face.0 as usize] = true;
         self.flipped[face.0 as usize] = flipped;

@@ -1,5 +1,5 @@
 -- Claims at the corners of two sides of one edge, and their classes as these are joined.
-use Rattle.orientation_cover.proofs.Common.{number_below, number_once, corner_in_mesh, partners_swap, each_across, length-joined_at, joined_at_ends, joined_at_keeps, joins_only-joined_at, joined_at, KeepsJoined, apart_over, over, Claim, IsClaim, claim_number, carried, IsClaimStep, JoinsOnlyByClaimSteps, with_corners, AreMadeJoined, ◌≡◌, inl, inr, ℕ, ◌+◌, ◌<◌, Bool, true, false, not, List, length, get_or, refl, ap, sym, ◌∙◌, arith, ◌==◌, if◌then◌else◌, IsSide, side_number, side_after, tail_of, head_of, FaceList, IsFaceList, total_sides, ArePartners, IsCornerOfSide, Side}
+use Rattle.orientation_cover.proofs.Common.{number_below, number_once, corner_in_mesh, partners_swap, each_across, length-joined_at, joined_at_ends, joined_at_keeps, joins_only-joined_at, joined_at, KeepsJoined, apart_over, over, Claim, IsClaim, claim_number, carried, IsClaimStep, JoinsOnlyByClaimSteps, with_corners, AreClaimsMadeJoined, ◌≡◌, inl, inr, ℕ, ◌+◌, ◌<◌, Bool, true, false, not, List, length, get_or, refl, ap, sym, ◌∙◌, arith, ◌==◌, if◌then◌else◌, IsSide, side_number, side_after, tail_of, head_of, FaceList, IsFaceList, total_sides, ArePartners, IsCornerOfSide, Side}
 use Rattle.connectivity.specs.Links.{AreCornersAcross}
 
 -- ---- claims and their numbers
@@ -126,7 +126,8 @@ made_one mesh least side partner corner other alike count h =
 pub made_joined : (mesh : FaceList) (least : List ℕ) (side partner first last : Side) → IsFaceList mesh
     → length least ≡ total_sides mesh + total_sides mesh → ArePartners mesh side partner → AreCornersAcross mesh side partner first last
     → (let alike = tail_of mesh side == tail_of mesh partner in
-    AreMadeJoined mesh least (with_corners mesh (with_corners mesh least side first alike) (side_after mesh side) last alike) side partner)
+    AreClaimsMadeJoined mesh least (with_corners mesh (with_corners mesh least side first alike) (side_after mesh side) last alike) side
+    partner)
 made_joined mesh least side partner first last valid count partners h =
     let alike : Bool = tail_of mesh side == tail_of mesh partner in
     let once : List ℕ = with_corners mesh least side first alike in
@@ -158,6 +159,6 @@ pub joined_as_read : (mesh : FaceList) (least once twice : List ℕ) (side partn
     → length least ≡ total_sides mesh + total_sides mesh → ArePartners mesh side partner → AreCornersAcross mesh side partner first last
     → alike ≡ (tail_of mesh side == tail_of mesh partner) → after ≡ side_after mesh side
     → once ≡ with_corners mesh least side first alike → twice ≡ with_corners mesh once after last alike
-    → AreMadeJoined mesh least twice side partner
+    → AreClaimsMadeJoined mesh least twice side partner
 joined_as_read mesh least once twice side partner first last after alike valid count partners h is_alike is_after is_once is_twice =
     rw (is_twice, is_once, is_after, is_alike) (made_joined mesh least side partner first last valid count partners h)

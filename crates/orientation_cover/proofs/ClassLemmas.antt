@@ -1,5 +1,5 @@
 -- Claims in classes, as the edges of the table are gone through; and ways round the vertices by the classes.
-use Rattle.orientation_cover.proofs.Common.{number_below, number_once, corner_in_mesh, partners_swap, step_across, joins_only-alone, joined_keep, joined_refl, joined_step, joined_sym, joined_trans, KeepsJoined, AreLeastMembers, NoEdgeHasThreeSides, either, over, AreWaysRound, Claim, IsClaim, claim_number, carried, IsClaimStep, JoinsOnlyByClaimSteps, AreClaimClasses, AreMadeJoined, IsCarriedAcross, told_by, IsLedToLeast, AreWays, ◌≡◌, ◌≢◌, ◌⊎◌, inl, inr, ℕ, zero, suc, ◌+◌, ◌-◌, ◌<◌, ◌≤◌, Bool, true, false, not, ltb, List, [], ◌∷◌, length, min, get_or, refl, ap, sym, ◌∙◌, subst, arith, cases_eq, cases_lt, nat_tests, common_steps, ext_get_or, length-range_with_len, range_with_len, ◌==◌, if◌then◌else◌, Contains, IsEdgeOfSide, edge_of_side, edge_has_side, ends_agree, table_edge, partners_of_edge, IsSide, side_number, tail_of, Edge, IsTableOf, edge_in, FaceList, IsFaceList, total_sides, ArePartners, IsPath, AreJoined, IsCornerOfSide, Side}
+use Rattle.orientation_cover.proofs.Common.{number_below, number_once, corner_in_mesh, partners_swap, step_across, joins_only-alone, joined_keep, joined_refl, joined_step, joined_sym, joined_trans, KeepsJoined, AreLeastMembers, NoEdgeHasThreeSides, either, over, AreWaysRound, Claim, IsClaim, claim_number, carried, IsClaimStep, JoinsOnlyByClaimSteps, AreClaimClasses, AreClaimsMadeJoined, IsCarriedAcross, told_by, IsLedToLeast, AreWays, ◌≡◌, ◌≢◌, ◌⊎◌, inl, inr, ℕ, zero, suc, ◌+◌, ◌-◌, ◌<◌, ◌≤◌, Bool, true, false, not, ltb, List, [], ◌∷◌, length, min, get_or, refl, ap, sym, ◌∙◌, subst, arith, cases_eq, cases_lt, nat_tests, common_steps, ext_get_or, length-range_with_len, range_with_len, ◌==◌, if◌then◌else◌, Contains, IsEdgeOfSide, edge_of_side, edge_has_side, ends_agree, table_edge, partners_of_edge, IsSide, side_number, tail_of, Edge, IsTableOf, edge_in, FaceList, IsFaceList, total_sides, ArePartners, IsPath, AreJoined, IsCornerOfSide, Side}
 use Rattle.connectivity.proofs.EdgeLemmas.{few_in_table}
 use Rattle.connectivity.specs.Partitions.{IsCornerStep}
 use Rattle.double_covers.proofs.RingLemmas.{not_twisted}
@@ -71,7 +71,7 @@ edge_passed mesh table least k h l other upto =
     edges_more mesh table least least k h l upto refl (λ x y a b same. same) upto.joined (λ two. absurd (other two))
 
 pub edge_joined : (mesh : FaceList) (table : List Edge) (old new : List ℕ) (k : ℕ) (side partner : Side) → IsTableOf mesh table
-    → k < length table → side_in table k 0 ≡ side → side_in table k 1 ≡ partner → AreMadeJoined mesh old new side partner
+    → k < length table → side_in table k 0 ≡ side → side_in table k 1 ≡ partner → AreClaimsMadeJoined mesh old new side partner
     → CarriesUpTo mesh table old k → CarriesUpTo mesh table new (k + 1)
 edge_joined mesh table old new k side partner h l is_side is_partner made upto =
     edges_more mesh table old new k h l upto made.count made.kept (made.steps upto.joined)

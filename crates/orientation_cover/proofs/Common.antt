@@ -10,8 +10,8 @@ pub use Rattle.double_covers.specs.Covers.{AreTurns, lifted, over}
 pub use Rattle.double_covers.specs.WaysRound.{AreTurnsOf, AreWaysRound}
 pub use Rattle.doubling.proofs.BuildingLemmas.{corner_more, more_room}
 pub use Rattle.doubling.specs.Building.{HasNoRoom, with_face}
-pub use Rattle.orientation_cover.specs.Building.{first_faces}
-pub use Rattle.orientation_cover.specs.Claims.{AreClaimClasses, AreMadeJoined, Claim, IsCarriedAcross, IsClaim, IsClaimStep, JoinsOnlyByClaimSteps, carried, claim_number, with_corners}
+pub use Rattle.orientation_cover.specs.Building.{first_made_faces}
+pub use Rattle.orientation_cover.specs.Claims.{AreClaimClasses, AreClaimsMadeJoined, Claim, IsCarriedAcross, IsClaim, IsClaimStep, JoinsOnlyByClaimSteps, carried, claim_number, with_corners}
 pub use Rattle.orientation_cover.specs.Turns.{IsSideBetween, cover_by, lift_by, turns_along}
 unfoldable pub use Rattle.orientation_cover.specs.Turns.{turns_by}
 pub use Rattle.orientation_cover.specs.Ways.{AreWays, IsLedToLeast, told_by}

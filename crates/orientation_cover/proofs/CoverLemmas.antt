@@ -1,5 +1,5 @@
 -- The cover as it is built, and lifts as they grow.
-use Rattle.orientation_cover.proofs.Common.{cover_valid, sheet_at, next_sheet, entry, length-lifted, either, corner_of, sheet_told, over, lifted, more_room, with_face, HasNoRoom, first_faces, turns_by, cover_by, lift_by, told_by, AreWays, ◌≡◌, ℕ, ◌+◌, ◌<◌, ◌≤◌, Bool, true, false, List, [], ◌∷◌, ◌++◌, length, get_or, take, refl, ap, sym, ◌∙◌, subst, arith, common_steps, take_more, take_all, FaceList, PendingFace, IsFace, IsFaceList, face_at, total_sides, Side}
+use Rattle.orientation_cover.proofs.Common.{cover_valid, sheet_at, next_sheet, entry, length-lifted, either, corner_of, sheet_told, over, lifted, more_room, with_face, HasNoRoom, first_made_faces, turns_by, cover_by, lift_by, told_by, AreWays, ◌≡◌, ℕ, ◌+◌, ◌<◌, ◌≤◌, Bool, true, false, List, [], ◌∷◌, ◌++◌, length, get_or, take, refl, ap, sym, ◌∙◌, subst, arith, common_steps, take_more, take_all, FaceList, PendingFace, IsFace, IsFaceList, face_at, total_sides, Side}
 use Rattle.double_covers.proofs.CoverFaces.{face_over, over_below, over_is}
 use Rattle.doubling.specs.declared.fault.DoubleFault.{DoubleFault}
 use Rattle.orientation_cover.proofs.TurnLemmas.{ways_turn}
@@ -70,12 +70,12 @@ lift_closes mesh bits upper f i old start valid l count from all =
 
 -- ---- face after face
 
-pub faces_more : (made : FaceList) (seen : PendingFace) (k : ℕ) (ring : List ℕ) → seen ≡ first_faces made k → k < length made.faces
-    → face_at made k ≡ ring → with_face seen ring ≡ first_faces made (k + 1)
+pub faces_more : (made : FaceList) (seen : PendingFace) (k : ℕ) (ring : List ℕ) → seen ≡ first_made_faces made k → k < length made.faces
+    → face_at made k ≡ ring → with_face seen ring ≡ first_made_faces made (k + 1)
 faces_more made seen k ring from l is = grind (arith, common_steps)
 
 -- where a face has no room, what is made has none
-pub no_room : (made : FaceList) (seen : PendingFace) (k size : ℕ) (fault : DoubleFault) → seen ≡ first_faces made k
+pub no_room : (made : FaceList) (seen : PendingFace) (k size : ℕ) (fault : DoubleFault) → seen ≡ first_made_faces made k
     → k < length made.faces → size ≡ length (face_at made k) → HasNoRoom (total_sides seen.mesh + size) fault
     → HasNoRoom (total_sides made) fault
 no_room made seen k size fault from l is h = grind (arith, common_steps, more_room)

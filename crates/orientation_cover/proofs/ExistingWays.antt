@@ -1,5 +1,5 @@
 -- Where no edge has three sides, there are ways round the vertices: the classes of claims are made edge by edge.
-use Rattle.orientation_cover.proofs.Common.{after_in_mesh, corner_in_mesh, number_below, corners_there, length-joined_at, least_range, least_joined_at, AreLeastMembers, NoEdgeHasThreeSides, over, AreMadeJoined, with_corners, AreWays, ◌≡◌, inl, inr, ℕ, zero, suc, ◌+◌, ◌<◌, ◌≤◌, Bool, false, ltb, List, length, get_or, map, refl, ◌∙◌, subst, arith, cases_eq, length-map-range_with_len, get_or-map-range_with_len, range_with_len, ◌==◌, partners_of_edge, IsSide, side_after, tail_of, head_of, Edge, IsTableOf, edge_in, FaceList, IsFaceList, total_sides, ArePartners, Side}
+use Rattle.orientation_cover.proofs.Common.{after_in_mesh, corner_in_mesh, number_below, corners_there, length-joined_at, least_range, least_joined_at, AreLeastMembers, NoEdgeHasThreeSides, over, AreClaimsMadeJoined, with_corners, AreWays, ◌≡◌, inl, inr, ℕ, zero, suc, ◌+◌, ◌<◌, ◌≤◌, Bool, false, ltb, List, length, get_or, map, refl, ◌∙◌, subst, arith, cases_eq, length-map-range_with_len, get_or-map-range_with_len, range_with_len, ◌==◌, partners_of_edge, IsSide, side_after, tail_of, head_of, Edge, IsTableOf, edge_in, FaceList, IsFaceList, total_sides, ArePartners, Side}
 use Rattle.surf_model.proofs.EdgeTables.{some_table}
 use Rattle.orientation_cover.proofs.ClaimLemmas.{over_below, made_joined}
 use Rattle.orientation_cover.proofs.ClassLemmas.{no_side, side_in, CarriesUpTo, edges_none, edge_passed, edge_joined, edges_all, tells_all}
@@ -21,7 +21,7 @@ module _ (mesh : FaceList) (valid : IsFaceList mesh) where
   -- both ends of the edge of two sides
   record HasBothJoined (least : List ℕ) (side partner : Side) : Type 0 where
     pub new : List ℕ
-    pub made : AreMadeJoined mesh least new side partner
+    pub made : AreClaimsMadeJoined mesh least new side partner
     pub members : AreLeastMembers new
 
   both_joined : (least : List ℕ) (side partner : Side) → length least ≡ total_sides mesh + total_sides mesh → ArePartners mesh side partner

@@ -40,7 +40,7 @@ IsCarriedAcross mesh least side partner =
     ≡ slice_index least (over (total_sides mesh) (carried mesh side partner against) (side_number mesh other))
 
 -- the classes before and after the claims on the corners of a side are joined with those on the corners of its partner
-pub record AreMadeJoined (mesh : FaceList) (old new : List ℕ) (side partner : Side) : Type 0 where
+pub record AreClaimsMadeJoined (mesh : FaceList) (old new : List ℕ) (side partner : Side) : Type 0 where
   pub count : length new ≡ length old
   pub carried : IsCarriedAcross mesh new side partner
   pub kept : KeepsJoined old new

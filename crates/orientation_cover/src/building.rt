@@ -6,7 +6,7 @@ ghost use Rattle.doubling.specs.DoubleFaults.{IsTooLarge};
 ghost use Rattle.double_covers.specs.Covers.{lifted, over};
 ghost use Rattle.orientation_cover.specs.Ways.{AreWays, told_by};
 ghost use Rattle.orientation_cover.specs.Turns.{cover_by, turns_by};
-ghost use Rattle.orientation_cover.specs.Building.{first_faces};
+ghost use Rattle.orientation_cover.specs.Building.{first_made_faces};
 
 use crate::sheets::{differ, over};
 use crate::ways::WaysRound;
@@ -39,9 +39,9 @@ fn put_sheet(
     upper: bool,
 ) -> Result<(), DoubleFault>
     requires ways { AreWays faces.now ways.now }
-    requires cover { cover.old ≡ first_faces (cover_by faces.now ways.now) (over (length faces.now.faces) upper 0) }
+    requires cover { cover.old ≡ first_made_faces (cover_by faces.now ways.now) (over (length faces.now.faces) upper 0) }
     ensures put { OnOk result (cover.new
-        ≡ first_faces (cover_by faces.now ways.now) (over (length faces.now.faces) upper (length faces.now.faces))) }
+        ≡ first_made_faces (cover_by faces.now ways.now) (over (length faces.now.faces) upper (length faces.now.faces))) }
     ensures fault { IfErr result (HasNoRoom (total_sides (cover_by faces.now ways.now))) }
 {
     for face in 0..faces.len() {

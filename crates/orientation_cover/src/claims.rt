@@ -9,7 +9,7 @@ ghost use Rattle.surf_model.specs.Darts.{IsSide};
 ghost use Rattle.surf_model.specs.Surfaces.{ArePartners};
 ghost use Rattle.connectivity.specs.Classes.{AreLeastMembers};
 ghost use Rattle.connectivity.specs.Joined.{NoEdgeHasThreeSides};
-ghost use Rattle.orientation_cover.specs.Claims.{AreClaimClasses, AreMadeJoined, with_corners};
+ghost use Rattle.orientation_cover.specs.Claims.{AreClaimClasses, AreClaimsMadeJoined, with_corners};
 
 use crate::sheets::over;
 use connectivity::{Classes, corners_across};
@@ -43,7 +43,7 @@ pub(crate) fn claim_classes(
 fn join_across(claims: &mut Classes, faces: &Faces, side: Side, partner: Side)
     requires partners { ArePartners faces.now side partner }
     requires count { length claims.old ≡ total_sides faces.now + total_sides faces.now }
-    ensures { AreMadeJoined faces.now claims.old claims.new side partner }
+    ensures { AreClaimsMadeJoined faces.now claims.old claims.new side partner }
 {
     let (first, last, alike) = corners_across(faces, side, partner);
     join_corners(claims, faces, side, first, alike);

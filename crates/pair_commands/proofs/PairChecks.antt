@@ -1,5 +1,5 @@
 -- How the check of pairs of walks ends.
-use Rattle.pair_commands.proofs.Common.{IsSound, sound-file, sound-then, sound-meant, sound-pass_unless, held, meant_told, unless_told, Check, Refuse, Passes, Holds, IsTold, file, meant, ◌>>=◌, SpellsPairs, come_in_pairs, pairs_line, pairs_in, ◌≡◌, inl, inr, ℕ, List, refl, Option, None, Result, Files, FaceList, WalkPair, ArePairs, in_pairs, pairs_fault, WalkText}
+use Rattle.pair_commands.proofs.Common.{IsSound, sound-file, sound-then, sound-meant, sound-pass_unless, held, meant_told, unless_told, Check, Refuse, Passes, Holds, IsTold, file, meant, ◌>>=◌, SpellsPairs, come_in_pairs, pairs_line, pairs_in, ◌≡◌, inl, inr, ℕ, List, refl, Option, None, Result, Files, FaceList, WalkPair, ArePairs, walks_in_pairs, pairs_fault, WalkText}
 use Rattle.commands.proofs.Checking.{stops_next}
 use Rattle.commands.proofs.WalkInputs.{was_read}
 use Rattle.commands.specs.Inputs.{text_in}
@@ -70,7 +70,8 @@ pairs_in_told files name mesh told = (told, λ bytes _. texts_told files mesh (w
 
 -- a file that spells pairs of walks of the mesh passes a text of these pairs
 pub spelled_pairs : (files : Option Files) (name : List ℕ) (mesh : FaceList) (pairs : List WalkPair)
-    → Holds files name (SpellsPairs mesh pairs) → (text : WalkText) × Passes (pairs_in files name mesh) text × (pairs ≡ in_pairs text.walks)
+    → Holds files name (SpellsPairs mesh pairs)
+    → (text : WalkText) × Passes (pairs_in files name mesh) text × (pairs ≡ walks_in_pairs text.walks)
 spelled_pairs files name mesh pairs h =
     let file = held files name (SpellsPairs mesh pairs) h in
     let spelled = file.holds in (

@@ -1,5 +1,5 @@
 -- Decisions on pairs: one more, all of them, and what they are worth.
-use Rattle.pair_commands.proofs.Common.{IsSound, Answer, End, Refuse, Pass, Yes, No, IsHomotopic, IsDecision, AreDecisions, ArePairsDecided, all_decided, decisions_answer, ◌≡◌, ◌↔◌, ℕ, zero, suc, ◌+◌, ◌*◌, ◌/◌, ◌<◌, true, List, [], ◌∷◌, length, get_or, refl, sym, ap, ◌∙◌, subst, arith, All, Option, Some, slice_get, Files, FaceList, IsWalk, HaveCommonEnds, AreWalkPair, WalkPair, ArePairs, are_paired, in_pairs, WalkText, IsFoundOn}
+use Rattle.pair_commands.proofs.Common.{IsSound, Answer, End, Refuse, Pass, Yes, No, IsHomotopic, IsDecision, AreDecisions, ArePairsDecided, all_decided, decisions_answer, ◌≡◌, ◌↔◌, ℕ, zero, suc, ◌+◌, ◌*◌, ◌/◌, ◌<◌, true, List, [], ◌∷◌, length, get_or, refl, sym, ap, ◌∙◌, subst, arith, All, Option, Some, slice_get, Files, FaceList, IsWalk, HaveCommonEnds, AreWalkPair, WalkPair, ArePairs, are_paired, walks_in_pairs, WalkText, IsFoundOn}
 use Rattle.commands.proofs.Deciding.{differs, one_decision}
 use Rattle.commands.specs.Certificates.{decisions_status}
 use Rattle.std.proofs.lemmas.Bool.Decides.{nat_tests}
@@ -15,7 +15,7 @@ pair_of a b = Some (record { first = a; second = b })
 
 -- pair k has the walks 2 k and 2 k + 1
 pub pair_at : (walks : List (List ℕ)) (k : ℕ) (a b : List ℕ) → slice_get walks (2 * k) ≡ Some a → slice_get walks (2 * k + 1) ≡ Some b
-    → slice_get (in_pairs walks) k ≡ Some (record { first = a; second = b })
+    → slice_get (walks_in_pairs walks) k ≡ Some (record { first = a; second = b })
 pair_at [] zero a b e f = cc
 pair_at [] (suc k) a b e f = cc
 pair_at (x ∷ []) zero a b e f = cc
@@ -45,7 +45,7 @@ walks_at mesh text k a b pairs e f =
     record {
       first_walk = all_at (IsWalk mesh) text.walks (2 * k) a pairs.walks e;
       second_walk = all_at (IsWalk mesh) text.walks (2 * k + 1) b pairs.walks f;
-      ends = all_at (λ (pair : WalkPair). HaveCommonEnds pair.first pair.second) (in_pairs text.walks) k
+      ends = all_at (λ (pair : WalkPair). HaveCommonEnds pair.first pair.second) (walks_in_pairs text.walks) k
           (record { first = a; second = b }) pairs.ends (pair_at text.walks k a b e f);
     }
 
@@ -89,12 +89,12 @@ abbrev HasCommonEnds : WalkPair → Type 0
 HasCommonEnds pair = HaveCommonEnds pair.first pair.second
 
 ends_of_pairs : (mesh : FaceList) (walks : List (List ℕ)) (n : ℕ) → length walks ≡ 2 * n → ArePairsBelow mesh walks n
-    → All HasCommonEnds (in_pairs walks)
+    → All HasCommonEnds (walks_in_pairs walks)
 ends_of_pairs mesh [] n e below = All-nil HasCommonEnds
 ends_of_pairs mesh (x ∷ []) n e below = All-nil HasCommonEnds
 ends_of_pairs mesh (x ∷ y ∷ walks) zero e below = absurd (omega (arith, e))
 ends_of_pairs mesh (x ∷ y ∷ walks) (suc n) e below =
-    All-cons HasCommonEnds (record { first = x; second = y }) (in_pairs walks) (first_pair mesh x y walks n below).ends
+    All-cons HasCommonEnds (record { first = x; second = y }) (walks_in_pairs walks) (first_pair mesh x y walks n below).ends
     (ends_of_pairs mesh walks n (omega (arith, e)) (later_pairs mesh x y walks n below))
 
 pub all_pairs : (mesh : FaceList) (text : WalkText) (n : ℕ) → are_paired text.version (length text.walks) ≡ true
@@ -133,7 +133,7 @@ found_at mesh same walks k first second decision e f is told a b p q =
 
 all_decisions : (mesh : FaceList) (walks : List (List ℕ)) (n : ℕ) (decisions : List deciding.Answer) → length walks ≡ 2 * n
     → length decisions ≡ n → ((k : ℕ) (d : deciding.Answer) → k < n → IsDecidedAt mesh walks k (get_or decisions k d))
-    → AreDecisions mesh (in_pairs walks) decisions
+    → AreDecisions mesh (walks_in_pairs walks) decisions
 all_decisions mesh [] n [] e f each = tt
 all_decisions mesh [] n (d ∷ ds) e f each = absurd (omega (arith, e, f))
 all_decisions mesh (x ∷ []) n ds e f each = absurd (omega (arith, e))

@@ -4,7 +4,7 @@ use Rattle.std.specs.List.{AllZip}
 use Rattle.surf_io.specs.Files.{Files}
 use Rattle.surf_model.specs.FaceLists.{FaceList}
 use Rattle.surf_model.specs.Moves as moves
-use Rattle.walk_files.specs.PairLists.{WalkPair, ArePairs, in_pairs}
+use Rattle.walk_files.specs.PairLists.{WalkPair, ArePairs, walks_in_pairs}
 use Rattle.walk_files.specs.WalkLists.{WalkText}
 use Rattle.surf_model.specs.declared.decisions.Answer as deciding
 use Rattle.surf_model.specs.declared.decisions.Answer.TheVariants.{Homotopic}
@@ -37,10 +37,10 @@ AreDecisions mesh pairs decisions = AllZip (IsDecision mesh) pairs decisions
 -- the walks of a text come in pairs of walks of the mesh with common ends, and these are the decisions on them
 pub record ArePairsDecided (mesh : FaceList) (text : WalkText) (decisions : List deciding.Answer) : Type 0 where
   pub pairs : ArePairs mesh text
-  pub right : AreDecisions mesh (in_pairs text.walks) decisions
+  pub right : AreDecisions mesh (walks_in_pairs text.walks) decisions
 
 -- the status and the text are those of the decisions on the pairs: a line for each, and yes where all are homotopic
-pub record AreDecided (mesh : FaceList) (pairs : List WalkPair) (status : Status) (text : List ℕ) : Type 0 where
+pub record TellsDecisions (mesh : FaceList) (pairs : List WalkPair) (status : Status) (text : List ℕ) : Type 0 where
   pub decisions : List deciding.Answer
   pub right : AreDecisions mesh pairs decisions
   pub text_is : text ≡ decision_lines decisions
@@ -49,7 +49,7 @@ pub record AreDecided (mesh : FaceList) (pairs : List WalkPair) (status : Status
 -- What `decide` answers of such an input: for each pair, in order, a line, `homotopic` exactly where some list of moves leads from its
 -- first walk to its second, and else `different`; with status 0 exactly where all pairs are homotopic, and else 1.
 pub record IsDecided (held : Option Files) (words : List (List ℕ)) (status : Status) (text : List ℕ) : Type 0 where
-  pub answered : (mesh : FaceList) (pairs : List WalkPair) → IsDecideInput held words mesh pairs → AreDecided mesh pairs status text
+  pub answered : (mesh : FaceList) (pairs : List WalkPair) → IsDecideInput held words mesh pairs → TellsDecisions mesh pairs status text
   pub exactly : (mesh : FaceList) (pairs : List WalkPair) → IsDecideInput held words mesh pairs
       → (status ≡ Yes) ↔ All (IsHomotopic mesh) pairs
 
@@ -70,4 +70,4 @@ abbrev pub decide : Option Files → (mesh walks : List ℕ) → Check Answer
 decide held mesh walks = do
   surface ← surface_in held mesh
   text ← pairs_in held walks surface
-  all_decided surface (in_pairs text.walks)
+  all_decided surface (walks_in_pairs text.walks)

@@ -2,7 +2,7 @@
 use Rattle.std.specs.Prelude.{◌≡◌, ℕ, ◌==◌, true, false, if◌then◌else◌, List, [], ◌∷◌, codes, decimal, Option, Ok}
 use Rattle.surf_io.specs.Files.{Files}
 use Rattle.surf_model.specs.FaceLists.{FaceList}
-use Rattle.walk_files.specs.PairLists.{WalkPair, ArePairs, in_pairs, pairs_fault}
+use Rattle.walk_files.specs.PairLists.{WalkPair, ArePairs, walks_in_pairs, pairs_fault}
 use Rattle.walk_files.specs.WalkLists.{WalkText}
 use Rattle.walk_files.specs.WalkTexts.{walk_text_of}
 use Rattle.walk_files.specs.declared.pairs.PairsFault.{PairsFault}
@@ -17,7 +17,7 @@ pub record SpellsPairs (mesh : FaceList) (pairs : List WalkPair) (bytes : List �
   pub text : WalkText
   pub text_is : walk_text_of bytes ≡ Ok text
   pub are_pairs : ArePairs mesh text
-  pub pairs_are : pairs ≡ in_pairs text.walks
+  pub pairs_are : pairs ≡ walks_in_pairs text.walks
 
 -- that two starts, or two ends, of a pair differ: the one pair of version 1 is told without a number
 abbrev pub ends_line : ℕ → ℕ → List ℕ → Texts

@@ -5,7 +5,7 @@ ghost use Rattle.walk_files.specs.declared.limits.TheConstants.{MOST_LINES};
 ghost use Rattle.closed_surfaces.specs.SignedSurfaces.{IsSigned};
 ghost use Rattle.commands.specs.Stops.{Stops};
 ghost use Rattle.component_deciding.specs.Orders.{AreAllPairs};
-ghost use Rattle.component_deciding.specs.PairDeciders.{mesh_of};
+ghost use Rattle.component_deciding.specs.PairDeciders.{mesh_of_decider};
 ghost use Rattle.pair_commands.specs.Decide.{ArePairsDecided};
 ghost use Rattle.pair_commands.specs.PairInput.{come_in_pairs};
 
@@ -51,8 +51,8 @@ fn decide_all(
     decider: &mut PairDecider,
     walks: &WalkList,
 ) -> Result<Vec<Answer>, Stop>
-    ensures ends { MatchResult result (λ decisions. ArePairsDecided (mesh_of decider.old) walks.now decisions.items)
-        (Stops (come_in_pairs (mesh_of decider.old) walks.now)) }
+    ensures ends { MatchResult result (λ decisions. ArePairsDecided (mesh_of_decider decider.old) walks.now decisions.items)
+        (Stops (come_in_pairs (mesh_of_decider decider.old) walks.now)) }
     ensures no_fault { result ≡ Err Stop.ReadFault → ⊥ }
 {
     if !are_paired(walks) {

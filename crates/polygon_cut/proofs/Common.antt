@@ -9,10 +9,10 @@ unfoldable pub use Rattle.halfedge_map.specs.DartMaps.{used_vertices}
 pub use Rattle.halfedge_map.specs.Orbits.{IsReached, after_steps}
 pub use Rattle.halfedge_map.specs.OrientedMeshes.{IsOrientedSurface, OrientedMesh}
 pub use Rattle.halfedge_map.specs.RotationSystems.{IsDartFrom, IsRotationSystem, Rotations, rotations_of}
-pub use Rattle.polygon_cut.specs.Polygons.{HasPlaces, IsCutByColours, IsCutFrom, IsFirstLeft, IsLabelled, KindLabels, PolygonView, across, label_of, one_down, one_up, outer_ring, place_of, side_at, turned}
+pub use Rattle.polygon_cut.specs.Polygons.{HasFallingPlaces, IsCutByColours, IsCutFrom, IsFirstLeft, IsLabelled, KindLabels, PolygonView, across, label_of, one_down, one_up, outer_ring, place_of, side_at, turned}
 pub use Rattle.polygon_cut.specs.ShortWalks.{AreShortAround, IsFreelyShort}
 pub use Rattle.polygon_cut.specs.SpokeLoops.{ArePushedFreely, ArePushedWithLoop, AreWaysUp, HasFreeSpokes, HaveFreeSpokes, IsOffCotree, LeavesCotree, PutBehind, across_last, backward, by_loop, comes_back, dart_loop, last_side, last_side_loop, path_loop, put_behind, spoke_loop, spokes_along, way_back_round, way_round}
-pub use Rattle.polygon_cut.specs.StoredPolygons.{IsPlaced, IsWalked, TurnsRound, left_at, left_before, without_places}
+pub use Rattle.polygon_cut.specs.StoredPolygons.{IsPlacedByTurns, IsWalked, TurnsRound, left_at, left_before, without_places}
 pub use Rattle.std.proofs.Common.{Bool, List, ap, append_assoc, arith, cond, eqb, false, get_or, inl, inr, length, length-append, ltb, not, refl, subst, suc, sym, true, zero, ℕ, [], ◌&&◌, ◌*◌, ◌++◌, ◌+◌, ◌-◌, ◌<◌, ◌^◌, ◌||◌, ◌∙◌, ◌∷◌, ◌≡◌, ◌≢◌, ◌≤◌, ◌⊎◌}
 pub use Rattle.std.proofs.Math.ListN.{get_or-eq_default, set}
 pub use Rattle.std.proofs.lemmas.Bool.{and_left, and_parts, and_right, both_ways, cases_Bool, cases_eq, cases_lt, eq-eqb, eqb-true, lt-ltb, ltb-true, or_right}
@@ -49,8 +49,8 @@ pub use Rattle.tree_cotree.proofs.UpwardLemmas.{no_loop, single_path}
 pub use Rattle.tree_cotree.specs.ColouredTrees.{HasColouredTrees, without_ways}
 pub use Rattle.tree_cotree.specs.RingCounts.{any_below}
 pub use Rattle.tree_cotree.specs.RingViews.{dart_numbers}
-pub use Rattle.tree_cotree.specs.SpanningTrees.{HasOneRing, after_dart}
+pub use Rattle.tree_cotree.specs.SpanningTrees.{MakesOneRing, after_dart}
 pub use Rattle.tree_cotree.specs.Splits.{HasTrees, IsSplit, IsStepUp, SplitView, StepsToParent, StepsUp, below_edge, in_cotree, in_tree, is_left, is_left_kind, kind_of, parent_dart}
 pub use Rattle.walk_actions.proofs.Corners.{after_back, after_more, beyond_more, corners_apart, corners_beyond, once_round}
 pub use Rattle.walk_actions.proofs.Runs.{end_beyond, end_from}
-pub use Rattle.walk_actions.specs.Actions.{Acts, CrossesOnly, FacesActAsNothing, RoundIsNothing, beyond, run, walked}
+pub use Rattle.walk_actions.specs.Actions.{Acts, CrossesOnly, FacesActAsNothing, RoundIsNothing, run, vertices_beyond, walked}

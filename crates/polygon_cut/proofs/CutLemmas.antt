@@ -1,5 +1,5 @@
 -- What the cut of a surface makes is a polygon of the surface and its split.
-use Rattle.polygon_cut.proofs.Common.{steps_within, rotation_system, names_all, darts_of, edge_of, face_of, after_steps, OrientedMesh, IsOrientedSurface, Rotations, rotations_of, IsRotationSystem, PolygonView, IsLabelled, IsCutFrom, IsCutByColours, across, turned, outer_ring, left_at, without_places, IsWalked, TurnsRound, IsPlaced, ◌≡◌, ℕ, ◌*◌, ◌^◌, ◌<◌, true, false, List, length, ◌-◌, ap, sym, ◌∙◌, subst, arith, inl, inr, cases_Bool, both_ways, slice_index, HasFileSize, count_below, DartName, one_of_three, tree_has_ring, without_ways, HasColouredTrees, dart_numbers, SplitView, HasTrees, in_tree, in_cotree, is_left}
+use Rattle.polygon_cut.proofs.Common.{steps_within, rotation_system, names_all, darts_of, edge_of, face_of, after_steps, OrientedMesh, IsOrientedSurface, Rotations, rotations_of, IsRotationSystem, PolygonView, IsLabelled, IsCutFrom, IsCutByColours, across, turned, outer_ring, left_at, without_places, IsWalked, TurnsRound, IsPlacedByTurns, ◌≡◌, ℕ, ◌*◌, ◌^◌, ◌<◌, true, false, List, length, ◌-◌, ap, sym, ◌∙◌, subst, arith, inl, inr, cases_Bool, both_ways, slice_index, HasFileSize, count_below, DartName, one_of_three, tree_has_ring, without_ways, HasColouredTrees, dart_numbers, SplitView, HasTrees, in_tree, in_cotree, is_left}
 use Rattle.tree_cotree.specs.Colourings.{ColouringView, colouring_of}
 use Rattle.polygon_cut.proofs.CountLemmas.{count_at_most, count_along, count_darts, count_nothing}
 use Rattle.polygon_cut.proofs.PlaceLemmas.{Crosses, sides_cross, turning_permutes}
@@ -74,7 +74,7 @@ cut_is : {s : OrientedMesh} {colouring : ColouringView} (last : ℕ) {degree : �
     IsOrientedSurface s
     → HasColouredTrees s colouring → IsRingWalk s (without_ways colouring) last sides labels → degree ≡ length sides
     → face_of s last ≡ colouring.root_face
-    → IsPlaced degree (turned (rotations_of s) (polygon_of degree sides labels places)) degree places
+    → IsPlacedByTurns degree (turned (rotations_of s) (polygon_of degree sides labels places)) degree places
     → IsCutFrom s (without_ways colouring) (polygon_of degree sides labels places)
 cut_is {s} {colouring} last {degree} sides labels {places} o t w is root placed =
     let split : SplitView = without_ways colouring in
@@ -90,8 +90,8 @@ cut_is {s} {colouring} last {degree} sides labels {places} o t w is root placed 
 -- places by turning, said of lists that are the same
 pub placed_too : (s : OrientedMesh) (sides those : List DartName) (labels these : List ℕ) (degree : ℕ) {places : List ℕ} → sides ≡ those
     → labels ≡ these → degree ≡ length those
-    → IsPlaced (length sides) (turned (rotations_of s) (without_places sides labels)) (length sides) places
-    → IsPlaced degree (turned (rotations_of s) (polygon_of degree (dart_numbers those) these places)) degree places
+    → IsPlacedByTurns (length sides) (turned (rotations_of s) (without_places sides labels)) (length sides) places
+    → IsPlacedByTurns degree (turned (rotations_of s) (polygon_of degree (dart_numbers those) these places)) degree places
 placed_too s sides those labels these degree {places} one two three h = grind (arith, turned)
 
 -- a cut looks at no way, so it is one with each split that tells the colours
@@ -104,7 +104,7 @@ any_split {s} colouring {polygon} h split is tells =
 pub cut_by_colours_is : {s : OrientedMesh} {colouring : ColouringView} (last : ℕ) {degree : ℕ} (sides labels : List ℕ) {places : List ℕ}
     → IsOrientedSurface s → HasColouredTrees s colouring → IsRingWalk s (without_ways colouring) last sides labels
     → degree ≡ length sides → face_of s last ≡ colouring.root_face
-    → IsPlaced degree (turned (rotations_of s) (polygon_of degree sides labels places)) degree places
+    → IsPlacedByTurns degree (turned (rotations_of s) (polygon_of degree sides labels places)) degree places
     → IsCutByColours s colouring (polygon_of degree sides labels places)
 cut_by_colours_is {colouring} last sides labels o t w is root placed =
     any_split colouring (cut_is last sides labels o t w is root placed)

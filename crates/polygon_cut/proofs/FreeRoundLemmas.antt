@@ -1,5 +1,5 @@
 -- The way round a face but for one of its darts, forward and backward: as the corners that a move reads, and as a value, up to spurs.
-use Rattle.polygon_cut.proofs.Common.{dart_between, step_first, rotation_system, names_all, darts_of, next_of, twin_of, origin_of, target_of, face_of, after_steps, OrientedMesh, IsOrientedSurface, rotations_of, IsRotationSystem, IsDartFrom, PolygonView, IsCutFrom, side_at, label_of, ◌≡◌, ◌≢◌, ℕ, zero, suc, ◌-◌, ◌<◌, ◌≤◌, Bool, true, not, ◌&&◌, eqb, List, [], ◌∷◌, ◌++◌, length, get_or, refl, ap, sym, ◌∙◌, subst, arith, eqb-true, eq-eqb, and_parts, unwrap_or, step_within, corner_after, face_at, next_corner, corners_from, first_below, SplitView, IsSplit, after_back, beyond_more, corners_beyond, end_from as end_of, end_beyond, beyond}
+use Rattle.polygon_cut.proofs.Common.{dart_between, step_first, rotation_system, names_all, darts_of, next_of, twin_of, origin_of, target_of, face_of, after_steps, OrientedMesh, IsOrientedSurface, rotations_of, IsRotationSystem, IsDartFrom, PolygonView, IsCutFrom, side_at, label_of, ◌≡◌, ◌≢◌, ℕ, zero, suc, ◌-◌, ◌<◌, ◌≤◌, Bool, true, not, ◌&&◌, eqb, List, [], ◌∷◌, ◌++◌, length, get_or, refl, ap, sym, ◌∙◌, subst, arith, eqb-true, eq-eqb, and_parts, unwrap_or, step_within, corner_after, face_at, next_corner, corners_from, first_below, SplitView, IsSplit, after_back, beyond_more, corners_beyond, end_from as end_of, end_beyond, vertices_beyond}
 use Rattle.halfedge_map.proofs.ListLemmas.{IsFirstBelow, first_passes}
 use Rattle.halfedge_map.proofs.TwinLemmas.{origin-twin}
 use Rattle.polygon_cut.proofs.GroupLemmas.{quotient}
@@ -12,7 +12,7 @@ use Rattle.polygon_cut.proofs.DartLoopLemmas.{Loops, spoke, one_of}
 use Rattle.polygon_cut.proofs.FreeSpokeLemmas.{free_group, free_value, free_twin, free_is_two_spokes}
 
 behind_back : (face : List ℕ) (rising : Bool) (t k : ℕ) → t < length face
-    → beyond face (not rising) (corner_after rising (length face) t k) k ≡ back (get_or face t 0) (beyond face rising t k)
+    → vertices_beyond face (not rising) (corner_after rising (length face) t k) k ≡ back (get_or face t 0) (vertices_beyond face rising t k)
 behind_back face rising t zero l = refl
 behind_back face rising t (suc k) l =
     let m : ℕ = length face in
@@ -20,7 +20,7 @@ behind_back face rising t (suc k) l =
     beyond_more face (not rising) (corner_after rising m on k) k
     ∙ ap (λ (x : List ℕ). x ++ get_or face (corner_after (not rising) m (corner_after rising m on k) (suc k)) 0 ∷ [])
     (behind_back face rising on k (step_within rising m t l))
-    ∙ ap (λ c. back (get_or face on 0) (beyond face rising on k) ++ get_or face c 0 ∷ []) (after_back rising m t (suc k) l)
+    ∙ ap (λ c. back (get_or face on 0) (vertices_beyond face rising on k) ++ get_or face c 0 ∷ []) (after_back rising m t (suc k) l)
 
 -- the corners read the other way, from where the reading ended
 pub read_back : (face : List ℕ) (rising : Bool) (t k u : ℕ) (rest : List ℕ) → t < length face → corners_from face rising t k ≡ u ∷ rest

@@ -1,6 +1,6 @@
 -- How labels ride along the rings: along that of tree and leftover edges they stay or rise by one, along that of the tree they stay
 -- or turn.
-use Rattle.polygon_cut.proofs.Common.{IsPermutationBelow, step_first, reached_step, reached_refl, reached_trans, after_steps, IsReached, Rotations, IsRotationSystem, one_up, PolygonView, side_at, label_of, turned, IsFirstLeft, IsLabelled, KindLabels, ◌≡◌, ◌⊎◌, inl, inr, ℕ, zero, suc, ◌-◌, ◌<◌, Bool, true, false, not, refl, ap, sym, ◌∙◌, subst, arith, cases_eq, both_ways, nat_tests, after_permutes, go_on, turn, twin_edge, OneOfThree, tree_one, cotree_one, left_one, after_dart, HasOneRing}
+use Rattle.polygon_cut.proofs.Common.{IsPermutationBelow, step_first, reached_step, reached_refl, reached_trans, after_steps, IsReached, Rotations, IsRotationSystem, one_up, PolygonView, side_at, label_of, turned, IsFirstLeft, IsLabelled, KindLabels, ◌≡◌, ◌⊎◌, inl, inr, ℕ, zero, suc, ◌-◌, ◌<◌, Bool, true, false, not, refl, ap, sym, ◌∙◌, subst, arith, cases_eq, both_ways, nat_tests, after_permutes, go_on, turn, twin_edge, OneOfThree, tree_one, cotree_one, left_one, after_dart, MakesOneRing}
 
 pub one_up_below : (degree i : ℕ) → i < degree → one_up degree i < degree
 one_up_below degree i l = grind (arith, nat_tests)
@@ -123,7 +123,7 @@ label_on_tree_ring {maps} tree cotree {left} {polygon} r kinds h d l =
 -- each number below the degree is reached by turning from 0
 pub turning_reaches_all : {maps : Rotations} (tree cotree : ℕ → Bool) {left : ℕ → Bool} {polygon : PolygonView} → IsRotationSystem maps
     → ((d : ℕ) → d < maps.darts → OneOfThree (tree (maps.edge d)) (cotree (maps.edge d)) (left (maps.edge d)))
-    → IsLabelled maps (after_dart maps (λ e. not (cotree e))) left polygon → HasOneRing maps tree
+    → IsLabelled maps (after_dart maps (λ e. not (cotree e))) left polygon → MakesOneRing maps tree
     → (j : ℕ) → j < polygon.degree → IsReached (turned maps polygon) 0 j
 turning_reaches_all {maps} tree cotree {polygon} r kinds h ring j l =
     let some : 0 < polygon.degree = omega arith in

@@ -1,12 +1,12 @@
 -- The leftover rule of the places, the order of the places for degree 4, and how many darts have an edge of a set.
-use Rattle.polygon_cut.proofs.Common.{reached_back, after_steps, IsReached, Rotations, IsRotationSystem, one_up, one_down, PolygonView, label_of, place_of, IsLabelled, HasPlaces, ◌≡◌, ◌⊎◌, inl, inr, ℕ, zero, suc, ◌<◌, Bool, true, refl, ap, sym, ◌∙◌, subst, arith}
+use Rattle.polygon_cut.proofs.Common.{reached_back, after_steps, IsReached, Rotations, IsRotationSystem, one_up, one_down, PolygonView, label_of, place_of, IsLabelled, HasFallingPlaces, ◌≡◌, ◌⊎◌, inl, inr, ℕ, zero, suc, ◌<◌, Bool, true, refl, ap, sym, ◌∙◌, subst, arith}
 use Rattle.polygon_cut.proofs.PolygonLemmas.{is_own_side}
 use Rattle.polygon_cut.proofs.PlaceLemmas.{Crosses, turning_permutes}
 
 -- for a leftover dart with the label a whose twin has the label c, the spoke c + 1 stands one place before a
 pub leftover_places : {maps : Rotations} {ring : ℕ → ℕ} {left : ℕ → Bool} {polygon : PolygonView} → IsRotationSystem maps
     → IsLabelled maps ring left polygon
-    → HasPlaces maps polygon → (d : ℕ) → d < maps.darts → left (maps.edge d) ≡ true
+    → HasFallingPlaces maps polygon → (d : ℕ) → d < maps.darts → left (maps.edge d) ≡ true
     → place_of polygon (one_up polygon.degree (label_of polygon (maps.twin d))) ≡ one_down polygon.degree
     (place_of polygon (label_of polygon d))
 leftover_places {maps} {ring} {left} {polygon} r h p d l is =

@@ -1,5 +1,5 @@
 -- Places given by turning round the one vertex, from side to side.
-use Rattle.polygon_cut.proofs.Common.{steps_within, after_steps, Rotations, PolygonView, HasPlaces, one_down, turned, across, TurnsRound, IsPlaced, ◌≡◌, ◌≢◌, inl, inr, ℕ, suc, ◌+◌, ◌-◌, ◌<◌, List, length, get_or, ap, sym, ◌∙◌, subst, arith, set, cases_eq, nat_tests, get_or-set_same, get_or-set_other, length-set, slice_index}
+use Rattle.polygon_cut.proofs.Common.{steps_within, after_steps, Rotations, PolygonView, HasFallingPlaces, one_down, turned, across, TurnsRound, IsPlacedByTurns, ◌≡◌, ◌≢◌, inl, inr, ℕ, suc, ◌+◌, ◌-◌, ◌<◌, List, length, get_or, ap, sym, ◌∙◌, subst, arith, set, cases_eq, nat_tests, get_or-set_same, get_or-set_other, length-set, slice_index}
 use Rattle.polygon_cut.proofs.PlaceLemmas.{FallingPlaces, falling}
 use Rattle.polygon_cut.proofs.PolygonLemmas.{one_up_below}
 use Rattle.polygon_cut.proofs.RoundLemmas.{GoesRound, round_apart}
@@ -10,7 +10,7 @@ turns_go_round {maps} {polygon} t some = grind (arith, one_up_below, across)
 
 -- as far as the turning has come: at which spoke it is, and the place that this gets
 pub record IsTurning (degree : ℕ) (f : ℕ → ℕ) (turns : ℕ) (places : List ℕ) (spoke place : ℕ) : Type 0 where
-  pub placed : IsPlaced degree f turns places
+  pub placed : IsPlacedByTurns degree f turns places
   pub at : spoke ≡ after_steps f turns 0
   pub first : turns ≡ 0 → place ≡ 0
   pub later : 0 < turns → place ≡ degree - turns
@@ -70,7 +70,7 @@ turning_more {degree} {f} {turns} {places} new {spoke} {place} next_spoke next_p
 
 -- places that turning gives
 pub places_are : {maps : Rotations} {polygon : PolygonView} → TurnsRound maps polygon → 0 < polygon.degree
-    → IsPlaced polygon.degree (turned maps polygon) polygon.degree polygon.places → HasPlaces maps polygon
+    → IsPlacedByTurns polygon.degree (turned maps polygon) polygon.degree polygon.places → HasFallingPlaces maps polygon
 places_are {maps} {polygon} t some h =
     let g : GoesRound polygon.degree (turned maps polygon) 0 = turns_go_round t some in
     let fall : FallingPlaces polygon.degree (turned maps polygon) (slice_index polygon.places) = grind (arith, falling) in

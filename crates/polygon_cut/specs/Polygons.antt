@@ -62,7 +62,7 @@ abbrev pub turned : Rotations → PolygonView → ℕ → ℕ
 turned maps polygon i = one_up polygon.degree (across maps polygon i)
 
 -- The places of the spokes round the one vertex: each number below the degree once, and they fall by one with each turn.
-pub record HasPlaces (maps : Rotations) (polygon : PolygonView) : Type 0 where
+pub record HasFallingPlaces (maps : Rotations) (polygon : PolygonView) : Type 0 where
   pub each_spoke : length polygon.places ≡ polygon.degree
   pub below : (i : ℕ) → i < polygon.degree → place_of polygon i < polygon.degree
   pub apart : (i j : ℕ) → i < polygon.degree → j < polygon.degree → place_of polygon i ≡ place_of polygon j → i ≡ j
@@ -75,7 +75,7 @@ pub record IsCutFrom (surface : OrientedMesh) (split : SplitView) (polygon : Pol
   pub degree : polygon.degree ≡ 4 * split.genus
   pub labels : 0 < polygon.degree → IsLabelled (rotations_of surface) (outer_ring surface split) (is_left split) polygon
   pub last_side : 0 < polygon.degree → (rotations_of surface).face (side_at polygon (polygon.degree - 1)) ≡ split.root_face
-  pub places : 0 < polygon.degree → HasPlaces (rotations_of surface) polygon
+  pub places : 0 < polygon.degree → HasFallingPlaces (rotations_of surface) polygon
 
 -- 'The polygon was cut from this surface by these colours': whatever split of it tells them, the polygon was cut with that split.
 abbrev pub IsCutByColours : OrientedMesh → ColouringView → PolygonView → Type 0

@@ -43,7 +43,7 @@ pub record TurnsRound (maps : Rotations) (polygon : PolygonView) : Type 0 where
   pub reaches : (j : ℕ) → j < polygon.degree → IsReached (turned maps polygon) 0 j
 
 -- The places of the first so many sides that turning reaches from 0 fall by one with each turn.
-pub record IsPlaced (degree : ℕ) (f : ℕ → ℕ) (turns : ℕ) (places : List ℕ) : Type 0 where
+pub record IsPlacedByTurns (degree : ℕ) (f : ℕ → ℕ) (turns : ℕ) (places : List ℕ) : Type 0 where
   pub each_spoke : length places ≡ degree
   pub first : 0 < turns → slice_index places 0 ≡ 0
   pub others : (k : ℕ) → 0 < k → k < turns → slice_index places (after_steps f k 0) ≡ degree - k

@@ -2,7 +2,7 @@
 ghost use Rattle.std.specs.Prelude.{◌≡◌, ◌<◌, ◌^◌, length, IfOk};
 ghost use Rattle.halfedge_map.specs.RotationSystems.{rotations_of};
 ghost use Rattle.polygon_cut.specs.Polygons.{one_up, one_down, turned};
-ghost use Rattle.polygon_cut.specs.StoredPolygons.{without_places, TurnsRound, IsPlaced};
+ghost use Rattle.polygon_cut.specs.StoredPolygons.{without_places, TurnsRound, IsPlacedByTurns};
 
 use halfedge_map::Surface;
 use std::alloc::{AllocError, Global};
@@ -17,7 +17,7 @@ pub(crate) fn places_by_turns(
 ) -> Result<Vec<u32>, AllocError>
     requires round { TurnsRound (rotations_of surface.now) (without_places sides.now labels.now) }
     requires few { length sides.now < 2 ^ 32 }
-    ensures { IfOk result (λ places. IsPlaced (length sides.now)
+    ensures { IfOk result (λ places. IsPlacedByTurns (length sides.now)
         (turned (rotations_of surface.now) (without_places sides.now labels.now)) (length sides.now) places.items) }
 {
     let degree = sides.len() as u32;

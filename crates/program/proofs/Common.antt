@@ -8,7 +8,7 @@ pub use Rattle.commands.proofs.Sound.{IsSound, file_holds, held, sound-found, so
 pub use Rattle.commands.specs.Answers.{Answer, Exactly, Texts, yes_with}
 pub use Rattle.commands.specs.Certificates.{Convinces, IsPeakLow, IsShortOnSphere, certificate_text, decision_of, decision_status}
 pub use Rattle.commands.specs.Checks.{Check, Holds, IsTold, Pass, Passes, Refuse, file, found_or, meant, pass, pass_unless, ◌>>=◌}
-pub use Rattle.commands.specs.Inputs.{IsCertificateEnd, IsInputOnSurface, IsInputWith, SpellsCertificate, SpellsMesh, SpellsPair, certificate_in, certificate_in_bytes, certificate_of, mesh_in, orientable, pair_in, walk_at, walks_unless}
+pub use Rattle.commands.specs.Inputs.{IsCertificateEnd, IsInputOnSurface, IsInputWith, SpellsCertificate, SpellsMesh, SpellsPair, certificate_in, certificate_in_bytes, certificate_of, mesh_in, orientable, pair_in, walks_unless}
 pub use Rattle.commands.specs.Outcomes.{AnswersTo, IsAnswerOf, Outcome}
 pub use Rattle.commands.specs.Refusals.{certificate_line, numbers_line, off_line, pair_line, wrong_words}
 pub use Rattle.commands.specs.Replies.{Replies, Runs, reply_status, reply_text}
@@ -26,7 +26,7 @@ pub use Rattle.homology_files.specs.HomologyTexts.{cert_of_text}
 pub use Rattle.loop_commands.specs.Loops.{IsLoopsInput, SpellsLoops, freely_decided, loops_in, loops_line}
 pub use Rattle.move_lifting.specs.declared.expanding.TheConstants.{MOST_LIFTED_DARTS, MOST_LIFTED_SIDES}
 pub use Rattle.open_commands.proofs.OpenOutcomes.{certified_open_so, decided_open_so, sound-certify_open, sound-decide_open}
-pub use Rattle.open_commands.specs.CertifyOpen.{IsListPrinted, listed}
+pub use Rattle.open_commands.specs.CertifyOpen.{IsListPrinted, decided_with_list}
 pub use Rattle.open_commands.specs.OpenInput.{as_open_surface, open_surface, open_surface_in}
 pub use Rattle.open_commands.specs.OpenPairs.{IsOpenInput, Question, open_limits, open_pair_in, question}
 pub use Rattle.pair_commands.proofs.DecideOutcomes.{decided_so, sound-decide}
@@ -40,12 +40,12 @@ pub use Rattle.std.specs.Prelude.{All, Err, IfNone, IfSome, IsSome, IsSomeAnd, M
 pub use Rattle.surf_io.specs.Files.{Files, file_of}
 pub use Rattle.surf_model.specs.FaceLists.{FaceList, HasFileSize, IsFaceList, total_sides}
 pub use Rattle.surf_model.specs.OrientableSurfaces.{HasComponents, IsOrientableSurface}
-pub use Rattle.surf_model.specs.Walks.{AreWalkPair, IsWalk, darts}
+pub use Rattle.surf_model.specs.Walks.{AreWalkPair, IsWalk, darts, walk_at}
 pub use Rattle.surface_commands.specs.Surface.{HasFewComponents, IsSurfaceInput, genera_of, numbers_of, numbers_text}
-pub use Rattle.surface_commands.specs.SurfaceInput.{as_surface, closed, of_few_components, surface_in}
+pub use Rattle.surface_commands.specs.SurfaceInput.{as_surface, closed_alone, of_few_components, surface_in}
 pub use Rattle.surface_commands.specs.declared.surface.TheConstants.{MOST_COMPONENTS}
 pub use Rattle.verify_commands.specs.Verify.{IsVerifyInput, judgement}
 pub use Rattle.verify_homology_commands.proofs.VerifyHomologyOutcomes.{homology_verified, sound-verify_homology}
-pub use Rattle.walk_files.specs.PairLists.{ArePairs, WalkPair, in_pairs, pairs_fault}
+pub use Rattle.walk_files.specs.PairLists.{ArePairs, WalkPair, pairs_fault, walks_in_pairs}
 pub use Rattle.walk_files.specs.WalkLists.{WalkText}
 pub use Rattle.walk_files.specs.WalkTexts.{times, token_of, walk_of_line, walk_text_of, walks_in, walks_of, within_limits, written_out}

@@ -1,5 +1,5 @@
 -- What passes the checks of a file that is told is what the file stands for.
-use Rattle.program.proofs.Common.{both_passed, meant_passed, unless_passed, file_holds, Texts, Pass, Passes, IsTold, Holds, file, meant, pass_unless, ◌>>=◌, IsCertificateEnd, SpellsCertificate, SpellsMesh, SpellsPair, certificate_in, certificate_in_bytes, certificate_of, mesh_in, pair_in, walk_at, walks_unless, orientable, certificate_line, numbers_line, off_line, pair_line, Certificate, cert_of_text, SpellsLoops, loops_in, loops_line, as_open_surface, open_surface, open_surface_in, SpellsPairs, pairs_in, pairs_line, ◌≡◌, ℕ, List, [], ◌∷◌, refl, sym, ap, subst, ◌∙◌, Option, None, Result, Ok, Err, All, Files, file_of, FaceList, IsOrientableSurface, AreWalkPair, as_surface, closed, surface_in, ArePairs, in_pairs, pairs_fault, WalkText, walk_text_of, walks_in, walks_of}
+use Rattle.program.proofs.Common.{both_passed, meant_passed, unless_passed, file_holds, Texts, Pass, Passes, IsTold, Holds, file, meant, pass_unless, ◌>>=◌, IsCertificateEnd, SpellsCertificate, SpellsMesh, SpellsPair, certificate_in, certificate_in_bytes, certificate_of, mesh_in, pair_in, walks_unless, orientable, certificate_line, numbers_line, off_line, pair_line, Certificate, cert_of_text, SpellsLoops, loops_in, loops_line, as_open_surface, open_surface, open_surface_in, SpellsPairs, pairs_in, pairs_line, ◌≡◌, ℕ, List, [], ◌∷◌, refl, sym, ap, subst, ◌∙◌, Option, None, Result, Ok, Err, All, Files, file_of, FaceList, IsOrientableSurface, walk_at, AreWalkPair, as_surface, closed_alone, surface_in, ArePairs, walks_in_pairs, pairs_fault, WalkText, walk_text_of, walks_in, walks_of}
 use Rattle.closed_walks.specs.FreeHomotopy.{IsClosedWalk}
 use Rattle.commands.specs.declared.refusal.Input.{Input}
 use Rattle.free_forms.specs.OpenSurfaces.{IsOpenSurface}
@@ -38,7 +38,7 @@ certificate_held held name shown told p =
     (told_check (IsCertificateEnd (Pass shown)) (Passes (certificate_in_bytes held name) shown) (file_of held name) told p)
 
 pub homology_held : (held : Option Files) (name : List ℕ) (shown : HomologyCert) → IsTold held name
-    → Passes (homology.certificate_in held name) shown → Holds held name (λ bytes. cert_of_text bytes ≡ Ok shown)
+    → Passes (homology.homology_certificate_in held name) shown → Holds held name (λ bytes. cert_of_text bytes ≡ Ok shown)
 homology_held held name shown = meant_held homology.fault_line cert_of_text held name inputs.Certificate shown
 
 -- ---- the surface
@@ -47,7 +47,7 @@ pub surface_held : (held : Option Files) (name : List ℕ) (surface : FaceList) 
     → Holds held name (SpellsMesh surface) × IsOrientableSurface surface
 surface_held held name surface told p =
     let mesh = both_passed (mesh_in held name) as_surface surface p in
-    let whole = both_passed (closed mesh.0) orientable surface mesh.2 in
+    let whole = both_passed (closed_alone mesh.0) orientable surface mesh.2 in
     let same : surface ≡ mesh.0 = whole.2.1 ∙ whole.1.1 in
     subst (λ (m : FaceList). Holds held name (SpellsMesh m) × IsOrientableSurface m) (sym same) (
       mesh_held held name mesh.0 told mesh.1,
@@ -66,7 +66,7 @@ open_held held name surface told p =
 -- ---- pairs of walks
 
 pub pairs_held : (held : Option Files) (name : List ℕ) (mesh : FaceList) (text : WalkText) → IsTold held name
-    → Passes (pairs_in held name mesh) text → Holds held name (SpellsPairs mesh (in_pairs text.walks))
+    → Passes (pairs_in held name mesh) text → Holds held name (SpellsPairs mesh (walks_in_pairs text.walks))
 pairs_held held name mesh text told p =
     let bytes = both_passed (file held name inputs.Walks)
     (λ b. meant (numbers_line inputs.Walks) (walk_text_of b) >>= (λ t. pass_unless (pairs_line t.version) (pairs_fault mesh t) t)) text p in
@@ -75,9 +75,9 @@ pairs_held held name mesh text told p =
     let passed = unless_passed (pairs_line read.0.version) (pairs_fault mesh read.0) read.0 text read.2 in
     let spelled : walk_text_of bytes.0 ≡ Ok read.0 = meant_passed (numbers_line inputs.Walks) (walk_text_of bytes.0) read.0 read.1 in
     let pairs : ArePairs mesh read.0 = pairs_of_none mesh read.0 (text_walks bytes.0 read.0 spelled) passed.0 in
-    let spells : SpellsPairs mesh (in_pairs text.walks) bytes.0 =
-    record { text = read.0; text_is = spelled; are_pairs = pairs; pairs_are = ap (λ (t : WalkText). in_pairs t.walks) passed.1 } in
-    file_holds held name inputs.Walks (SpellsPairs mesh (in_pairs text.walks)) bytes.0 told bytes.1 spells
+    let spells : SpellsPairs mesh (walks_in_pairs text.walks) bytes.0 =
+    record { text = read.0; text_is = spelled; are_pairs = pairs; pairs_are = ap (λ (t : WalkText). walks_in_pairs t.walks) passed.1 } in
+    file_holds held name inputs.Walks (SpellsPairs mesh (walks_in_pairs text.walks)) bytes.0 told bytes.1 spells
 
 -- ---- two walks
 

@@ -1,5 +1,5 @@
 -- An answer that is no refusal comes of an input of its command.
-use Rattle.program.proofs.Common.{IsCertifyInput, IsWithinLimits, certified, certify_limits, limit_fault, limit_word, both_passed, unless_passed, Answer, Exactly, yes_with, Check, Passes, IsTold, Holds, pass, pass_unless, ◌>>=◌, IsInputOnSurface, IsInputWith, certificate_in, mesh_in, pair_in, walk_at, SpellsCertificate, SpellsPair, Status, Refused, Yes, IsHomologyInput, homology_shown, cert_of_text, IsLoopsInput, SpellsLoops, freely_decided, loops_in, listed, open_surface_in, Question, open_limits, open_pair_in, question, IsDecideInput, all_decided, SpellsPairs, pairs_in, Row, IsRow, Surface, Decide, Certify, Loops, DecideOpen, CertifyOpen, Homology, Verify, VerifyHomology, Reduce, answer_to, Answers, reduced, ◌≡◌, ℕ, List, [], ◌∷◌, codes, ap, ◌∙◌, ◌≢◌, Ok, Option, Files, FaceList, IsOrientableSurface, HasFewComponents, IsSurfaceInput, genera_of, numbers_of, numbers_text, of_few_components, surface_in, MOST_COMPONENTS, judgement, WalkPair, in_pairs, WalkText}
+use Rattle.program.proofs.Common.{IsCertifyInput, IsWithinLimits, certified, certify_limits, limit_fault, limit_word, both_passed, unless_passed, Answer, Exactly, yes_with, Check, Passes, IsTold, Holds, pass, pass_unless, ◌>>=◌, IsInputOnSurface, IsInputWith, certificate_in, mesh_in, pair_in, SpellsCertificate, SpellsPair, Status, Refused, Yes, IsHomologyInput, homology_shown, cert_of_text, IsLoopsInput, SpellsLoops, freely_decided, loops_in, decided_with_list, open_surface_in, Question, open_limits, open_pair_in, question, IsDecideInput, all_decided, SpellsPairs, pairs_in, Row, IsRow, Surface, Decide, Certify, Loops, DecideOpen, CertifyOpen, Homology, Verify, VerifyHomology, Reduce, answer_to, Answers, reduced, ◌≡◌, ℕ, List, [], ◌∷◌, codes, ap, ◌∙◌, ◌≢◌, Ok, Option, Files, FaceList, IsOrientableSurface, walk_at, HasFewComponents, IsSurfaceInput, genera_of, numbers_of, numbers_text, of_few_components, surface_in, MOST_COMPONENTS, judgement, WalkPair, walks_in_pairs, WalkText}
 use Rattle.commands.proofs.LimitLemmas.{fitting}
 use Rattle.commands.specs.Decisions.{decided}
 use Rattle.commands.specs.WordTexts.{words_text}
@@ -87,7 +87,7 @@ on_files keyword AreSuch shown_in next held words mesh walks certificate answer 
 
 -- the question that two walks are, within the limits
 abbrev within_open : FaceList → List (List ℕ) → Check Question
-within_open s pair = pass_unless (λ line. Exactly line) (open_pairs.limit_fault s (walk_at pair 0) (walk_at pair 1)) (question s pair)
+within_open s pair = pass_unless (λ line. Exactly line) (open_pairs.open_limit_fault s (walk_at pair 0) (walk_at pair 1)) (question s pair)
 
 on_open : (keyword : List ℕ) (held : Option Files) (words : List (List ℕ)) (mesh walks : List ℕ) (next : Question → Check Answer)
     (answer : Answer) → words ≡ keyword ∷ mesh ∷ walks ∷ [] → IsTold held mesh → IsTold held walks
@@ -96,7 +96,7 @@ on_open keyword held words mesh walks next answer words_are mesh_told walks_told
     let asked = both_passed (open_pair_in held mesh walks) next answer p in
     let surface = both_passed (open_surface_in held mesh) (λ s. pair_in held walks s >>= within_open s) asked.0 asked.1 in
     let pair = both_passed (pair_in held walks surface.0) (within_open surface.0) asked.0 surface.2 in
-    let within = unless_passed (λ line. Exactly line) (open_pairs.limit_fault surface.0 (walk_at pair.0 0) (walk_at pair.0 1))
+    let within = unless_passed (λ line. Exactly line) (open_pairs.open_limit_fault surface.0 (walk_at pair.0 0) (walk_at pair.0 1))
     (question surface.0 pair.0) asked.0 pair.2 in
     let spelled = open_held held mesh surface.0 mesh_told surface.1 in
     record {
@@ -113,7 +113,7 @@ on_open keyword held words mesh walks next answer words_are mesh_told walks_told
           is_orientable = spelled.2;
           walks_file = pair_held held walks surface.0 pair.0 walks_told pair.1;
         },
-        fitting open_limits open_pairs.limit_word surface.0 (walk_at pair.0 0) (walk_at pair.0 1) within.0,
+        fitting open_limits open_pairs.open_limit_word surface.0 (walk_at pair.0 0) (walk_at pair.0 1) within.0,
       );
     }
 
@@ -170,10 +170,10 @@ module _ (held : Option Files) (words : List (List ℕ)) (status : Status) (text
       → (faces : FaceList) × (pairs : List WalkPair) × IsDecideInput held words faces pairs
   decide_met mesh walks is mesh_told walks_told =
       let p = passed (Decide mesh walks) is in
-      let found = on_surface (codes "decide") (λ s (t : WalkText). SpellsPairs s (in_pairs t.walks)) (pairs_in held walks)
-      (λ s (t : WalkText). all_decided s (in_pairs t.walks)) held words mesh walks p.0 is mesh_told
+      let found = on_surface (codes "decide") (λ s (t : WalkText). SpellsPairs s (walks_in_pairs t.walks)) (pairs_in held walks)
+      (λ s (t : WalkText). all_decided s (walks_in_pairs t.walks)) held words mesh walks p.0 is mesh_told
       (λ s t. pairs_held held walks s t walks_told) p.1 in
-      (found.mesh, in_pairs found.walks.walks, found.is_so.0)
+      (found.mesh, walks_in_pairs found.walks.walks, found.is_so.0)
 
   certify_met : (mesh walks : List ℕ) → IsRow words (Certify mesh walks) → IsTold held mesh → IsTold held walks
       → OfSomeWalks (λ faces first second. IsCertifyInput held words faces first second × IsWithinLimits faces first second)
@@ -227,7 +227,8 @@ premises_met held words status text answers =
           on_open (codes "decide-open") held words mesh walks (λ asked. decided asked.mesh asked.first asked.second) p.0 is one two p.1;
       certify_open = λ mesh walks is one two answered.
           let p = passed held words status text answers answered (CertifyOpen mesh walks) is in
-          on_open (codes "certify-open") held words mesh walks (λ asked. listed asked.mesh asked.first asked.second) p.0 is one two p.1;
+          on_open (codes "certify-open") held words mesh walks (λ asked. decided_with_list asked.mesh asked.first asked.second) p.0 is one
+          two p.1;
       homology = λ mesh walks is one two answered. homology_met held words status text answers answered mesh walks is one two;
       verify = λ mesh walks certificate is one two three answered.
           let p = passed held words status text answers answered (Verify mesh walks certificate) is in
@@ -236,8 +237,10 @@ premises_met held words status text answers =
           (λ shown. certificate_held held certificate shown three) p.1;
       verify_homology = λ mesh walks certificate is one two three answered.
           let p = passed held words status text answers answered (VerifyHomology mesh walks certificate) is in
-          on_files (codes "verify-homology") (λ shown bytes. cert_of_text bytes ≡ Ok shown) (homology.certificate_in held certificate)
-          (λ faces pair shown. homology.judgement faces (walk_at pair 0) (walk_at pair 1) shown) held words mesh walks certificate p.0
+          on_files (codes "verify-homology") (λ shown bytes. cert_of_text bytes ≡ Ok shown)
+          (homology.homology_certificate_in held certificate)
+          (λ faces pair shown. homology.homology_judgement faces (walk_at pair 0) (walk_at pair 1) shown) held words mesh walks certificate
+          p.0
           is one two (λ shown. homology_held held certificate shown three) p.1;
       reduce = λ degree list is told answered.
           let p = passed held words status text answers answered (Reduce degree list) is in

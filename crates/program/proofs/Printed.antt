@@ -64,7 +64,7 @@ printed_on_sphere_accepted files words mesh first second status text input limit
 
 -- a list of `certify-open`, which is short
 pub printed_list_accepted : (files : Option Files) (words : List (List ℕ)) (mesh : FaceList) (first second : List ℕ) (status : Status)
-    (text : List ℕ) → IsOpenInput (codes "certify-open") files words mesh first second → open_limits.IsWithinLimits mesh first second
+    (text : List ℕ) → IsOpenInput (codes "certify-open") files words mesh first second → open_limits.IsWithinOpenLimits mesh first second
     → (printed : IsListPrinted mesh first second status text) → IsAccepted mesh first second (Moves printed.list) text
 unfolding verify_input input_so
 printed_list_accepted files words mesh first second status text input limits printed =
@@ -91,7 +91,7 @@ printed_list_accepted files words mesh first second status text input limits pri
 -- and what `homology` prints, `verify-homology` accepts
 pub printed_homology_accepted : (mesh : FaceList) (first second : List ℕ) (status : Status) (text : List ℕ)
     → IsHomologyPrinted mesh first second status text → (files : Option Files) (words : List (List ℕ)) (told : Status) (answer : List ℕ)
-    → homology_texts.IsVerifyOfText files words mesh first second text → Answers files words told answer
+    → homology_texts.IsHomologyVerifyOfText files words mesh first second text → Answers files words told answer
     → (told ≡ Yes) × (answer ≡ line (codes "accepted") [])
 printed_homology_accepted mesh first second status text printed files words told answer h answered =
     (homology_accepted mesh first second status text printed).accepted files words told answer h

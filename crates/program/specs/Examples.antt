@@ -29,7 +29,7 @@ use Rattle.surf_model.specs.declared.numbers.SurfaceNumbers.{SurfaceNumbers}
 use Rattle.verify_homology_commands.specs.VerifyHomology as homology
 use Rattle.loop_commands.specs.Loops.{free_answer, loops_line}
 use Rattle.open_commands.specs.OpenInput.{open_line}
-use Rattle.open_commands.specs.OpenPairs.{limit_word}
+use Rattle.open_commands.specs.OpenPairs.{open_limit_word}
 use Rattle.pair_commands.specs.PairInput.{pairs_line}
 use Rattle.reduce_commands.specs.Reduce.{degree_line, range_line}
 use Rattle.verify_commands.specs.Verify as verify
@@ -77,8 +77,8 @@ open_refusals :
     × (open_line (open_faults.Pinched (named 4)) ≡ written (codes "refused: vertex 4 pinched"))
     × (open_line (open_faults.Apart (named 0) (named 5)) ≡ written (codes "refused: vertices 0 5 apart"))
     × (open_line open_faults.OutOfMemory ≡ NoText)
-    × (sides_line limit_word tetrahedron ≡ as_line (codes "refused: open sides 12"))
-    × (darts_line limit_word (0 ∷ 1 ∷ 2 ∷ []) (0 ∷ 2 ∷ []) ≡ as_line (codes "refused: open darts 3"))
+    × (sides_line open_limit_word tetrahedron ≡ as_line (codes "refused: open sides 12"))
+    × (darts_line open_limit_word (0 ∷ 1 ∷ 2 ∷ []) (0 ∷ 2 ∷ []) ≡ as_line (codes "refused: open darts 3"))
 unfolding digits
 open_refusals = (refl, refl, refl, refl, refl, refl, refl, refl)
 
@@ -130,11 +130,11 @@ unfolding digits
 verdicts_on_denials = (refl, refl, refl, refl, refl, refl, refl)
 
 verdicts_on_homology :
-    (homology.verdict_answer homologies.Accepted ≡ answers Yes (codes "accepted"))
-    × (homology.verdict_answer (homologies.Face (face 4)) ≡ answers No (codes "rejected: face 4"))
-    × (homology.verdict_answer (homologies.Edge (named 0) (named 1)) ≡ answers No (codes "rejected: edge 0 1"))
-    × (homology.verdict_answer (homologies.Sum (face 7)) ≡ answers No (codes "rejected: face 7"))
-    × (homology.verdict_answer homologies.Zero ≡ answers No (codes "rejected: zero"))
+    (homology.homology_verdict_answer homologies.Accepted ≡ answers Yes (codes "accepted"))
+    × (homology.homology_verdict_answer (homologies.Face (face 4)) ≡ answers No (codes "rejected: face 4"))
+    × (homology.homology_verdict_answer (homologies.Edge (named 0) (named 1)) ≡ answers No (codes "rejected: edge 0 1"))
+    × (homology.homology_verdict_answer (homologies.Sum (face 7)) ≡ answers No (codes "rejected: face 7"))
+    × (homology.homology_verdict_answer homologies.Zero ≡ answers No (codes "rejected: zero"))
 unfolding digits
 verdicts_on_homology = (refl, refl, refl, refl, refl)
 

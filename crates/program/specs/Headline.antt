@@ -22,7 +22,7 @@ use Rattle.walk_files.specs.MoveTexts.{list_text}
 use Rattle.walk_files.specs.PairLists.{WalkPair}
 use Rattle.surf_model.specs.declared.decisions.Answer.TheVariants.{Homotopic, Different}
 use Rattle.certify_commands.specs.Certify.{IsCertifyInput, IsWithinLimits}
-use Rattle.pair_commands.specs.Decide.{AreDecided, IsDecideInput, IsHomotopic}
+use Rattle.pair_commands.specs.Decide.{TellsDecisions, IsDecideInput, IsHomotopic}
 use Rattle.commands.specs.Certificates.{decision_line}
 use Rattle.commands.specs.declared.status.Status.{Status}
 use Rattle.commands.specs.declared.status.Status.TheVariants.{Yes, No}
@@ -48,7 +48,7 @@ pub record PrintsDenial (mesh : FaceList) (first second : List ℕ) (status : St
 
 pub record Headline (held : Option Files) (words : List (List ℕ)) (status : Status) (text : List ℕ) : Type 0 where
   -- a line for each pair, `homotopic` exactly where some list of moves leads; and status 0 exactly where that holds of all
-  pub decided : (mesh : FaceList) (pairs : List WalkPair) → IsDecideInput held words mesh pairs → AreDecided mesh pairs status text
+  pub decided : (mesh : FaceList) (pairs : List WalkPair) → IsDecideInput held words mesh pairs → TellsDecisions mesh pairs status text
   pub all_homotopic : (mesh : FaceList) (pairs : List WalkPair) → IsDecideInput held words mesh pairs
       → (status ≡ Yes) ↔ All (IsHomotopic mesh) pairs
   pub certified : (mesh : FaceList) (first second : List ℕ) → IsCertifyInput held words mesh first second → IsWithinLimits mesh first second

@@ -13,10 +13,10 @@ use Rattle.commands.specs.declared.status.Status.{Status}
 use Rattle.commands.specs.declared.status.Status.TheVariants.{Refused}
 use Rattle.pair_commands.specs.Decide.{IsDecideInput}
 use Rattle.homology_commands.specs.Homology.{IsHomologyInput}
-use Rattle.homology_commands.specs.PrintedHomology.{IsVerifyOfText as IsHomologyVerifyOfText}
+use Rattle.homology_commands.specs.PrintedHomology.{IsHomologyVerifyOfText}
 use Rattle.verify_homology_commands.specs.VerifyHomology.{IsInput as IsHomologyVerifyInput}
 use Rattle.loop_commands.specs.Loops.{IsLoopsInput}
-use Rattle.open_commands.specs.OpenPairs.{IsOpenInput, IsWithinLimits as IsWithinOpenLimits}
+use Rattle.open_commands.specs.OpenPairs.{IsOpenInput, IsWithinOpenLimits}
 use Rattle.reduce_commands.specs.Reduce.{IsReduceInput}
 use Rattle.verify_commands.specs.Verify.{IsVerifyInput}
 use Rattle.program.specs.Commands.{IsRow, Surface, Decide, Certify, Loops, DecideOpen, CertifyOpen, Homology, Verify, VerifyHomology, Reduce}

@@ -6,7 +6,7 @@ ghost use Rattle.surf_model.specs.FaceLists.{FaceList};
 ghost use Rattle.off_reader.specs.OffTexts.{meaning_of};
 ghost use Rattle.surf_gen.specs.Chains.{chain_mesh};
 ghost use Rattle.surf_gen.specs.ChainTexts.{chain_text};
-ghost use Rattle.surf_gen.specs.Sizes.{IsChain};
+ghost use Rattle.surf_gen.specs.Sizes.{IsChainSize};
 ghost use Rattle.certify_commands.specs.Certify.{IsCertified, IsCertifyInput, IsWithinLimits, IsCertificatePrinted};
 ghost use Rattle.pair_commands.specs.Decide.{IsDecided};
 ghost use Rattle.program.specs.Headline.{Headline};
@@ -22,11 +22,11 @@ ghost use Rattle.surface_commands.specs.Surface.{IsMeasured};
 ghost use Rattle.trial_commands.specs.Trial.{IsTried};
 ghost use Rattle.open_commands.specs.CertifyOpen.{IsCertifiedOpen, IsListPrinted};
 ghost use Rattle.open_commands.specs.DecideOpen.{IsDecidedOpen};
-ghost use Rattle.open_commands.specs.OpenPairs.{IsOpenInput, IsWithinLimits as IsWithinOpenLimits};
+ghost use Rattle.open_commands.specs.OpenPairs.{IsOpenInput, IsWithinOpenLimits};
 ghost use Rattle.verify_commands.specs.Verify.{IsVerified, IsDenialVerified};
 ghost use Rattle.verify_homology_commands.specs.VerifyHomology.{IsHomologyVerified};
 ghost use Rattle.homology_commands.specs.Homology.{IsHomologyAnswered, IsHomologyPrinted};
-ghost use Rattle.homology_commands.specs.PrintedHomology.{IsVerifyOfText as IsHomologyVerifyOfText};
+ghost use Rattle.homology_commands.specs.PrintedHomology.{IsHomologyVerifyOfText};
 ghost use Rattle.loop_commands.specs.Loops.{IsLoopsAnswered};
 ghost use Rattle.commands.specs.declared.certificate.Certificate.{Certificate};
 ghost use Rattle.commands.specs.declared.inputs.TheConstants.{MOST_BYTES};
@@ -102,7 +102,7 @@ pub fn trial_answers()
 
 /// The text of a chain of tori is read as the chain.
 pub fn chain_texts_are_read()
-    ensures { (genus grid : ℕ) → IsChain genus grid → meaning_of (chain_text genus grid) ≡ Ok (chain_mesh genus grid) }
+    ensures { (genus grid : ℕ) → IsChainSize genus grid → meaning_of (chain_text genus grid) ≡ Ok (chain_mesh genus grid) }
 {}
 
 /// No words are without an outcome, whatever the files hold.

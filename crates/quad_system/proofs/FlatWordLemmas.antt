@@ -1,7 +1,7 @@
 -- Walks on a torus: with four sides, walks with common ends are homotopic exactly where their quad paths lead the flat form to one
 -- point. From one point to moves: a walk is the product of its spokes, and that product depends on the point alone.
 use Rattle.quad_system.proofs.Common.{spokes_of, sum_of_pairs, origin, OrientedMesh, IsOrientedSurface, rotations_of, PutLaws, flat_wheel_of_good, quad_path_below, quad_path_in_pairs, quad_path_leads_to_sum, IsGood, LabellingView, quad_path, IsGroup, quotient, IsWay, SameLoop, loop_mul, loop_inv, loop_one, loop_of, from_loops, spoke_product, Loops, spoke, group_of, up, tree_ways, walk_way, other_way, PolygonView, IsCutFrom, place_of, across, labelling_from, ◌≡◌, ◌↔◌, inl, inr, ℕ, suc, ◌<◌, true, List, [], ◌∷◌, length, ap, sym, ◌∙◌, subst, arith, cases_eq, All, slice_index, Homotopic, IsWalk, HaveCommonEnds, SplitView, IsSplit, led, add-cases, add-lt, add, minus}
-use Rattle.flat_forms.specs.FlatStates.{IsEven, IsFlatWheel, flat_next}
+use Rattle.flat_forms.specs.FlatStates.{IsEvenPoint, IsFlatWheel, flat_next}
 use Rattle.flat_forms.specs.Lemmas.FlatLaws.{flat_starts, flat_stays, flat_there_and_back, flat_across}
 use Rattle.labellings.proofs.KeepingLemmas.{moves_keep}
 use Rattle.labellings.specs.WalkWords.{in_pairs}
@@ -210,13 +210,13 @@ one_sum s split polygon (u ∷ rest) [] o t c four w z ends = grind arith
 one_sum s split polygon (u ∷ rest) (v ∷ others) o t c four w z ends = (
   (λ homotopic.
       let good : IsGood s.mesh (labelling_from s polygon) = polygon_good s split polygon o t c (omega arith) in
-      let laws : PutLaws polygon.places flat_next (λ _. IsFlatWheel polygon.places) IsEven = record {
+      let laws : PutLaws polygon.places flat_next (λ _. IsFlatWheel polygon.places) IsEvenPoint = record {
         stays = λ x i b l. flat_stays.belongs polygon.places x i b l;
         vertex = λ x i j b e l m. flat_stays.at_vertex polygon.places x i j b e l m;
         back = λ x i b l. flat_there_and_back polygon.places x i b l;
         quad = λ x a d b e q. flat_across polygon.places x a d b e q;
       } in
-      moves_keep s.mesh (labelling_from s polygon) flat_next (λ _. IsFlatWheel polygon.places) IsEven laws o.faces good
+      moves_keep s.mesh (labelling_from s polygon) flat_next (λ _. IsFlatWheel polygon.places) IsEvenPoint laws o.faces good
       homotopic.0 (u ∷ rest) (v ∷ others) w homotopic.1 origin
       (flat_wheel_of_good s.mesh (labelling_from s polygon) good four, flat_starts.at_vertex)),
   (λ same.

@@ -1,7 +1,7 @@
 -- On the torus of seven vertices the labelling of the square is full, and one with a label on two sides is not. Each test is computed.
 use Rattle.quad_system.proofs.Common.{MeetsLeftoverRule, LabellingView, tail_label, head_label, HasOneSide, IsFull, IsLeftoverSide, ◌≡◌, ◌⊎◌, ℕ, zero, suc, ◌<◌, Bool, true, false, [], ◌∷◌, refl, ap, sym, ◌∙◌, subst, arith, lit<, eqb-true, eq-eqb, false≢true, nat_tests, All-contains, list_all, ◌==◌, if◌then◌else◌, slice_index, IsSide, tail_of, head_of, FaceSide, all_sides, joins, Side, add, minus}
 use Rattle.labellings.specs.Examples.{square}
-use Rattle.quad_system.specs.Examples.{side, doubled}
+use Rattle.quad_system.specs.Examples.{side, square_relabelled}
 use Rattle.std.proofs.lemmas.List.Sums.{AllPass-from_list_all}
 use Rattle.std.specs.Prelude.{◌&&◌}
 use Rattle.surf_model.proofs.TableLemmas.{face_side_in}
@@ -141,19 +141,21 @@ full label less =
     }
 
 -- The sides of the faces 8 and 10 have the same label.
-pub not_full : IsFull torus doubled → ⊥
+pub not_full : IsFull torus square_relabelled → ⊥
 unfolding add minus
 not_full full =
-    let one : HasOneSide torus doubled 0 = full 0 (lit< tt) in
+    let one : HasOneSide torus square_relabelled 0 = full 0 (lit< tt) in
     let first : side 8 0 ≡ one.side =
     one.alone (side 8 0) (record { face = lit< tt; place = lit< tt })
-    (leftover_with doubled (side 8 0) (side 1 2) (record { face = lit< tt; place = lit< tt }) (record { face = lit< tt; place = lit< tt })
+    (leftover_with square_relabelled (side 8 0) (side 1 2) (record { face = lit< tt; place = lit< tt })
+    (record { face = lit< tt; place = lit< tt })
     refl refl refl
     (record { rises = refl; rises_too = refl; quad = record { a_below = lit< tt; c_below = lit< tt; a_place = refl; c_place = refl } }))
     refl in
     let second : side 10 0 ≡ one.side =
     one.alone (side 10 0) (record { face = lit< tt; place = lit< tt })
-    (leftover_with doubled (side 10 0) (side 3 2) (record { face = lit< tt; place = lit< tt }) (record { face = lit< tt; place = lit< tt })
+    (leftover_with square_relabelled (side 10 0) (side 3 2) (record { face = lit< tt; place = lit< tt })
+    (record { face = lit< tt; place = lit< tt })
     refl refl refl
     (record { rises = refl; rises_too = refl; quad = record { a_below = lit< tt; c_below = lit< tt; a_place = refl; c_place = refl } }))
     refl in

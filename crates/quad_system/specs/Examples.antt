@@ -12,8 +12,8 @@ side f t = record { face = record { 0 = f }; at = t }
 
 -- The square with other labels in the face 3 4 6. Now the edge of 3 and 6 meets the leftover rule too, as that of 1 and 4 does: each has
 -- a side with the label 0 at its tail, and one with 2.
-abbrev pub doubled : LabellingView
-doubled = record {
+abbrev pub square_relabelled : LabellingView
+square_relabelled = record {
   degree = 4;
   faces =
       kept (0 ∷ 0 ∷ 0 ∷ []) ∷

@@ -3,13 +3,13 @@ use Rattle.renaming.proofs.Common.{IsRenamed, renamed_move, ◌≡◌, ◌↔◌
 use Rattle.surf_model.proofs.ContextLemmas.{first_answer, stays_walk}
 use Rattle.surf_model.proofs.ReplacementLemmas.{by_replacing}
 use Rattle.surf_model.specs.Moves.{apply, apply_all, Leads, Homotopic, greatest_darts}
-use Rattle.surf_model.specs.Replacements.{Replaces, place_of}
+use Rattle.surf_model.specs.Replacements.{Replaces, place_of_move}
 use Rattle.surf_model.specs.declared.moves.Move.{Move}
 use Rattle.surf_model.specs.declared.moves.Move.TheVariants.{Insert, Remove, Across}
 use Rattle.renaming.proofs.RenamedSides.{length_renamed, size_renamed, corner_renamed, edge_renamed, led_back}
 use Rattle.renaming.proofs.RenamedWalks.{darts_renamed, restored}
 
-place_renamed : (there : ℕ → ℕ) (move : Move) → place_of (renamed_move there move) ≡ place_of move
+place_renamed : (there : ℕ → ℕ) (move : Move) → place_of_move (renamed_move there move) ≡ place_of_move move
 place_renamed there (Insert at via) = refl
 place_renamed there (Remove at via) = refl
 place_renamed there (Across at face corner forward taken) = refl

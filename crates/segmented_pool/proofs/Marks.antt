@@ -1,5 +1,5 @@
 -- Marks of segments, and what an edit of one segment is of the whole list.
-use Rattle.segmented_pool.proofs.Common.{inserted, cut, part, IsMark, IsIn, Mark, ◌≡◌, ℕ, zero, suc, ◌+◌, ◌-◌, ◌<◌, ◌≤◌, List, [], ◌∷◌, ◌++◌, length, take, drop, set, get_or, sym, ap, ◌∙◌, arith, add-one, length-append, common_steps, concat}
+use Rattle.segmented_pool.proofs.Common.{inserted, cut, part, IsMark, IsInSegment, Mark, ◌≡◌, ℕ, zero, suc, ◌+◌, ◌-◌, ◌<◌, ◌≤◌, List, [], ◌∷◌, ◌++◌, length, take, drop, set, get_or, sym, ap, ◌∙◌, arith, add-one, length-append, common_steps, concat}
 use Rattle.segmented_pool.proofs.Joined.{concat_at, concat_set}
 use Rattle.segmented_pool.proofs.Lists.{inserted_within, cut_within, entry_within, part_within}
 
@@ -116,5 +116,5 @@ neighbours (p ∷ q ∷ ps) (suc k) (suc j) e lt =
     omega (arith, length-append p (q ++ concat ps), neighbours (q ∷ ps) k j (omega arith) (omega arith))
 
 pub found_last : (ps : List (List ℕ)) (mark : Mark) (place : ℕ) → IsMark ps mark → mark.start ≤ place → place ≤ length (concat ps)
-    → length ps ≤ mark.index + 1 → IsIn ps mark place
+    → length ps ≤ mark.index + 1 → IsInSegment ps mark place
 found_last ps mark place is from within last = grind (arith, end_of_last)

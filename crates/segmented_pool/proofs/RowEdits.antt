@@ -1,5 +1,5 @@
 -- What edits of a pool do to a row of its chains.
-use Rattle.segmented_pool.proofs.Common.{list_under-is, under, IsUnder, list_under, spliced, lists_of, part, IsSegment, IsApart, AreSegments, Segment, ◌≡◌, ◌≢◌, ℕ, zero, suc, ◌+◌, ◌<◌, ◌≤◌, List, [], ◌∷◌, ◌++◌, length, take, drop, set, get_or, Option, Some, None, refl, sym, ap, subst, ◌∙◌, arith, length-map, length-take-le, length-drop, insert, remove}
+use Rattle.segmented_pool.proofs.Common.{list_under-is, under, IsUnder, list_under, spliced, lists_of, part, IsSegment, IsNameApart, AreSegments, Segment, ◌≡◌, ◌≢◌, ℕ, zero, suc, ◌+◌, ◌<◌, ◌≤◌, List, [], ◌∷◌, ◌++◌, length, take, drop, set, get_or, Option, Some, None, refl, sym, ap, subst, ◌∙◌, arith, length-map, length-take-le, length-drop, insert, remove}
 use Rattle.std.proofs.Math.ListN.{length-append}
 use Rattle.segmented_pool.proofs.Lists.{spliced_last}
 use Rattle.segmented_pool.proofs.Moved.{live_from}
@@ -60,7 +60,7 @@ module _ (lists : List (Option (List ℕ))) (ss : List Segment) (parts : List (L
         → ((other : ℕ) → other ≢ s.chain.0 → other ≢ t.chain.0 → under new other ≡ under lists other)
         → AreSegments new (insert (set ss k (record { chain = s.chain; len = place })) (suc k) t) (split_at parts k place)
     parted new place t within was kept taken counted others =
-        let apart : IsApart t.chain.0 ss = apart_from_fresh lists ss parts t.chain.0 seen was in
+        let apart : IsNameApart t.chain.0 ss = apart_from_fresh lists ss parts t.chain.0 seen was in
         let differ : t.chain.0 ≢ s.chain.0 =
         λ e. let both = sym was ∙ ap (λ (n : ℕ). under lists n) e ∙ here.has in cc in
         row_insert new (set ss k (record { chain = s.chain; len = place })) (set parts k (take place (part parts k))) (suc k) t
@@ -76,9 +76,9 @@ module _ (lists : List (Option (List ℕ))) (ss : List Segment) (parts : List (L
       abbrev rest : List Segment
       rest = remove ss (suc k)
 
-      apart : IsApart t.chain.0 rest
+      apart : IsNameApart t.chain.0 rest
       apart =
-          subst (λ (x : Segment). IsApart x.chain.0 rest) (sym at2)
+          subst (λ (x : Segment). IsNameApart x.chain.0 rest) (sym at2)
           (removed_apart lists ss parts (suc k) t seen (omega (arith, count)))
 
       stays_before : s ≡ get_or rest k s

@@ -1,5 +1,5 @@
 -- Rows of chains, where a chain changes, comes or goes.
-use Rattle.segmented_pool.proofs.Common.{under, list_under, lists_of, IsSegment, IsApart, AreSegments, Segment, ◌≡◌, ◌≢◌, ℕ, zero, suc, ◌<◌, List, [], ◌∷◌, length, set, get_or, Option, None, refl, sym, ap, subst, ◌∙◌, arith, insert, remove}
+use Rattle.segmented_pool.proofs.Common.{under, list_under, lists_of, IsSegment, IsNameApart, AreSegments, Segment, ◌≡◌, ◌≢◌, ℕ, zero, suc, ◌<◌, List, [], ◌∷◌, length, set, get_or, Option, None, refl, sym, ap, subst, ◌∙◌, arith, insert, remove}
 use Rattle.chain_pool.specs.declared.cells.CellName.{CellName}
 
 -- each of these segments but that of one name has the list that it had
@@ -12,13 +12,13 @@ module _ (old new : List (Option (List ℕ))) (name : ℕ) where
   kept_by_one [] same = tt
   kept_by_one (s ∷ ss) same = (same s.chain.0, kept_by_one ss same)
 
-  pub kept_by_two : (name' : ℕ) (ss : List Segment) → IsApart name' ss
+  pub kept_by_two : (name' : ℕ) (ss : List Segment) → IsNameApart name' ss
       → ((other : ℕ) → other ≢ name → other ≢ name' → under new other ≡ under old other) → AreKept old new name ss
   kept_by_two name' [] apart same = tt
   kept_by_two name' (s ∷ ss) apart same =
       (λ ne. same s.chain.0 ne (λ e. apart.0 (sym e)), kept_by_two name' ss apart.1 same)
 
-  stays : (ss : List Segment) (ps : List (List ℕ)) → IsApart name ss → AreKept old new name ss → AreSegments old ss ps
+  stays : (ss : List Segment) (ps : List (List ℕ)) → IsNameApart name ss → AreKept old new name ss → AreSegments old ss ps
       → AreSegments new ss ps
   stays [] [] apart kept row = tt
   stays [] (p ∷ ps) apart kept row = row
@@ -26,23 +26,25 @@ module _ (old new : List (Option (List ℕ))) (name : ℕ) where
   stays (s ∷ ss) (p ∷ ps) apart kept row =
       (record { has = kept.0 (λ e. apart.0 (sym e)) ∙ row.0.has; counted = row.0.counted }, row.1, stays ss ps apart.1 kept.1 row.2)
 
-pub apart_at : (name : ℕ) (ss : List Segment) (k : ℕ) (d : Segment) → IsApart name ss → k < length ss → name ≢ (get_or ss k d).chain.0
+pub apart_at : (name : ℕ) (ss : List Segment) (k : ℕ) (d : Segment) → IsNameApart name ss → k < length ss → name ≢ (get_or ss k d).chain.0
 apart_at name [] k d apart lt = absurd (omega arith)
 apart_at name (s ∷ ss) zero d apart lt = apart.0
 apart_at name (s ∷ ss) (suc k) d apart lt = apart_at name ss k d apart.1 (omega arith)
 
-pub apart_set : (name : ℕ) (ss : List Segment) (k : ℕ) (s' : Segment) → IsApart name ss → name ≢ s'.chain.0 → IsApart name (set ss k s')
+pub apart_set : (name : ℕ) (ss : List Segment) (k : ℕ) (s' : Segment) → IsNameApart name ss → name ≢ s'.chain.0
+    → IsNameApart name (set ss k s')
 apart_set name [] k s' apart ne = tt
 apart_set name (s ∷ ss) zero s' apart ne = (ne, apart.1)
 apart_set name (s ∷ ss) (suc k) s' apart ne = (apart.0, apart_set name ss k s' apart.1 ne)
 
-apart_insert : (name : ℕ) (ss : List Segment) (k : ℕ) (s' : Segment) → IsApart name ss → name ≢ s'.chain.0 → IsApart name (insert ss k s')
+apart_insert : (name : ℕ) (ss : List Segment) (k : ℕ) (s' : Segment) → IsNameApart name ss → name ≢ s'.chain.0
+    → IsNameApart name (insert ss k s')
 apart_insert name [] zero s' apart ne = (ne, tt)
 apart_insert name [] (suc k) s' apart ne = (ne, tt)
 apart_insert name (s ∷ ss) zero s' apart ne = (ne, apart)
 apart_insert name (s ∷ ss) (suc k) s' apart ne = (apart.0, apart_insert name ss k s' apart.1 ne)
 
-apart_remove : (name : ℕ) (ss : List Segment) (k : ℕ) → IsApart name ss → IsApart name (remove ss k)
+apart_remove : (name : ℕ) (ss : List Segment) (k : ℕ) → IsNameApart name ss → IsNameApart name (remove ss k)
 apart_remove name [] zero apart = tt
 apart_remove name [] (suc k) apart = tt
 apart_remove name (s ∷ ss) zero apart = apart.1
@@ -66,7 +68,7 @@ segment_at lists (s ∷ ss) (p ∷ ps) (suc k) d row lt = segment_at lists ss ps
 
 -- a name that no chain has is none of a segment
 pub apart_from_fresh : (lists : List (Option (List ℕ))) (ss : List Segment) (ps : List (List ℕ)) (name : ℕ) → AreSegments lists ss ps
-    → under lists name ≡ None → IsApart name ss
+    → under lists name ≡ None → IsNameApart name ss
 apart_from_fresh lists [] ps name row none = tt
 apart_from_fresh lists (s ∷ ss) [] name row none = absurd row
 apart_from_fresh lists (s ∷ ss) (p ∷ ps) name row none =
@@ -79,7 +81,7 @@ pub row_set : (old new : List (Option (List ℕ))) (ss : List Segment) (ps : Lis
 row_set old new [] ps k d s' l row lt e is kept = absurd (omega arith)
 row_set old new (s ∷ ss) [] k d s' l row lt e is kept = absurd row
 row_set old new (s ∷ ss) (p ∷ ps) zero d s' l row lt e is kept =
-    let apart : IsApart s'.chain.0 ss = subst (λ (n : ℕ). IsApart n ss) (sym (ap (λ (c : CellName). c.0) e)) row.1 in
+    let apart : IsNameApart s'.chain.0 ss = subst (λ (n : ℕ). IsNameApart n ss) (sym (ap (λ (c : CellName). c.0) e)) row.1 in
     (is, apart, stays old new s'.chain.0 ss ps apart kept.1 row.2)
 row_set old new (s ∷ ss) (p ∷ ps) (suc k) d s' l row lt e is kept =
     let other : s.chain.0 ≢ s'.chain.0 = λ same. apart_at s.chain.0 ss k d row.1 (omega arith) (same ∙ ap (λ (c : CellName). c.0) e) in (
@@ -90,7 +92,7 @@ row_set old new (s ∷ ss) (p ∷ ps) (suc k) d s' l row lt e is kept =
 
 -- a segment comes
 pub row_insert : (lists : List (Option (List ℕ))) (ss : List Segment) (ps : List (List ℕ)) (k : ℕ) (s' : Segment) (l : List ℕ)
-    → AreSegments lists ss ps → IsSegment lists s' l → IsApart s'.chain.0 ss → AreSegments lists (insert ss k s') (insert ps k l)
+    → AreSegments lists ss ps → IsSegment lists s' l → IsNameApart s'.chain.0 ss → AreSegments lists (insert ss k s') (insert ps k l)
 row_insert lists [] [] zero s' l row is apart = (is, tt, tt)
 row_insert lists [] [] (suc k) s' l row is apart = (is, tt, tt)
 row_insert lists [] (p ∷ ps) k s' l row is apart = absurd row
@@ -111,7 +113,7 @@ row_remove lists (s ∷ ss) (p ∷ ps) (suc k) row = (row.0, apart_remove s.chai
 
 pub removed_apart : (lists : List (Option (List ℕ))) (ss : List Segment) (ps : List (List ℕ)) (k : ℕ) (d : Segment)
     → AreSegments lists ss ps
-    → k < length ss → IsApart (get_or ss k d).chain.0 (remove ss k)
+    → k < length ss → IsNameApart (get_or ss k d).chain.0 (remove ss k)
 removed_apart lists [] ps k d row lt = absurd (omega arith)
 removed_apart lists (s ∷ ss) [] k d row lt = absurd row
 removed_apart lists (s ∷ ss) (p ∷ ps) zero d row lt = row.1

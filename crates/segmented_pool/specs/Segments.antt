@@ -24,9 +24,9 @@ pub record IsSegment (lists : List (Option (List ℕ))) (segment : Segment) (lis
   pub counted : segment.len ≡ length list
 
 -- the name is that of none of these segments
-abbrev pub IsApart : ℕ → List Segment → Type 0
-IsApart name [] = Unit {0}
-IsApart name (segment ∷ segments) = (name ≢ segment.chain.0) × IsApart name segments
+abbrev pub IsNameApart : ℕ → List Segment → Type 0
+IsNameApart name [] = Unit {0}
+IsNameApart name (segment ∷ segments) = (name ≢ segment.chain.0) × IsNameApart name segments
 
 -- the segments have these lists, and no two of them are one chain
 abbrev pub AreSegments : List (Option (List ℕ)) → List Segment → List (List ℕ) → Type 0
@@ -34,7 +34,7 @@ AreSegments lists [] [] = Unit {0}
 AreSegments lists [] (list ∷ rest) = ⊥
 AreSegments lists (segment ∷ segments) [] = ⊥
 AreSegments lists (segment ∷ segments) (list ∷ rest) =
-    IsSegment lists segment list × IsApart segment.chain.0 segments × AreSegments lists segments rest
+    IsSegment lists segment list × IsNameApart segment.chain.0 segments × AreSegments lists segments rest
 
 -- a segment, and the number of entries that lie before it
 pub record IsMark (parts : List (List ℕ)) (mark : Mark) : Type 0 where
@@ -42,13 +42,13 @@ pub record IsMark (parts : List (List ℕ)) (mark : Mark) : Type 0 where
   pub start : mark.start ≡ length (concat (take mark.index parts))
 
 -- the place is in the segment, or behind its last entry where that is the last one of all
-pub record IsIn (parts : List (List ℕ)) (mark : Mark) (place : ℕ) : Type 0 where
+pub record IsInSegment (parts : List (List ℕ)) (mark : Mark) (place : ℕ) : Type 0 where
   pub from : mark.start ≤ place
   pub to : place ≤ mark.start + length (part parts mark.index)
   pub below : place < length (concat parts) → place < mark.start + length (part parts mark.index)
 
 -- what holds of a chain in segments: a marked one of them, the number of entries, and the cells that entries may take
-pub record IsKept (row : Parts) (mark : Mark) (len spare : ℕ) : Type 0 where
+pub record IsKeptInSegments (row : Parts) (mark : Mark) (len spare : ℕ) : Type 0 where
   pub marked : IsMark row.parts mark
   pub counted : len ≡ length (concat row.parts)
   pub kept_back : spare ≤ row.spare

@@ -29,13 +29,13 @@ impl Model for Pool {
     ghost use Rattle.std.specs.Prelude.{[], ◌∷◌, Some};
     ghost use Rattle.std.specs.List.{concat};
     ghost use Rattle.chain_pool.specs.Chains.{Chains};
-    ghost use Rattle.segmented_pool.specs.Segments.{IsKept};
+    ghost use Rattle.segmented_pool.specs.Segments.{IsKeptInSegments};
 
     ghost Value = { Chains };
 
     ghost view = { λ a. record { lists = Some (concat a.segments.parts) ∷ []; spare = a.spare } };
 
-    ghost invariant = { λ a. IsKept a.segments a.mark a.len a.spare };
+    ghost invariant = { λ a. IsKeptInSegments a.segments a.mark a.len a.spare };
 }
 
 impl Pool {

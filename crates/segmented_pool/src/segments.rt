@@ -39,7 +39,7 @@ impl Model for Segments {
 }
 
 impl Segments {
-    ghost use Rattle.segmented_pool.specs.Segments.{part, IsMark, IsIn};
+    ghost use Rattle.segmented_pool.specs.Segments.{part, IsMark, IsInSegment};
 
     /// One segment with no entries, room for so many cells more, and for so many segments. The error is that there is no
     /// memory for them.
@@ -188,7 +188,7 @@ impl Segments {
         requires len { len ≡ length (concat self.now.parts) }
         requires place { place ≤ len }
         ensures mark { IsMark self.now.parts result }
-        ensures here { IsIn self.now.parts result place }
+        ensures here { IsInSegment self.now.parts result place }
     {
         if from.start <= place {
             if place - from.start < self.len(from.index) {
@@ -207,7 +207,7 @@ impl Segments {
         requires len { len ≡ length (concat self.now.parts) }
         requires place { place ≤ len }
         ensures mark { IsMark self.now.parts result }
-        ensures here { IsIn self.now.parts result place }
+        ensures here { IsInSegment self.now.parts result place }
     {
         let mut mark = self.nearest(from, len, place);
         while place < mark.start {

@@ -8,6 +8,6 @@ pub use Rattle.turn_words.specs.Lemmas.HyperLaws.{length-put}
 pub use Rattle.turn_words.specs.Lemmas.Lists.{InRange, reverse-next}
 pub use Rattle.turn_words.specs.Lemmas.PutLaws.{cases, close, flip, other, put-good, put-put, spur}
 pub use Rattle.turn_words.specs.Lemmas.Sums.{add-cases, add-lt, add-zero, minus-cases, minus-lt, minus-one, minus-two}
-pub use Rattle.turn_words.specs.Lemmas.WordEnds.{Follows, IsCons, IsGood, good-cons, good-head, good-tail, open-cases, open-other, open-two, put-close, put-else, put-flip}
+pub use Rattle.turn_words.specs.Lemmas.WordEnds.{Follows, IsCanonicalBackward, IsCons, good-cons, good-head, good-tail, open-cases, open-other, open-two, put-close, put-else, put-flip}
 pub use Rattle.turn_words.specs.Modulo.{add, minus}
 pub use Rattle.turn_words.specs.PutTurns.{Put, closed, is_open, put, put_last}

@@ -1,12 +1,12 @@
 -- A canonical row loses at most as many entries as the word had before: what the word before does to the row can be undone
 -- by as many entries.
-use Rattle.settling.proofs.Common.{entries, IsCanonicalRow, ◌≡◌, ℕ, ◌+◌, ◌<◌, ◌≤◌, inl, inr, arith, refl, sym, ◌∙◌, ap, zero, suc, List, [], ◌∷◌, ◌++◌, length, reverse, length-reverse, append-nil, read, IsSound, state, in-range-reverse, length-put, InRange, put-good, put-put, add-cases, minus-cases, add-lt, minus-lt, IsGood, good-cons, good-head, good-tail, add, minus, Put, put}
+use Rattle.settling.proofs.Common.{entries, IsCanonicalRow, ◌≡◌, ℕ, ◌+◌, ◌<◌, ◌≤◌, inl, inr, arith, refl, sym, ◌∙◌, ap, zero, suc, List, [], ◌∷◌, ◌++◌, length, reverse, length-reverse, append-nil, read, IsSound, state, in-range-reverse, length-put, InRange, put-good, put-put, add-cases, minus-cases, add-lt, minus-lt, IsCanonicalBackward, good-cons, good-head, good-tail, add, minus, Put, put}
 use Rattle.turn_words.proofs.Reaching.{read-append, read-good, read-reached, keeps-steps, start-sound}
 use Rattle.turn_words.specs.StepTable.{next_changed}
 use Rattle.settling.proofs.Rows.{along, upto, upto-cons, upto-length, reverse-upto}
 use Rattle.settling.proofs.Settling.{upto-shut, row-follows}
 
-good-in-range : (d : ℕ) (r : List ℕ) → IsGood d r → InRange d r
+good-in-range : (d : ℕ) (r : List ℕ) → IsCanonicalBackward d r → InRange d r
 good-in-range d [] g = tt
 good-in-range d (x ∷ r) g = (good-head d x r g, good-in-range d r (good-tail d x r g))
 
@@ -67,7 +67,7 @@ module _ (d : ℕ) (five : 5 ≤ d) where
 
   module _ (n : ℕ) (row : ℕ → ℕ) (canonical : IsCanonicalRow d n row) where
     -- a start direction and entries of a row behind it are canonical
-    pub row-good : (start m k : ℕ) → start < d → IsGood d (upto row m k (start ∷ []))
+    pub row-good : (start m k : ℕ) → start < d → IsCanonicalBackward d (upto row m k (start ∷ []))
     row-good start m zero below = below
     row-good start m (suc k) below =
         good-cons d (row (m + k)) (upto row m k (start ∷ [])) (upto-cons row m k (start ∷ []) tt) (canonical.below (m + k))

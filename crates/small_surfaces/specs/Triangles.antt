@@ -4,6 +4,6 @@ use Rattle.surf_model.specs.FaceLists.{IsFace}
 use Rattle.surf_model.specs.Surfaces.{IsSurface}
 
 -- each triangle is a face over so many vertices, and together they are a connected orientable closed surface
-pub record IsSurfaceOf (count : ℕ) (triangles : List (List ℕ)) : Type 0 where
+pub record IsTriangleSurface (count : ℕ) (triangles : List (List ℕ)) : Type 0 where
   pub faces : All (IsFace count) triangles
   pub surface : IsSurface (record { count = count; faces = triangles })

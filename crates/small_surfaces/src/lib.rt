@@ -12,7 +12,7 @@ mod walk;
 
 ghost use Rattle.std.specs.Prelude.{◌≡◌, ◌⊎◌, ◌*◌, ◌≤◌, length, IfOk, IfErr};
 ghost use Rattle.surf_model.specs.declared.limits.TheConstants.{MOST_SIDES, MOST_VERTICES};
-ghost use Rattle.small_surfaces.specs.Triangles.{IsSurfaceOf};
+ghost use Rattle.small_surfaces.specs.Triangles.{IsTriangleSurface};
 
 use halfedge_map::Surface;
 use manifold_check::{Parts, SurfaceFault, check_closed};
@@ -47,7 +47,7 @@ pub fn surface_of(alloc: Global, count: u32, triangles: &[Triangle]) -> Result<S
     requires few_vertices { count ≤ MOST_VERTICES }
     requires few_sides { 3 * length triangles.now ≤ MOST_SIDES }
     ensures surface { IfOk result (λ surface. surface.mesh ≡ record { count = count; faces = triangles.now }) }
-    ensures fault { IfErr result (λ fault. (fault ≡ NoSurface.OutOfMemory) ⊎ (IsSurfaceOf count triangles.now → ⊥)) }
+    ensures fault { IfErr result (λ fault. (fault ≡ NoSurface.OutOfMemory) ⊎ (IsTriangleSurface count triangles.now → ⊥)) }
 {
     let faces = match mesh_of(alloc, count, triangles) {
         Ok(faces) => faces,

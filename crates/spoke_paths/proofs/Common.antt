@@ -1,9 +1,9 @@
 -- What proofs of this crate cite of its definitions and of other crates, passed on from one place (by tools/imports). Declares nothing.
-pub use Rattle.flat_forms.specs.FlatStates.{IsEven, IsFlatWheel, flat_next, parity, size_of}
+pub use Rattle.flat_forms.specs.FlatStates.{IsEvenPoint, IsFlatWheel, flat_next, parity, size_of}
 pub use Rattle.flat_forms.specs.Vectors.{Vector, less, origin, plus, unit_step}
 pub use Rattle.spoke_paths.specs.PathSteps.{PathLeads, after_path_step, after_path_steps, from_spoke, is_quad, lower_way, quad_turned, spur_goes, two_become, upper_way}
 pub use Rattle.spoke_paths.specs.PathTurns.{EndsNothing, HasQuads, IsBracketClosed, IsShort, IsTurnedOver, LeadsOn, Opens, from_vertex, turn_of}
-pub use Rattle.spoke_paths.specs.ReducedWords.{HasNoBracket, IsReduced, closes}
+pub use Rattle.spoke_paths.specs.ReducedWords.{HasNoBracket, IsReducedWord, closes}
 pub use Rattle.spoke_paths.specs.declared.step.PathStep.{PathStep}
 pub use Rattle.spoke_paths.specs.declared.step.PathStep.TheVariants.{Spur, Turn}
 pub use Rattle.std.proofs.Common.{All, Bool, List, None, Option, Some, ap, ap₂, arith, drop, eqb, false, get_or, inl, inr, length, length-append, not, pos, refl, reverse, set, subst, suc, sym, take, true, zero, ℕ, ℤ, [], ◌++◌, ◌+ℤ◌, ◌+◌, ◌-ℤ◌, ◌-◌, ◌<◌, ◌∙◌, ◌∷◌, ◌≡◌, ◌≢◌, ◌≤◌, ◌⊎◌}
@@ -17,7 +17,7 @@ pub use Rattle.std.specs.Prelude.{if◌then◌else◌, nat_lt, option_and_then, 
 pub use Rattle.turn_words.proofs.Reading.{keeps-step, read, state}
 pub use Rattle.turn_words.proofs.Spokes.{canonical, turns}
 pub use Rattle.turn_words.specs.FormLaws.{AcrossQuads, IsQuad, StartsWell, StaysWell, ThereAndBack, led}
-pub use Rattle.turn_words.specs.HyperStates.{BelongsTo, IsHyperWheel, empty_state, hyper_next}
+pub use Rattle.turn_words.specs.HyperStates.{BelongsTo, IsEven, IsHyperWheel, empty_state, hyper_next}
 pub use Rattle.turn_words.specs.Lemmas.FromEnd.{all-from, in-range-from}
 pub use Rattle.turn_words.specs.Lemmas.Lists.{InRange}
 pub use Rattle.turn_words.specs.Lemmas.Sums.{add-cases, add-lt, add-minus, add-zero, add_assoc, add_comm, minus-cases, minus-lt, minus-one, minus-two, zero-add}

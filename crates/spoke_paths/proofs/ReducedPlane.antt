@@ -1,5 +1,5 @@
 -- A reduced path over the degree 4 goes on: along one of the four diagonals each of its steps leads one further.
-use Rattle.spoke_paths.proofs.Common.{parity, IsFlatWheel, flat_next, Vector, origin, plus, less, unit_step, closes, HasNoBracket, IsReduced, ◌≡◌, ◌≢◌, ℕ, ◌<◌, ◌⊎◌, arith, inl, inr, refl, sym, ◌∙◌, ap, subst, suc, eqb, Bool, true, false, not, List, [], ◌∷◌, All, length, get_or, ℤ, pos, ◌+ℤ◌, ◌-ℤ◌, eq-eqb, ne_eqb, common_steps, if◌then◌else◌, led, in-range-from, InRange, add-cases, minus-cases, add-lt, minus-lt, add, minus, place_round, turns_after, turn_word_of}
+use Rattle.spoke_paths.proofs.Common.{parity, IsFlatWheel, flat_next, Vector, origin, plus, less, unit_step, closes, HasNoBracket, IsReducedWord, ◌≡◌, ◌≢◌, ℕ, ◌<◌, ◌⊎◌, arith, inl, inr, refl, sym, ◌∙◌, ap, subst, suc, eqb, Bool, true, false, not, List, [], ◌∷◌, All, length, get_or, ℤ, pos, ◌+ℤ◌, ◌-ℤ◌, eq-eqb, ne_eqb, common_steps, if◌then◌else◌, led, in-range-from, InRange, add-cases, minus-cases, add-lt, minus-lt, add, minus, place_round, turns_after, turn_word_of}
 use Rattle.flat_forms.specs.Lemmas.StepsInThePlane.{is-unit, next-even, next-odd}
 use Rattle.std.proofs.lemmas.Int.{ints}
 
@@ -212,7 +212,7 @@ no-way-back : (a b c : ℤ) (n : ℕ) → a ≡ b +ℤ pos n → b ≡ c +ℤ po
 no-way-back a b c n e f g = absurd (omega (arith, ints))
 
 pub plane-empty : (places path : List ℕ) → IsFlatWheel places → All (λ spoke. spoke < length places) path
-    → IsReduced (length places) (turn_word_of places path)
+    → IsReducedWord (length places) (turn_word_of places path)
     → led flat_next places origin path ≡ origin → path ≡ []
 plane-empty places [] w below reduced e = refl
 plane-empty places (i ∷ path) w below reduced e =

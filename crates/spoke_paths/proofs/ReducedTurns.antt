@@ -1,5 +1,5 @@
 -- A reduced word whose entries are put one after another leaves a word with an entry.
-use Rattle.spoke_paths.proofs.Common.{closes, HasNoBracket, IsReduced, ◌≡◌, ◌≢◌, ℕ, ◌<◌, ◌≤◌, inl, inr, arith, refl, sym, ◌∙◌, ap, true, false, List, [], ◌∷◌, All, length, reverse, cases_eq, eq-eqb, ne_eqb, common_steps, reverse-reverse, read, state, turns, canonical, led, empty_state, hyper_next, IsHyperWheel, in-range-from, InRange, add-cases, minus-one, minus-two, add-zero, add, minus, turn_word_of}
+use Rattle.spoke_paths.proofs.Common.{closes, HasNoBracket, IsReducedWord, ◌≡◌, ◌≢◌, ℕ, ◌<◌, ◌≤◌, inl, inr, arith, refl, sym, ◌∙◌, ap, true, false, List, [], ◌∷◌, All, length, reverse, cases_eq, eq-eqb, ne_eqb, common_steps, reverse-reverse, read, state, turns, canonical, led, empty_state, hyper_next, IsHyperWheel, in-range-from, InRange, add-cases, minus-one, minus-two, add-zero, add, minus, turn_word_of}
 use Rattle.turn_words.proofs.Unique.{left, canonical-is-left}
 use Rattle.turn_words.specs.Lemmas.WordEnds.{IsCons, Follows, open-cases, put-flip, put-else}
 use Rattle.turn_words.specs.PutTurns.{Put, is_open, flipped, put}
@@ -83,7 +83,7 @@ not-cons [] c e = c
 not-cons (x ∷ u) c e = absurd cc
 
 -- a reduced word that leaves nothing is empty
-left-empty : (d : ℕ) → 5 ≤ d → (w : List ℕ) → InRange d w → IsReduced d w → left d w ≡ [] → w ≡ []
+left-empty : (d : ℕ) → 5 ≤ d → (w : List ℕ) → InRange d w → IsReducedWord d w → left d w ≡ [] → w ≡ []
 left-empty d five [] s h e = refl
 left-empty d five (first ∷ ts) s h e =
     let word = (read d (state [] 0) (first ∷ ts)).word in
@@ -95,7 +95,7 @@ no-spokes places [] e = refl
 no-spokes places (x ∷ path) e = absurd cc
 
 pub hyper-empty : (places path : List ℕ) → IsHyperWheel places → All (λ spoke. spoke < length places) path
-    → IsReduced (length places) (turn_word_of places path)
+    → IsReducedWord (length places) (turn_word_of places path)
     → (led hyper_next places empty_state path).word ≡ [] → path ≡ []
 hyper-empty places path own below reduced e =
     let d = length places in

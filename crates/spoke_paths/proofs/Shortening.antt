@@ -1,5 +1,5 @@
 -- What no spur and no bracket ends in, after a bracket was closed, and as a turn word.
-use Rattle.spoke_paths.proofs.Common.{from_vertex, turn_of, Opens, EndsNothing, IsShort, IsBracketClosed, closes, HasNoBracket, IsReduced, ◌≡◌, ◌≢◌, ℕ, ◌+◌, ◌-◌, ◌<◌, ◌≤◌, arith, inl, inr, refl, sym, ◌∙◌, ap, suc, Bool, true, false, not, List, [], ◌∷◌, ◌++◌, All, length, get_or, drop, cases_eq, cases_lt, eq-eqb, ne_eqb, length_push, get_or_append_left, drop_all, append-nil, get_or-remove_below, length-remove, remove, if◌then◌else◌, add-cases, minus-cases, add-lt, minus-lt, add, minus, place_round, turns_after, turn_word_of, IsWheel}
+use Rattle.spoke_paths.proofs.Common.{from_vertex, turn_of, Opens, EndsNothing, IsShort, IsBracketClosed, closes, HasNoBracket, IsReducedWord, ◌≡◌, ◌≢◌, ℕ, ◌+◌, ◌-◌, ◌<◌, ◌≤◌, arith, inl, inr, refl, sym, ◌∙◌, ap, suc, Bool, true, false, not, List, [], ◌∷◌, ◌++◌, All, length, get_or, drop, cases_eq, cases_lt, eq-eqb, ne_eqb, length_push, get_or_append_left, drop_all, append-nil, get_or-remove_below, length-remove, remove, if◌then◌else◌, add-cases, minus-cases, add-lt, minus-lt, add, minus, place_round, turns_after, turn_word_of, IsWheel}
 use Rattle.spoke_paths.proofs.Turning.{from-next}
 use Rattle.spoke_paths.proofs.Closing.{Signs, signs-of}
 
@@ -182,7 +182,7 @@ module _ (places path : List ℕ) where
         no-bracket (suc n) i rest short next,
       )
 
-pub reduced-from : (places path : List ℕ) → IsShort places path → IsReduced (length places) (turn_word_of places path)
+pub reduced-from : (places path : List ℕ) → IsShort places path → IsReducedWord (length places) (turn_word_of places path)
 reduced-from places [] short = tt
 reduced-from places (q ∷ rest) short =
     no-bracket places (q ∷ rest) 0 q rest short (record {

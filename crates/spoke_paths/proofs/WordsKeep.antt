@@ -3,7 +3,7 @@
 use Rattle.spoke_paths.proofs.Common.{upper_way, lower_way, ◌≡◌, ℕ, zero, suc, ◌<◌, ◌≤◌, Bool, true, false, not, eqb, List, [], ◌∷◌, ◌++◌, length, get_or, refl, ap, ap₂, sym, ◌∙◌, subst, arith, Option, Some, All, eqb-true, ltb-true, cond_some, nat_lt, state, keeps-step, turns, IsQuad, IsHyperWheel, in-range-from, InRange, add-lt, minus-lt, add-zero, add_comm, add_assoc, zero-add, add-minus, add, minus, place_round, turns_after, turn_word_of}
 use Rattle.surf_model.proofs.ContextLemmas.{first_answer}
 use Rattle.turn_words.proofs.Reaching.{start-sound}
-use Rattle.turn_words.specs.StepTable.{next_changed, spur_in, spur_out, pushed, from_place, after_step, after_steps, Reaches}
+use Rattle.turn_words.specs.StepTable.{next_changed, spur_in, spur_out, pushed, from_place, after_step, after_word_steps, Reaches}
 use Rattle.turn_words.specs.declared.step.Step.{Step}
 use Rattle.turn_words.specs.declared.step.Step.TheVariants.{SpurIn, SpurOut, Push}
 use Rattle.spoke_paths.proofs.StepsKeep.{KeepsSteps, ways-same, mapped-is}
@@ -265,10 +265,10 @@ module _ (places : List ℕ) (spoke_at partner : ℕ → ℕ) (q : IsQuadWheel (
 
     -- the spokes of a word and those of one that it reaches are the same
     word_keeps : 5 ≤ length places → (steps : List Step) (w u : List ℕ) → InRange (length places) w
-        → after_steps (length places) steps w ≡ Some u → Same true (path true 0 w) (path true 0 u)
+        → after_word_steps (length places) steps w ≡ Some u → Same true (path true 0 w) (path true 0 u)
     word_keeps five [] w u h e = grind arith
     word_keeps five (step ∷ steps) w u h e =
-        let told = first_answer (after_steps (length places) steps) (after_step (length places) step w) u e in
+        let told = first_answer (after_word_steps (length places) steps) (after_step (length places) step w) u e in
         let kept = keeps-step (length places) five step (state [] 0) w told.0 (start-sound (length places) five) h told.1 in
         keeps.on true _ _ _ (step_keeps step w told.0 h told.1) (word_keeps five steps told.0 u kept.0 told.2)
 

@@ -16,5 +16,5 @@ HasNoBracket degree (turn ∷ turns) =
     × (turn ≡ minus degree 1 → closes (minus degree 1) (minus degree 2) turns ≡ false) × HasNoBracket degree turns
 
 -- a reduced word: the start direction is no turn
-abbrev pub IsReduced : ℕ → List ℕ → Type 0
-IsReduced degree word = HasNoBracket degree (turns_of word)
+abbrev pub IsReducedWord : ℕ → List ℕ → Type 0
+IsReducedWord degree word = HasNoBracket degree (turns_of word)

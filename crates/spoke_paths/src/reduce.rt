@@ -6,7 +6,7 @@ ghost use Rattle.turn_words.specs.Wheels.{IsWheel};
 ghost use Rattle.turn_words.specs.SpokePaths.{turn_word_of};
 ghost use Rattle.spoke_paths.specs.PathSteps.{PathLeads};
 ghost use Rattle.spoke_paths.specs.PathTurns.{turn_of, Opens, EndsNothing, IsShort, HasQuads, IsBracketClosed, LeadsOn};
-ghost use Rattle.spoke_paths.specs.ReducedWords.{IsReduced};
+ghost use Rattle.spoke_paths.specs.ReducedWords.{IsReducedWord};
 
 use crate::step::PathStep;
 use crate::turn::{opening, turn_at, turn_over};
@@ -24,7 +24,7 @@ pub fn reduce_spokes(
     requires below { All (λ spoke. spoke < length wheel.now) spokes.now }
     requires short { length spokes.now < 2 ^ 32 }
     ensures { IfOk result (λ steps. (end : List ℕ) × PathLeads wheel.now spokes.now steps.items end
-        × IsReduced (length wheel.now) (turn_word_of wheel.now end)) }
+        × IsReducedWord (length wheel.now) (turn_word_of wheel.now end)) }
 {
     let mut steps = Vec::new(alloc);
     let mut front = Vec::new(alloc);

@@ -4,7 +4,7 @@ pub use Rattle.spoke_paths.proofs.Ways.{down-one, less-one, more-one, turn-down,
 pub use Rattle.spoke_paths.specs.PathSteps.{from_spoke, is_quad, spur_goes}
 pub use Rattle.spoke_rings.specs.CyclicWords.{IsCyclicallyCanonical, IsFullWheel, IsLoop, cyclic_turn, spoke_along, stands_before, turn_along}
 pub use Rattle.spoke_rings.specs.LoopSteps.{LoopLeads, LoopStep, across, across_quad, after_loop_step, after_loop_steps, rotate, spur_comes, spur_in, spur_out}
-pub use Rattle.spoke_rings.specs.Private.Rings.{Acts, IsBracket, IsFine, IsFineRing, Pushes, RingView, Rises, Shortens, TurnsOver, TurnsPushed, from_vertex, one_on, ring_turn, turns_sum}
+pub use Rattle.spoke_rings.specs.Private.Rings.{IsBracket, IsFine, IsFineRing, Pushes, RingLeads, Rises, Shortens, SpokeRingView, TurnsOver, TurnsPushed, one_on, ring_from_vertex, ring_turn, turns_sum}
 pub use Rattle.spoke_rings.specs.Rotations.{IsRotation}
 pub use Rattle.std.proofs.Common.{All, Bool, List, None, Option, Some, ap, append_assoc, ap₂, arith, drop, false, get_or, inl, inr, length, not, refl, subst, suc, sym, take, true, zero, ℕ, [], ◌%◌, ◌*◌, ◌++◌, ◌+◌, ◌-◌, ◌/◌, ◌<◌, ◌∙◌, ◌∷◌, ◌≡◌, ◌≢◌, ◌≤◌, ◌⊎◌}
 pub use Rattle.std.proofs.Math.Nat.{add-mod_right, mod-eq_of_lt, mod-lt, mul-le-mul_right}

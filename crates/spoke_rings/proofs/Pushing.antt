@@ -1,5 +1,5 @@
 -- What a push over the seam makes of the turns, and that it is a way across a quad.
-use Rattle.spoke_rings.proofs.Common.{up-one, down-one, less-one, more-one, turn-up, turn-down, stands_before, turn_along, IsLoop, IsFullWheel, LoopLeads, RingView, Pushes, TurnsPushed, one_on, from_vertex, ring_turn, Acts, ◌≡◌, ℕ, ◌+◌, ◌-◌, ◌%◌, ◌<◌, ◌≤◌, inl, inr, arith, refl, sym, ◌∙◌, ap, ap₂, subst, zero, suc, Bool, true, false, not, List, [], ◌∷◌, ◌++◌, take, drop, length, get_or, drop-append_seam, take-append_seam, get_or-append_seam, cases_eq, same_number_lists, length-append, get_or_append_left, IsQuad, add-cases, minus-cases, minus-one, add-lt, minus-lt, add, minus, place_round}
+use Rattle.spoke_rings.proofs.Common.{up-one, down-one, less-one, more-one, turn-up, turn-down, stands_before, turn_along, IsLoop, IsFullWheel, LoopLeads, SpokeRingView, Pushes, TurnsPushed, one_on, ring_from_vertex, ring_turn, RingLeads, ◌≡◌, ℕ, ◌+◌, ◌-◌, ◌%◌, ◌<◌, ◌≤◌, inl, inr, arith, refl, sym, ◌∙◌, ap, ap₂, subst, zero, suc, Bool, true, false, not, List, [], ◌∷◌, ◌++◌, take, drop, length, get_or, drop-append_seam, take-append_seam, get_or-append_seam, cases_eq, same_number_lists, length-append, get_or_append_left, IsQuad, add-cases, minus-cases, minus-one, add-lt, minus-lt, add, minus, place_round}
 use Rattle.spoke_rings.proofs.Leading.{leads-same, leads-on, quad-down, quad-up, seam-down, seam-up}
 use Rattle.spoke_rings.proofs.RingTurns.{turn_at, turn-seam, turn-behind, stands-odd, place-below, spoke-below}
 
@@ -61,7 +61,7 @@ seamed true first r last = first ∷ r ++ last ∷ []
 seamed false first r last = last ∷ first ∷ r
 
 pub from-seam : (v : Bool) (s r : List ℕ) (first last : ℕ) → s ≡ first ∷ r ++ last ∷ [] →
-    from_vertex (record { spokes = s; at_vertex = v }) ≡ seamed v first r last
+    ring_from_vertex (record { spokes = s; at_vertex = v }) ≡ seamed v first r last
 from-seam true s r first last is = is
 from-seam false s r first last is =
     let inner = length-append r (last ∷ []) in
@@ -190,7 +190,7 @@ module _ (places : List ℕ) (full : IsFullWheel places) where
   on-below true x hx = next-below x hx
   on-below false x hx = add-lt d x (minus d 1) hx (let five = full.own.five in let one = minus-one d five in omega arith)
 
-  module _ (up : Bool) (old new : RingView) (loop : IsLoop places old.spokes) (some : 2 ≤ length old.spokes)
+  module _ (up : Bool) (old new : SpokeRingView) (loop : IsLoop places old.spokes) (some : 2 ≤ length old.spokes)
       (p : Pushes places up old new) (seam : ring_turn places old 0 ≡ one_on d (not up)) where
     abbrev n : ℕ
     n = length old.spokes
@@ -219,7 +219,7 @@ module _ (places : List ℕ) (full : IsFullWheel places) where
         (is-below 0 (omega arith)) (is-below (n - 1) (omega arith)) (sym (turn-seam places v old.spokes (omega arith))
         ∙ seam) p.last p.first
 
-    pub push-acts : Acts places old new
+    pub push-acts : RingLeads places old new
     push-acts =
         let ends = two-ends old.spokes some in
         let long = ends.long in
@@ -229,11 +229,12 @@ module _ (places : List ℕ) (full : IsFullWheel places) where
         let new_is = from-seam v new.spokes ends.inner (is 0) (is (n - 1)) new_list in
         record {
           loop = p.loop;
-          leads = leads-on places (from_vertex old) (seamed v (was 0) ends.inner (was (n - 1))) (from_vertex new)
+          leads = leads-on places (ring_from_vertex old) (seamed v (was 0) ends.inner (was (n - 1))) (ring_from_vertex new)
               (leads-same places _ _ old_is)
-              (leads-on places (seamed v (was 0) ends.inner (was (n - 1))) (seamed v (is 0) ends.inner (is (n - 1))) (from_vertex new)
+              (leads-on places (seamed v (was 0) ends.inner (was (n - 1))) (seamed v (is 0) ends.inner (is (n - 1))) (ring_from_vertex new)
               (goes-across.leads ends.inner (omega arith))
-              (leads-same places _ _ (sym (ap (λ b. from_vertex (record { spokes = new.spokes; at_vertex = b })) p.at_vertex ∙ new_is))));
+              (leads-same places _ _
+              (sym (ap (λ b. ring_from_vertex (record { spokes = new.spokes; at_vertex = b })) p.at_vertex ∙ new_is))));
         }
 
     -- a turn of the new ring, by its two spokes

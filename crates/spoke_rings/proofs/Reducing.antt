@@ -1,5 +1,5 @@
 -- How far a ring is reduced, and what its acts make of that.
-use Rattle.spoke_rings.proofs.Common.{IsLoop, IsFullWheel, RingView, ring_turn, Acts, Pushes, Rises, Shortens, IsBracket, IsFine, IsFineRing, turns_sum, ◌≡◌, ◌≢◌, ℕ, ◌+◌, ◌-◌, ◌*◌, ◌<◌, ◌≤◌, ◌⊎◌, inl, inr, arith, refl, sym, ◌∙◌, ap, ap₂, subst, suc, Bool, true, false, List, length, get_or, cases_lt, common_steps, add-cases, minus-cases, minus-one, add, minus, place_round}
+use Rattle.spoke_rings.proofs.Common.{IsLoop, IsFullWheel, SpokeRingView, ring_turn, RingLeads, Pushes, Rises, Shortens, IsBracket, IsFine, IsFineRing, turns_sum, ◌≡◌, ◌≢◌, ℕ, ◌+◌, ◌-◌, ◌*◌, ◌<◌, ◌≤◌, ◌⊎◌, inl, inr, arith, refl, sym, ◌∙◌, ap, ap₂, subst, suc, Bool, true, false, List, length, get_or, cases_lt, common_steps, add-cases, minus-cases, minus-one, add, minus, place_round}
 use Rattle.spoke_rings.proofs.RingTurns.{turn-round, turn-seam, spoke-below, place-below}
 use Rattle.spoke_rings.proofs.Pushing.{push-acts, push-turns}
 use Rattle.spoke_rings.proofs.Acting.{WentOn, acts-on, acts-start}
@@ -8,7 +8,7 @@ use Rattle.spoke_rings.proofs.Weights.{sum-forward, sum-back, push-lighter, sum-
 use Rattle.spoke_rings.proofs.Closing.{Closes, closes-start, closes-next, closes-seam}
 
 -- where no turn stands at the seam, the last spoke is the first
-pub spur-spokes : (places : List ℕ) → IsFullWheel places → (ring : RingView) → IsLoop places ring.spokes → 0 < length ring.spokes →
+pub spur-spokes : (places : List ℕ) → IsFullWheel places → (ring : SpokeRingView) → IsLoop places ring.spokes → 0 < length ring.spokes →
     ring_turn places ring 0 ≡ 0 → get_or ring.spokes (length ring.spokes - 1) 0 ≡ get_or ring.spokes 0 0
 spur-spokes places full ring loop some none =
     let d = length places in
@@ -29,26 +29,26 @@ spur-spokes places full ring loop some none =
     go false l f hl hf e = e
 
 -- a bracket that is being closed
-pub record Closing (places : List ℕ) (start ring : RingView) (left : ℕ) : Type 0 where
-  pub acts : Acts places start ring
+pub record Closing (places : List ℕ) (start ring : SpokeRingView) (left : ℕ) : Type 0 where
+  pub acts : RingLeads places start ring
   pub as_long : length ring.spokes ≡ length start.spokes
   pub closes : Closes (length ring.spokes) (ring_turn places ring) left
 
 -- a ring of which so many seams were passed
-pub record Reducing (places : List ℕ) (start ring : RingView) (passed : ℕ) : Type 0 where
-  pub acts : Acts places start ring
+pub record Reducing (places : List ℕ) (start ring : SpokeRingView) (passed : ℕ) : Type 0 where
+  pub acts : RingLeads places start ring
   pub not_longer : length ring.spokes ≤ length start.spokes
   pub within : passed ≤ length ring.spokes
   pub fine : (j : ℕ) → j < passed → IsFine (length places) (length ring.spokes)
       (turns_from (ring_turn places ring) (length ring.spokes - passed + j))
 
 module _ (places : List ℕ) (full : IsFullWheel places) where
-  ring-round : (ring : RingView) → IsLoop places ring.spokes → (k : ℕ) →
+  ring-round : (ring : SpokeRingView) → IsLoop places ring.spokes → (k : ℕ) →
       ring_turn places ring (k + length ring.spokes) ≡ ring_turn places ring k
   ring-round ring loop = turn-round places ring.at_vertex ring.spokes loop.even
 
   -- a push up
-  pub rises-push : (old new : RingView) → IsLoop places old.spokes → 2 ≤ length old.spokes → Pushes places true old new →
+  pub rises-push : (old new : SpokeRingView) → IsLoop places old.spokes → 2 ≤ length old.spokes → Pushes places true old new →
       ring_turn places old 0 ≡ minus (length places) 1 → Rises places old new
   rises-push old new loop some p fall =
       let acts = push-acts places full true old new loop some p fall in
@@ -61,7 +61,7 @@ module _ (places : List ℕ) (full : IsFullWheel places) where
             turns fall some);
       }
 
-  pub rises-forward : (old mid new : RingView) → Rises places old mid → WentOn places 1 mid new → Rises places old new
+  pub rises-forward : (old mid new : SpokeRingView) → Rises places old mid → WentOn places 1 mid new → Rises places old new
   rises-forward old mid new r w =
       let n = length mid.spokes in
       let same = sum-forward (ring_turn places mid) (ring_turn places new) n (ring-round mid r.acts.loop) w.turns in
@@ -72,7 +72,8 @@ module _ (places : List ℕ) (full : IsFullWheel places) where
         lighter = let less = r.lighter in omega arith;
       }
 
-  pub rises-back : (old mid new : RingView) → Rises places old mid → 0 < length mid.spokes → WentOn places (length mid.spokes - 1) mid new →
+  pub rises-back : (old mid new : SpokeRingView) → Rises places old mid → 0 < length mid.spokes
+      → WentOn places (length mid.spokes - 1) mid new →
       Rises places old new
   rises-back old mid new r some w =
       let n = length mid.spokes in
@@ -85,7 +86,7 @@ module _ (places : List ℕ) (full : IsFullWheel places) where
         lighter = let less = r.lighter in omega arith;
       }
 
-  pub closing-start : (ring : RingView) (twos pushes : ℕ) → IsLoop places ring.spokes → 2 ≤ length ring.spokes →
+  pub closing-start : (ring : SpokeRingView) (twos pushes : ℕ) → IsLoop places ring.spokes → 2 ≤ length ring.spokes →
       ring_turn places ring 0 ≡ 1 →
       IsBracket (length ring.spokes) (ring_turn places ring) twos →
       ((twos + 1 ≡ length ring.spokes) × (pushes ≡ twos)) ⊎ ((twos + 1 ≢ length ring.spokes) × (pushes ≡ twos + 1)) →
@@ -96,7 +97,7 @@ module _ (places : List ℕ) (full : IsFullWheel places) where
     closes = closes-start (length ring.spokes) twos pushes (ring_turn places ring) some one b count;
   }
 
-  pub closing-next : (start ring mid new : RingView) (left : ℕ) → Closing places start ring (suc left) → 2 ≤ length ring.spokes →
+  pub closing-next : (start ring mid new : SpokeRingView) (left : ℕ) → Closing places start ring (suc left) → 2 ≤ length ring.spokes →
       Pushes places false ring mid → WentOn places (length mid.spokes - 1) mid new → Closing places start new left
   closing-next start ring mid new left c some p w =
       let n = length ring.spokes in
@@ -114,13 +115,13 @@ module _ (places : List ℕ) (full : IsFullWheel places) where
         closes = subst (λ m. Closes m (ring_turn places new) left) (sym (w.as_long ∙ p.as_long)) next;
       }
 
-  pub closing-end : (start ring new : RingView) → Closing places start ring 0 → Shortens places ring new → Shortens places start new
+  pub closing-end : (start ring new : SpokeRingView) → Closing places start ring 0 → Shortens places ring new → Shortens places start new
   closing-end start ring new c s = record {
     acts = acts-on places start ring new c.acts s.acts;
     shorter = s.shorter ∙ c.as_long;
   }
 
-  pub reducing-forward : (start ring new : RingView) (passed : ℕ) → Reducing places start ring passed → passed < length ring.spokes →
+  pub reducing-forward : (start ring new : SpokeRingView) (passed : ℕ) → Reducing places start ring passed → passed < length ring.spokes →
       IsFine (length places) (length ring.spokes) (ring_turn places ring) → WentOn places 1 ring new →
       Reducing places start new (passed + 1)
   reducing-forward start ring new passed r below seam w =
@@ -144,7 +145,7 @@ module _ (places : List ℕ) (full : IsFullWheel places) where
             ]);
       }
 
-  pub reducing-again : (start ring new : RingView) (passed : ℕ) → Reducing places start ring passed → Acts places ring new →
+  pub reducing-again : (start ring new : SpokeRingView) (passed : ℕ) → Reducing places start ring passed → RingLeads places ring new →
       length new.spokes ≤ length ring.spokes → Reducing places start new 0
   reducing-again start ring new passed r acts shorter = record {
     acts = acts-on places start ring new r.acts acts;
@@ -153,7 +154,7 @@ module _ (places : List ℕ) (full : IsFullWheel places) where
     fine = λ j below. absurd (omega arith);
   }
 
-  pub reducing-end : (start ring : RingView) (passed : ℕ) → Reducing places start ring passed → length ring.spokes ≤ passed →
+  pub reducing-end : (start ring : SpokeRingView) (passed : ℕ) → Reducing places start ring passed → length ring.spokes ≤ passed →
       IsFineRing places ring
   reducing-end start ring passed r ended j below =
       let n = length ring.spokes in
@@ -161,7 +162,7 @@ module _ (places : List ℕ) (full : IsFullWheel places) where
       (λ k. (let e : n - passed + j + k ≡ j + k = omega arith in ap (ring_turn places ring) e)) (r.fine j (omega arith))
 
 -- how much is left to be done
-abbrev pub left_of : List ℕ → ℕ → RingView → ℕ → ℕ
+abbrev pub left_of : List ℕ → ℕ → SpokeRingView → ℕ → ℕ
 left_of places most ring passed =
     weight most (length places) (length ring.spokes) (turns_sum (ring_turn places ring) (length ring.spokes)) passed
 
@@ -180,22 +181,22 @@ pub fine-one : (d n twos : ℕ) (turn : ℕ → ℕ) → 5 ≤ d → turn 0 ≡ 
 fine-one d n twos turn five one within run not_two not_opened = grind (arith, minus-one)
 
 module _ (places : List ℕ) (full : IsFullWheel places) where
-  sum-within : (ring : RingView) → IsLoop places ring.spokes →
+  sum-within : (ring : SpokeRingView) → IsLoop places ring.spokes →
       turns_sum (ring_turn places ring) (length ring.spokes) ≤ length ring.spokes * length places
   sum-within ring loop = grind (arith, common_steps, sum-bound, turn-in)
 
-  pub left-shorter : (start ring new : RingView) (passed : ℕ) → Reducing places start ring passed → Shortens places ring new →
+  pub left-shorter : (start ring new : SpokeRingView) (passed : ℕ) → Reducing places start ring passed → Shortens places ring new →
       left_of places (length start.spokes) new 0 < left_of places (length start.spokes) ring passed
   left-shorter start ring new passed r s =
       weight-shorter (length start.spokes) (length places) (length ring.spokes) (length new.spokes)
       (turns_sum (ring_turn places ring) (length ring.spokes)) (turns_sum (ring_turn places new) (length new.spokes)) passed
       r.not_longer (omega arith) (sum-within new s.acts.loop)
 
-  pub left-lighter : (start ring new : RingView) (passed : ℕ) → Reducing places start ring passed → Rises places ring new →
+  pub left-lighter : (start ring new : SpokeRingView) (passed : ℕ) → Reducing places start ring passed → Rises places ring new →
       left_of places (length start.spokes) new 0 < left_of places (length start.spokes) ring passed
   left-lighter start ring new passed r s = grind (arith, weight, left_of, weight-lighter)
 
-  pub left-passed : (start ring new : RingView) (passed : ℕ) → Reducing places start ring passed → passed < length ring.spokes →
+  pub left-passed : (start ring new : SpokeRingView) (passed : ℕ) → Reducing places start ring passed → passed < length ring.spokes →
       WentOn places 1 ring new → left_of places (length start.spokes) new (passed + 1) < left_of places (length start.spokes) ring passed
   left-passed start ring new passed r below w =
       let n = length ring.spokes in
@@ -210,7 +211,7 @@ module _ (places : List ℕ) (full : IsFullWheel places) where
       (weight-passed (length start.spokes) (length places) n (turns_sum (ring_turn places ring) n) passed below)
 
 -- where a ring is gone on along, nothing comes to stand at a seam
-pub fine-on : (places : List ℕ) (ring new : RingView) → IsLoop places ring.spokes → 0 < length ring.spokes → WentOn places 1 ring new →
+pub fine-on : (places : List ℕ) (ring new : SpokeRingView) → IsLoop places ring.spokes → 0 < length ring.spokes → WentOn places 1 ring new →
     IsFineRing places ring → IsFineRing places new
 fine-on places ring new loop some w fine j below =
     let n = length ring.spokes in

@@ -1,5 +1,5 @@
 -- How a ring with turns -2 alone is taken across all the quads beside it, turn by turn.
-use Rattle.spoke_rings.proofs.Common.{IsCanonicalRow, IsLoop, IsFullWheel, turn_along, stands_before, RingView, ring_turn, Acts, Pushes, TurnsPushed, TurnsOver, Shortens, IsFineRing, ◌≡◌, ℕ, ◌+◌, ◌-◌, ◌%◌, ◌<◌, ◌≤◌, inl, inr, arith, refl, sym, ◌∙◌, ap, ap₂, subst, suc, Bool, true, false, not, List, [], ◌∷◌, ◌++◌, length, get_or, cases_eq, common_steps, append-nil, length-append, get_or_append_left, get_or-append-add, All-append, All-cons, All-nil, if◌then◌else◌, two-up, add-cases, minus-cases, minus-one, minus-two, add-lt, add-minus, add, minus, place_round}
+use Rattle.spoke_rings.proofs.Common.{IsCanonicalRow, IsLoop, IsFullWheel, turn_along, stands_before, SpokeRingView, ring_turn, RingLeads, Pushes, TurnsPushed, TurnsOver, Shortens, IsFineRing, ◌≡◌, ℕ, ◌+◌, ◌-◌, ◌%◌, ◌<◌, ◌≤◌, inl, inr, arith, refl, sym, ◌∙◌, ap, ap₂, subst, suc, Bool, true, false, not, List, [], ◌∷◌, ◌++◌, length, get_or, cases_eq, common_steps, append-nil, length-append, get_or_append_left, get_or-append-add, All-append, All-cons, All-nil, if◌then◌else◌, two-up, add-cases, minus-cases, minus-one, minus-two, add-lt, add-minus, add, minus, place_round}
 use Rattle.spoke_rings.proofs.Along.{same-rows, rotated}
 use Rattle.spoke_rings.proofs.Leading.{leads-same, leads-on, spur-enters}
 use Rattle.spoke_rings.proofs.RingTurns.{turn_at, turn-round, turn-seam, turn-behind, stands-even, stands-odd, stands-turned, spoke-below, place-below}
@@ -92,8 +92,8 @@ module _ (d n : ℕ) (old mid new : ℕ → ℕ) (five : 5 ≤ d) (two : 2 ≤ n
   ]
 
 -- a ring that is being turned over
-pub record Turning (places : List ℕ) (start now : RingView) (left : ℕ) : Type 0 where
-  pub acts : Acts places start now
+pub record Turning (places : List ℕ) (start now : SpokeRingView) (left : ℕ) : Type 0 where
+  pub acts : RingLeads places start now
   pub as_long : length now.spokes ≡ length start.spokes + 2
   pub within : left ≤ length start.spokes
   pub over : Over (length places) (length start.spokes) (ring_turn places now) (length start.spokes - left)
@@ -102,7 +102,7 @@ module _ (places : List ℕ) (full : IsFullWheel places) where
   abbrev d : ℕ
   d = length places
 
-  abbrev ring : List ℕ → Bool → RingView
+  abbrev ring : List ℕ → Bool → SpokeRingView
   ring s v = record { spokes = s; at_vertex = v }
 
   after-fall : (x y : ℕ) → x < d → y < d → add d x (minus d y) ≡ minus d 2 → add d (add d x 1) (minus d y) ≡ minus d 1
@@ -177,7 +177,7 @@ module _ (places : List ℕ) (full : IsFullWheel places) where
               ∙ add-minus d z z_in);
         }
 
-  pub turning-next : (start now mid new : RingView) (left : ℕ) → Turning places start now (suc left) → 2 ≤ length start.spokes →
+  pub turning-next : (start now mid new : SpokeRingView) (left : ℕ) → Turning places start now (suc left) → 2 ≤ length start.spokes →
       Pushes places true now mid → WentOn places 1 mid new → Turning places start new left
   turning-next start now mid new left t some p w =
       let n = length start.spokes in
@@ -199,10 +199,10 @@ module _ (places : List ℕ) (full : IsFullWheel places) where
         over = subst (Over d n (ring_turn places new)) count next;
       }
 
-  pub turning-spur : (start now : RingView) → Turning places start now 0 → 2 ≤ length start.spokes → ring_turn places now 0 ≡ 0
+  pub turning-spur : (start now : SpokeRingView) → Turning places start now 0 → 2 ≤ length start.spokes → ring_turn places now 0 ≡ 0
   turning-spur start now t some = grind arith
 
-  turning-turns : (start now : RingView) → Turning places start now 0 → 2 ≤ length start.spokes →
+  turning-turns : (start now : SpokeRingView) → Turning places start now 0 → 2 ≤ length start.spokes →
       (ring_turn places now 1 ≡ 1) × ((k : ℕ) → 2 ≤ k → k ≤ length start.spokes → ring_turn places now k ≡ 2)
       × (ring_turn places now (length start.spokes + 1) ≡ 1)
   turning-turns start now t some = elim t.over [
@@ -211,7 +211,7 @@ module _ (places : List ℕ) (full : IsFullWheel places) where
     | last all seam behind twos before ↦ (behind, twos, before)
   ]
 
-  pub turning-end : (start now new : RingView) (f l : ℕ) → Turning places start now 0 → 2 ≤ length start.spokes →
+  pub turning-end : (start now new : SpokeRingView) (f l : ℕ) → Turning places start now 0 → 2 ≤ length start.spokes →
       now.spokes ≡ f ∷ new.spokes ++ l ∷ [] → l ≡ f → new.at_vertex ≡ not now.at_vertex → Shortens places now new →
       TurnsOver places start new
   turning-end start now new f l t some e same v s =
@@ -267,7 +267,7 @@ module _ (places : List ℕ) (full : IsFullWheel places) where
       }
 
   -- a ring at the vertex, where a spur was put in
-  pub turning-begins : (start now : RingView) (z : ℕ) → IsLoop places start.spokes → 2 ≤ length start.spokes → start.at_vertex ≡ true →
+  pub turning-begins : (start now : SpokeRingView) (z : ℕ) → IsLoop places start.spokes → 2 ≤ length start.spokes → start.at_vertex ≡ true →
       ((k : ℕ) → ring_turn places start k ≡ minus d 2) → z < d →
       place_round places true z ≡ add d (place_round places true (get_or start.spokes 0 0)) 1 →
       now.spokes ≡ start.spokes ++ z ∷ z ∷ [] → now.at_vertex ≡ start.at_vertex → Turning places start now (length start.spokes)
@@ -279,13 +279,13 @@ module _ (places : List ℕ) (full : IsFullWheel places) where
       subst (λ x. Turning places start x (length s)) to (subst (λ x. Turning places x (ring (s ++ z ∷ z ∷ []) true) (length s)) from begun)
 
 -- a ring that was gone on along to a seam at the vertex
-pub record AtVertex (places : List ℕ) (old new : RingView) : Type 0 where
-  pub acts : Acts places old new
+pub record AtVertex (places : List ℕ) (old new : SpokeRingView) : Type 0 where
+  pub acts : RingLeads places old new
   pub as_long : length new.spokes ≡ length old.spokes
   pub fine : IsFineRing places old → IsFineRing places new
   pub twos : 0 < length old.spokes → ((k : ℕ) → ring_turn places old k ≡ 2) → (k : ℕ) → ring_turn places new k ≡ 2
 
-pub at-vertex : (places : List ℕ) (old new : RingView) → IsLoop places old.spokes →
+pub at-vertex : (places : List ℕ) (old new : SpokeRingView) → IsLoop places old.spokes →
     new.spokes ≡ (if old.at_vertex then old.spokes else rotated 1 old.spokes) → new.at_vertex ≡ true → AtVertex places old new
 at-vertex places old new loop e v = go old.at_vertex old.spokes loop e
   where

@@ -11,8 +11,8 @@ pub the_turns : map (cyclic_turn double_torus (3 ∷ 4 ∷ 4 ∷ 2 ∷ [])) (0 �
 unfolding add minus
 the_turns = refl
 
-pub a_spur_goes : after_loop_step double_torus (spur_out 1) (3 ∷ 4 ∷ 4 ∷ 2 ∷ []) ≡ Some (3 ∷ 2 ∷ [])
-a_spur_goes = refl
+pub a_spur_leaves_the_ring : after_loop_step double_torus (spur_out 1) (3 ∷ 4 ∷ 4 ∷ 2 ∷ []) ≡ Some (3 ∷ 2 ∷ [])
+a_spur_leaves_the_ring = refl
 
 pub a_spur_comes : after_loop_step double_torus (spur_in 1 4) (3 ∷ 2 ∷ []) ≡ Some (3 ∷ 4 ∷ 4 ∷ 2 ∷ [])
 a_spur_comes = refl

@@ -3,7 +3,7 @@ ghost use Rattle.std.specs.Prelude.{◌≡◌, ◌≢◌, ℕ, ◌+◌, ◌-◌,
 ghost use Rattle.turn_words.specs.Modulo.{add, minus};
 ghost use Rattle.turn_words.specs.SpokePaths.{place_round};
 ghost use Rattle.spoke_rings.specs.CyclicWords.{stands_before, IsLoop, IsFullWheel};
-ghost use Rattle.spoke_rings.specs.Private.Rings.{ring_turn, one_on, Acts, Pushes, Rises, Shortens, IsBracket, IsFineRing, TurnsOver};
+ghost use Rattle.spoke_rings.specs.Private.Rings.{ring_turn, one_on, RingLeads, Pushes, Rises, Shortens, IsBracket, IsFineRing, TurnsOver};
 ghost use Rattle.spoke_rings.specs.Private.Seams.{IsSeam};
 
 use std::alloc::{AllocError, Global};
@@ -33,9 +33,9 @@ pub(crate) enum Seam {
 }
 
 impl Model for Ring {
-    ghost use Rattle.spoke_rings.specs.Private.Rings.{RingView};
+    ghost use Rattle.spoke_rings.specs.Private.Rings.{SpokeRingView};
 
-    ghost Value = { RingView };
+    ghost Value = { SpokeRingView };
 
     ghost view = { λ ring. record { spokes = ring.spokes.items; at_vertex = ring.at_vertex } };
 }
@@ -216,7 +216,7 @@ impl Ring {
     pub(crate) fn reduce(&mut self, wheel: &Wheel)
         requires full { IsFullWheel wheel.now }
         requires spokes { IsLoop wheel.now self.old.spokes }
-        ensures acts { Acts wheel.now self.old self.new }
+        ensures acts { RingLeads wheel.now self.old self.new }
         ensures not_longer { length self.new.spokes ≤ length self.old.spokes }
         ensures fine { IsFineRing wheel.now self.new }
     {

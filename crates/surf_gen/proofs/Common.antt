@@ -12,8 +12,8 @@ pub use Rattle.std.proofs.lemmas.List.FromFn.{length-map-range_with_len, length-
 pub use Rattle.std.specs.Fmt.{decimal}
 pub use Rattle.std.specs.List.{filter, flat_map, join_with_byte, range_with_len}
 pub use Rattle.std.specs.Prelude.{All, Err, Ok, OnOk, Result, codes, if◌then◌else◌, is_ok, nat_lt, ◌&&◌, ◌==◌, ◌||◌, ◌⊎◌}
-pub use Rattle.surf_gen.specs.ChainTexts.{chain_text, coordinates, line_of}
-pub use Rattle.surf_gen.specs.Chains.{behind, cells, face, glued_before, is_cut_out, is_glued, number, partner, point, points, vertex_number, vertices}
+pub use Rattle.surf_gen.specs.Chains.{cells, face, glued_before, is_cut_out, is_glued, next_in_ring, number, partner, point, points, vertex_number, vertices}
 pub use Rattle.surf_gen.specs.Parts.{part_text, points_of_row, points_of_torus}
 pub use Rattle.surf_gen.specs.declared.points.Point.{Point}
+pub use Rattle.text_scan.specs.Plain.{line_of}
 pub use mathlib.Core.List.{append-nil, append_assoc}

@@ -1,5 +1,5 @@
 -- The faces of a chain are quads of its vertices: their corners are in range, and neighbours differ.
-use Rattle.surf_gen.proofs.Common.{◌≡◌, ◌≢◌, ℕ, zero, suc, ◌+◌, ◌-◌, ◌*◌, ◌%◌, ◌<◌, ◌≤◌, Bool, true, false, not, cond, List, [], ◌∷◌, ◌++◌, length, map, arith, sym, subst, ap, ◌∙◌, refl, inl, inr, mul-le-mul_left, mod-eq_of_lt, mod_self, ltb-true, and_parts, cases_lt, All-nil, All-cons, All-append, All-filter, range_with_len, filter, flat_map, ◌⊎◌, nat_lt, ◌&&◌, if◌then◌else◌, All, point, points, is_glued, is_cut_out, partner, vertices, cells, vertex_number, number, behind, points_of_row, points_of_torus, Point}
+use Rattle.surf_gen.proofs.Common.{◌≡◌, ◌≢◌, ℕ, zero, suc, ◌+◌, ◌-◌, ◌*◌, ◌%◌, ◌<◌, ◌≤◌, Bool, true, false, not, cond, List, [], ◌∷◌, ◌++◌, length, map, arith, sym, subst, ap, ◌∙◌, refl, inl, inr, mul-le-mul_left, mod-eq_of_lt, mod_self, ltb-true, and_parts, cases_lt, All-nil, All-cons, All-append, All-filter, range_with_len, filter, flat_map, ◌⊎◌, nat_lt, ◌&&◌, if◌then◌else◌, All, point, points, is_glued, is_cut_out, partner, vertices, cells, vertex_number, number, next_in_ring, points_of_row, points_of_torus, Point}
 use Rattle.surf_gen.specs.Places.{IsPoint}
 use Rattle.surf_gen.proofs.NumberLemmas.{is_vertex, first_number, number_own, far_row, numbers_rise, vertex_total}
 
@@ -167,9 +167,9 @@ pub record IsQuad (count a b c d : ℕ) : Type 0 where
   pub cd : c ≢ d
   pub da : d ≢ a
 
-behind_other : (grid k : ℕ) → 5 ≤ grid → k < grid → (behind grid k < grid) × (behind grid k ≢ k)
+behind_other : (grid k : ℕ) → 5 ≤ grid → k < grid → (next_in_ring grid k < grid) × (next_in_ring grid k ≢ k)
 behind_other grid k wide lt =
-    elim (cases_lt (k + 1) grid) as (λ _. (behind grid k < grid) × (behind grid k ≢ k)) [
+    elim (cases_lt (k + 1) grid) as (λ _. (next_in_ring grid k < grid) × (next_in_ring grid k ≢ k)) [
       | inl less ↦ let next : (k + 1) % grid ≡ k + 1 = mod-eq_of_lt less in (omega arith, λ same. omega arith)
       | inr more ↦
           let last : k + 1 ≡ grid = omega arith in
@@ -179,15 +179,15 @@ behind_other grid k wide lt =
 -- the corners of a cell
 pub cell_quad : (genus grid : ℕ) (p : Point) → 5 ≤ grid → IsPoint genus grid p
     → IsQuad (length (vertices genus grid)) (number grid p)
-    (number grid (point p.torus p.row (behind grid p.column)))
-    (number grid (point p.torus (behind grid p.row) (behind grid p.column)))
-    (number grid (point p.torus (behind grid p.row) p.column))
+    (number grid (point p.torus p.row (next_in_ring grid p.column)))
+    (number grid (point p.torus (next_in_ring grid p.row) (next_in_ring grid p.column)))
+    (number grid (point p.torus (next_in_ring grid p.row) p.column))
 cell_quad genus grid p wide at =
     let row = behind_other grid p.row wide at.row in
     let column = behind_other grid p.column wide at.column in
-    let right = point p.torus p.row (behind grid p.column) in
-    let across = point p.torus (behind grid p.row) (behind grid p.column) in
-    let below = point p.torus (behind grid p.row) p.column in
+    let right = point p.torus p.row (next_in_ring grid p.column) in
+    let across = point p.torus (next_in_ring grid p.row) (next_in_ring grid p.column) in
+    let below = point p.torus (next_in_ring grid p.row) p.column in
     let at_right : IsPoint genus grid right = record { torus = at.torus; row = at.row; column = column.0 } in
     let at_across : IsPoint genus grid across = record { torus = at.torus; row = row.0; column = column.0 } in
     let at_below : IsPoint genus grid below = record { torus = at.torus; row = row.0; column = at.column } in

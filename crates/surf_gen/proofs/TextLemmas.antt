@@ -1,5 +1,6 @@
 -- The text of a chain of tori, in its parts.
-use Rattle.surf_gen.proofs.Common.{◌≡◌, ℕ, Bool, true, false, not, cond, List, [], ◌∷◌, ◌++◌, length, map, sym, ap, ◌∙◌, refl, length-map, map-append, flat_map-append, decimal, filter, flat_map, codes, if◌then◌else◌, line_of, coordinates, chain_text, points, is_glued, is_cut_out, vertices, cells, face, part_text, Point, append_assoc, append-nil}
+use Rattle.surf_gen.proofs.Common.{◌≡◌, ℕ, Bool, true, false, not, cond, List, [], ◌∷◌, ◌++◌, length, map, sym, ap, ◌∙◌, refl, length-map, map-append, flat_map-append, decimal, filter, flat_map, codes, if◌then◌else◌, points, is_glued, is_cut_out, vertices, cells, face, part_text, Point, line_of, append_assoc, append-nil}
+use Rattle.surf_gen.specs.ChainTexts.{coordinates, chain_text}
 use Rattle.surf_gen.specs.declared.text.Part.TheVariants.{Vertices, Faces}
 
 -- lines of numbers

@@ -1,13 +1,9 @@
 -- The text of a chain of tori in the format OFF.
 use Rattle.std.specs.Prelude.{ℕ, List, [], ◌∷◌, ◌++◌, length, map, flat_map, codes, decimal}
-use Rattle.std.specs.List.{join_with_byte}
+use Rattle.text_scan.specs.Plain.{line_of}
 use Rattle.surf_model.specs.FaceLists.{FaceList}
 use Rattle.surf_gen.specs.declared.points.Point.{Point}
 use Rattle.surf_gen.specs.Chains.{vertices, chain_mesh}
-
--- a line of these words: single blanks between them, and a line feed behind
-abbrev pub line_of : List (List ℕ) → List ℕ
-line_of words = join_with_byte 32 words ++ 10 ∷ []
 
 -- the coordinates of a vertex: its torus, row and column
 abbrev pub coordinates : Point → List ℕ

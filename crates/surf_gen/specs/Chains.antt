@@ -54,14 +54,14 @@ abbrev pub cells : ℕ → ℕ → List Point
 cells genus grid = filter (λ p. not (is_cut_out genus p)) (points genus grid)
 
 -- the row or column behind one, where the first follows the last
-abbrev pub behind : ℕ → ℕ → ℕ
-behind grid k = (k + 1) % grid
+abbrev pub next_in_ring : ℕ → ℕ → ℕ
+next_in_ring grid k = (k + 1) % grid
 
 -- the corners of a cell, in order round it
 abbrev pub corners : ℕ → Point → List Point
 corners grid p =
-    p ∷ point p.torus p.row (behind grid p.column) ∷ point p.torus (behind grid p.row) (behind grid p.column)
-    ∷ point p.torus (behind grid p.row) p.column ∷ []
+    p ∷ point p.torus p.row (next_in_ring grid p.column) ∷ point p.torus (next_in_ring grid p.row) (next_in_ring grid p.column)
+    ∷ point p.torus (next_in_ring grid p.row) p.column ∷ []
 
 -- the face that a cell is
 abbrev pub face : ℕ → Point → List ℕ

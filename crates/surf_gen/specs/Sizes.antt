@@ -3,7 +3,7 @@ use Rattle.std.specs.Prelude.{ℕ, ◌≤◌}
 use Rattle.surf_gen.specs.declared.limits.TheConstants.{MOST_GENUS, LEAST_GRID, MOST_GRID}
 
 -- so many tori, each of so many rows and columns, are a chain that is made
-pub record IsChain (genus grid : ℕ) : Type 0 where
+pub record IsChainSize (genus grid : ℕ) : Type 0 where
   pub some_tori : 1 ≤ genus
   pub few_tori : genus ≤ MOST_GENUS
   pub some_points : LEAST_GRID ≤ grid

@@ -1,7 +1,7 @@
 //! The points of a chain of tori, and its vertices and cells.
 ghost use Rattle.std.specs.Prelude.{◌≡◌, ◌↔◌, ◌*◌, ◌-◌, ◌+◌, ◌<◌, ◌^◌, IsTrue, length, map};
 ghost use Rattle.surf_gen.specs.Chains.{glued_before, vertex_number, number, is_cut_out, face, vertices, cells};
-ghost use Rattle.surf_gen.specs.Sizes.{IsChain};
+ghost use Rattle.surf_gen.specs.Sizes.{IsChainSize};
 ghost use Rattle.surf_gen.specs.Places.{IsPoint};
 
 use crate::points::Point;
@@ -11,7 +11,7 @@ use crate::points::Point;
 pub(crate) struct Chain {
     pub(crate) genus: u32,
     pub(crate) grid: u32,
-    ghost sized: { IsChain genus grid },
+    ghost sized: { IsChainSize genus grid },
 }
 
 impl Chain {

@@ -1,6 +1,6 @@
 //! Lines of numbers.
 ghost use Rattle.std.specs.Prelude.{◌≡◌, ℕ, ◌+◌, ◌<◌, ◌≤◌, List, [], ◌∷◌, ◌++◌, length, map, OnOk, decimal};
-ghost use Rattle.surf_gen.specs.ChainTexts.{line_of};
+ghost use Rattle.text_scan.specs.Plain.{line_of};
 
 use std::alloc::AllocError;
 use std::marker::Model;

@@ -1,7 +1,7 @@
 //! The text of a chain of tori.
 ghost use Rattle.std.specs.Prelude.{◌≡◌, [], ◌∷◌, ◌++◌, ◌<◌, OnOk, IfOk};
 ghost use Rattle.surf_gen.specs.ChainTexts.{chain_text};
-ghost use Rattle.surf_gen.specs.Sizes.{IsChain};
+ghost use Rattle.surf_gen.specs.Sizes.{IsChainSize};
 ghost use Rattle.surf_gen.specs.Places.{IsPoint};
 ghost use Rattle.surf_gen.specs.Parts.{part_text, points_of_torus, points_of_row};
 ghost use Rattle.surf_gen.specs.Chains.{points};
@@ -23,7 +23,7 @@ const HEAD_ROOM: usize = 32;
 /// The text of a chain of `genus` tori of `grid` times `grid` points each, in the format OFF. A vertex has its torus, row
 /// and column for coordinates.
 pub fn chain_of_tori(alloc: Global, genus: u32, grid: u32) -> Result<Vec<u8>, AllocError>
-    requires { IsChain genus grid }
+    requires { IsChainSize genus grid }
     ensures { IfOk result (λ text. text.items ≡ chain_text genus grid) }
 {
     let chain = Chain { genus, grid };

@@ -1,7 +1,7 @@
 //! Pairs of walks on a chain of tori.
 ghost use Rattle.std.specs.Prelude.{◌≡◌, ◌+◌, ◌<◌, ◌≤◌, [], ◌++◌, length, map, OnOk, IfOk};
 ghost use Rattle.surf_gen.specs.Chains.{point, number};
-ghost use Rattle.surf_gen.specs.Sizes.{IsChain};
+ghost use Rattle.surf_gen.specs.Sizes.{IsChainSize};
 ghost use Rattle.surf_gen.specs.declared.limits.TheConstants.{MOST_GRID};
 ghost use Rattle.surf_gen.specs.TrialWalks.{first_walk, second_walk, row_loop, column_loop, cell_loop, walk_through};
 
@@ -35,7 +35,7 @@ pub fn trial_pair(
     grid: u32,
     which: TrialPair,
 ) -> Result<WalkPair, AllocError>
-    requires { IsChain genus grid }
+    requires { IsChainSize genus grid }
     ensures first { IfOk result (λ pair. pair.first ≡ first_walk grid which) }
     ensures second { IfOk result (λ pair. pair.second ≡ second_walk grid which) }
 {

@@ -15,7 +15,7 @@ pub use Rattle.std.specs.VecDeque.Iter.{deque_iter_rest}
 pub use Rattle.surf_io.specs.Bytes.{Appends, AppendsPrefix, append_told}
 pub use Rattle.surf_io.specs.Calls.{OnlyWrites, WroteAll, WrotePart}
 pub use Rattle.surf_io.specs.Files.{GivesFrom, file_of}
-pub use Rattle.surf_io.specs.Gathered.{Gathers, Puts, spaced}
-pub use Rattle.surf_io.specs.Stored.{entry_of}
+pub use Rattle.surf_io.specs.Gathered.{Gathers, Puts, spaced_number}
+pub use Rattle.surf_io.specs.Stored.{file_entry}
 pub use lib.IntN.{nat_abs}
 pub use mathlib.Core.List.{append_assoc}

@@ -1,5 +1,5 @@
 -- Bytes that are gathered in a piece, one after another.
-use Rattle.surf_io.proofs.Common.{◌≡◌, ℕ, ◌+◌, ◌≤◌, List, [], ◌∷◌, ◌++◌, length, take, drop, add-one, refl, sym, ap, subst, ◌∙◌, arith, take-suc, append-nil, take_all, take-append-drop, slice_get_within, get_or_from_slice_get, flat_map, slice_get, Result, Ok, Err, OnOk, OnErr, append_told, Appends, AppendsPrefix, OnlyWrites, WroteAll, WrotePart, Gathers, Puts, spaced}
+use Rattle.surf_io.proofs.Common.{◌≡◌, ℕ, ◌+◌, ◌≤◌, List, [], ◌∷◌, ◌++◌, length, take, drop, add-one, refl, sym, ap, subst, ◌∙◌, arith, take-suc, append-nil, take_all, take-append-drop, slice_get_within, get_or_from_slice_get, flat_map, slice_get, Result, Ok, Err, OnOk, OnErr, append_told, Appends, AppendsPrefix, OnlyWrites, WroteAll, WrotePart, Gathers, Puts, spaced_number}
 use Rattle.std.proofs.Common.{append_assoc}
 use Rattle.std.proofs.lemmas.List.Concat.{flat_map-append}
 use Rattle.std.specs.List.{join_with_byte}
@@ -201,9 +201,10 @@ each-all {X} {A} {R} {E} {written} {settled} {faults} {value} {old} {new} {held}
 
 -- ---- lines
 
-pub line_of-numbers : (word : List ℕ) (numbers : List ℕ) → word ++ (flat_map spaced numbers ++ 10 ∷ [])
+pub line_of-numbers : (word : List ℕ) (numbers : List ℕ) → word ++ (flat_map spaced_number numbers ++ 10 ∷ [])
     ≡ line_of (word ∷ map decimal numbers)
 line_of-numbers word [] = refl
 line_of-numbers word (n ∷ numbers) =
-    ap (λ (t : List ℕ). word ++ 32 ∷ t) (append_assoc (decimal n) (flat_map spaced numbers) (10 ∷ []) ∙ line_of-numbers (decimal n) numbers)
+    ap (λ (t : List ℕ). word ++ 32 ∷ t)
+    (append_assoc (decimal n) (flat_map spaced_number numbers) (10 ∷ []) ∙ line_of-numbers (decimal n) numbers)
     ∙ sym (append_assoc word (32 ∷ join_with_byte 32 (decimal n ∷ map decimal numbers)) (10 ∷ []))

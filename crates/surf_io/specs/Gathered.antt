@@ -16,5 +16,5 @@ pub record Puts {X R E : Type 0} (written : X → Option (List ℕ)) (settled fa
   pub only_writes : OnlyWrites settled faults old new
 
 -- a number behind a blank
-abbrev pub spaced : ℕ → List ℕ
-spaced n = 32 ∷ decimal n
+abbrev pub spaced_number : ℕ → List ℕ
+spaced_number n = 32 ∷ decimal n

@@ -5,9 +5,9 @@ use Rattle.surf_io.specs.declared.stored_files.StoredFile.{StoredFile}
 use Rattle.surf_io.specs.Files.{Files}
 
 -- a file's name and its bytes
-abbrev pub entry_of : StoredFile → List ℕ × List ℕ
-entry_of file = (string_bytes file.name, file.bytes.items)
+abbrev pub file_entry : StoredFile → List ℕ × List ℕ
+file_entry file = (string_bytes file.name, file.bytes.items)
 
 -- the map of the files; the first one with a name is the one that counts
 abbrev pub files_of : List StoredFile → Files
-files_of files = finite.from_entries (map entry_of files)
+files_of files = finite.from_entries (map file_entry files)

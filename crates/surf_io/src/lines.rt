@@ -1,6 +1,6 @@
 //! Lines of words and numbers, put into a piece one after another.
 ghost use Rattle.std.specs.Prelude.{◌≤◌, [], ◌∷◌, length, map, flat_map, decimal};
-ghost use Rattle.surf_io.specs.Gathered.{Puts, spaced};
+ghost use Rattle.surf_io.specs.Gathered.{Puts, spaced_number};
 ghost use Rattle.text_scan.specs.Plain.{line_of};
 
 use crate::faults::Failed;
@@ -30,7 +30,7 @@ impl Piece {
 
     // Puts numbers, each behind a blank.
     fn put_numbers<K: Sink>(&mut self, numbers: &[u32], sink: &mut K) -> Result<(), Failed>
-        ensures { Puts K.written K.settled K.faults result sink.old sink.new self.old self.new (flat_map spaced numbers.now) }
+        ensures { Puts K.written K.settled K.faults result sink.old sink.new self.old self.new (flat_map spaced_number numbers.now) }
     {
         for number in numbers {
             self.put_behind(*number, sink)?;
@@ -40,7 +40,7 @@ impl Piece {
 
     /// Puts a number behind a blank. What has no room is written out.
     pub fn put_behind<K: Sink>(&mut self, number: u32, sink: &mut K) -> Result<(), Failed>
-        ensures { Puts K.written K.settled K.faults result sink.old sink.new self.old self.new (spaced number) }
+        ensures { Puts K.written K.settled K.faults result sink.old sink.new self.old self.new (spaced_number number) }
     {
         self.make_room(Piece::WORD, sink)?;
         self.put(b" ");

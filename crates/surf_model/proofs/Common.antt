@@ -20,7 +20,7 @@ pub use Rattle.surf_model.specs.Blocks.{AreBlocks, block_of, ended_side, side_bl
 pub use Rattle.surf_model.specs.Building.{AppendsGroup, AreGrouped, IsCounted, IsCutGroup, IsLasts, IsPartSorted, IsPlaced, IsRun, IsStarts, IsTableBelow, count_below, entry_of, group_among, group_of, has_ends, has_high, high_at, side_of_number}
 unfoldable pub use Rattle.surf_model.specs.Building.{high_end, low_end}
 pub use Rattle.surf_model.specs.Darts.{IsSide, first_side, head_of, side_number, tail_of}
-pub use Rattle.surf_model.specs.EdgeDarts.{IsNextInEdge, darts_of}
+pub use Rattle.surf_model.specs.EdgeDarts.{IsNextInEdge, edge_darts_of}
 pub use Rattle.surf_model.specs.EdgeLists.{DartEdge, IsEdgeList, dart_count, dart_edge_in, dart_of, stored_edges, zipped_edges}
 pub use Rattle.surf_model.specs.Edges.{Edge, HasEnds, IsEdgeOf, IsEndOf, IsPairBefore, IsTableOf, edge_in, side_name}
 pub use Rattle.surf_model.specs.FaceLists.{FaceList, FaceSide, IsFace, IsFaceList, PendingFace, corners_from, face_at, joins, next_corner, sides_of_face, total_sides}
@@ -30,7 +30,7 @@ pub use Rattle.surf_model.specs.Links.{IsLinked, dart_at, edge_at, is_end}
 pub use Rattle.surf_model.specs.Moves.{apply_all, replaced, same_walk}
 unfoldable pub use Rattle.surf_model.specs.Moves.{apply}
 pub use Rattle.surf_model.specs.Parts.{EndsRise, IsInPart, IsPartList, equal_ends, joined_ends, last_end, parts}
-pub use Rattle.surf_model.specs.Replacements.{IsReplacement, Replaces, place_of}
+pub use Rattle.surf_model.specs.Replacements.{IsReplacement, Replaces, place_of_move}
 pub use Rattle.surf_model.specs.Rewriting.{all_raised, inverse_of, raised, sides_of_move, way_back}
 pub use Rattle.surf_model.specs.StoredEdges.{IsNumbering, IsStoredTable, named_edge, named_edges, part_of, side_numbered}
 pub use Rattle.surf_model.specs.Surfaces.{ArePartners, sides_between}

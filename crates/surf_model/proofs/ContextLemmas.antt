@@ -1,5 +1,5 @@
 -- Moves in a longer walk: what stands in front and behind stays.
-use Rattle.surf_model.proofs.Common.{◌≡◌, ℕ, ◌+◌, ◌<◌, List, [], ◌∷◌, ◌++◌, length, refl, ap, sym, ◌∙◌, arith, append_assoc, length-append, Option, Some, None, option_and_then, FaceList, apply, apply_all, Replaces, place_of, raised, all_raised, Move, Insert, Remove, Across}
+use Rattle.surf_model.proofs.Common.{◌≡◌, ℕ, ◌+◌, ◌<◌, List, [], ◌∷◌, ◌++◌, length, refl, ap, sym, ◌∙◌, arith, append_assoc, length-append, Option, Some, None, option_and_then, FaceList, apply, apply_all, Replaces, place_of_move, raised, all_raised, Move, Insert, Remove, Across}
 use Rattle.surf_model.proofs.ReplacementLemmas.{by_replacing, length-corners_from}
 
 replaces_raised : (mesh : FaceList) (k : ℕ) (move : Move) (part other : List ℕ) → Replaces mesh move part other
@@ -8,7 +8,7 @@ replaces_raised mesh k (Insert at via) part other h = h
 replaces_raised mesh k (Remove at via) part other h = h
 replaces_raised mesh k (Across at face corner forward taken) part other h = h
 
-place_raised : (k : ℕ) (move : Move) → place_of (raised k move) ≡ k + place_of move
+place_raised : (k : ℕ) (move : Move) → place_of_move (raised k move) ≡ k + place_of_move move
 place_raised k (Insert at via) = refl
 place_raised k (Remove at via) = refl
 place_raised k (Across at face corner forward taken) = refl

@@ -1,5 +1,5 @@
 -- What a move leaves: a walk with the same ends, from which the move back leads home.
-use Rattle.surf_model.proofs.Common.{◌≡◌, ℕ, ◌+◌, ◌-◌, ◌<◌, Bool, not, List, [], ◌∷◌, ◌++◌, length, get_or, refl, ap, sym, ◌∙◌, subst, arith, append_assoc, length-append, common_steps, get_or-append-add, get_or_append_left, All-append, IsTrue, All, Some, FaceList, face_at, corners_from, is_used, apply, apply_all, Replaces, place_of, inverse_of, sides_of_move, way_back, IsWalk, HaveCommonEnds, Move, Insert, Remove, Across}
+use Rattle.surf_model.proofs.Common.{◌≡◌, ℕ, ◌+◌, ◌-◌, ◌<◌, Bool, not, List, [], ◌∷◌, ◌++◌, length, get_or, refl, ap, sym, ◌∙◌, subst, arith, append_assoc, length-append, common_steps, get_or-append-add, get_or_append_left, All-append, IsTrue, All, Some, FaceList, face_at, corners_from, is_used, apply, apply_all, Replaces, place_of_move, inverse_of, sides_of_move, way_back, IsWalk, HaveCommonEnds, Move, Insert, Remove, Across}
 use Rattle.std.proofs.Math.Bool.{not-not}
 use Rattle.surf_model.proofs.ReplacementLemmas.{by_replacing}
 use Rattle.surf_model.proofs.ContextLemmas.{stays_walk, first_answer, one_after_another}
@@ -159,7 +159,7 @@ keeps_ends mesh walk next move start e =
           ∙ sym (ap end_of (r.next_is ∙ at_last r.before r.other r.after a.other_front a.last a.other_ends));
     }
 
-place_back : (sides : ℕ) (move : Move) → place_of (inverse_of sides move) ≡ place_of move
+place_back : (sides : ℕ) (move : Move) → place_of_move (inverse_of sides move) ≡ place_of_move move
 place_back sides (Insert at via) = refl
 place_back sides (Remove at via) = refl
 place_back sides (Across at face corner forward taken) = refl

@@ -11,14 +11,15 @@ pub record HasDart (table : List Edge) (dart : ℕ) : Type 0 where
   pub below : dart < total_sides mesh
 
 -- the numbers of the sides of an edge, in order
-abbrev pub darts_of : FaceList → Edge → List ℕ
-darts_of mesh edge = map (side_number mesh) edge.sides
+abbrev pub edge_darts_of : FaceList → Edge → List ℕ
+edge_darts_of mesh edge = map (side_number mesh) edge.sides
 
 -- the two numbers stand in one edge of the table, the second behind the first, where the first one follows the last
 pub record IsNextInEdge (mesh : FaceList) (table : List Edge) (dart next : ℕ) : Type 0 where
   pub edge : ℕ
   pub place : ℕ
   pub in_table : edge < length table
-  pub in_edge : place < length (darts_of mesh (edge_in table edge))
-  pub here : slice_index (darts_of mesh (edge_in table edge)) place ≡ dart
-  pub there : slice_index (darts_of mesh (edge_in table edge)) (next_corner true (length (darts_of mesh (edge_in table edge))) place) ≡ next
+  pub in_edge : place < length (edge_darts_of mesh (edge_in table edge))
+  pub here : slice_index (edge_darts_of mesh (edge_in table edge)) place ≡ dart
+  pub there : slice_index (edge_darts_of mesh (edge_in table edge))
+      (next_corner true (length (edge_darts_of mesh (edge_in table edge))) place) ≡ next

@@ -5,10 +5,10 @@ use Rattle.surf_model.specs.declared.moves.Move.{Move}
 use Rattle.surf_model.specs.declared.moves.Move.TheVariants.{Insert, Remove, Across}
 
 -- the place of the walk at which a move acts
-abbrev pub place_of : Move → ℕ
-place_of (Insert at via) = at
-place_of (Remove at via) = at
-place_of (Across at face corner forward taken) = at
+abbrev pub place_of_move : Move → ℕ
+place_of_move (Insert at via) = at
+place_of_move (Remove at via) = at
+place_of_move (Across at face corner forward taken) = at
 
 -- the move replaces the first part by the second
 abbrev pub Replaces : FaceList → Move → List ℕ → List ℕ → Type 0
@@ -32,5 +32,5 @@ pub record IsReplacement (mesh : FaceList) (move : Move) (walk next : List ℕ) 
   pub after : List ℕ
   pub walk_is : walk ≡ before ++ part ++ after
   pub next_is : next ≡ before ++ other ++ after
-  pub place : length before ≡ place_of move
+  pub place : length before ≡ place_of_move move
   pub replaces : Replaces mesh move part other

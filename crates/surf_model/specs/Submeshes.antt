@@ -14,10 +14,10 @@ abbrev pub signs_among : List Bool → List ℕ → List Bool
 signs_among signs names = map (is_flipped signs) names
 
 -- a move of the submesh as a move of the whole mesh: the same, with the name that its face has there
-abbrev pub renamed_move : List ℕ → Move → Move
-renamed_move names (Insert at via) = Insert at via
-renamed_move names (Remove at via) = Remove at via
-renamed_move names (Across at face corner forward taken) = Across at (record { 0 = slice_index names face.0 }) corner forward taken
+abbrev pub move_of_whole_mesh : List ℕ → Move → Move
+move_of_whole_mesh names (Insert at via) = Insert at via
+move_of_whole_mesh names (Remove at via) = Remove at via
+move_of_whole_mesh names (Across at face corner forward taken) = Across at (record { 0 = slice_index names face.0 }) corner forward taken
 
 abbrev pub renamed_moves : List ℕ → List Move → List Move
-renamed_moves names moves = map (renamed_move names) moves
+renamed_moves names moves = map (move_of_whole_mesh names) moves

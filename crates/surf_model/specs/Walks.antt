@@ -1,5 +1,5 @@
 -- Walks along the edges of a mesh, as the lists of the vertices that they pass.
-use Rattle.std.specs.Prelude.{◌≡◌, ℕ, ◌+◌, ◌-◌, ◌<◌, List, length, slice_index, All, IsTrue}
+use Rattle.std.specs.Prelude.{◌≡◌, ℕ, ◌+◌, ◌-◌, ◌<◌, List, length, slice_index, All, IsTrue, slice_index_or, []}
 use Rattle.surf_model.specs.FaceLists.{FaceList, is_edge, is_used}
 
 -- how many darts a walk has: its neighbouring pairs
@@ -22,3 +22,7 @@ pub record AreWalkPair (mesh : FaceList) (first second : List ℕ) : Type 0 wher
   pub first_walk : IsWalk mesh first
   pub second_walk : IsWalk mesh second
   pub ends : HaveCommonEnds first second
+
+-- walk k of some, counted from 0
+abbrev pub walk_at : List (List ℕ) → ℕ → List ℕ
+walk_at walks k = slice_index_or walks k []

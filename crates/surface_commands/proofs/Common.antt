@@ -10,7 +10,7 @@ pub use Rattle.commands.specs.Answers.{Answer, OfOddChain, yes_with}
 pub use Rattle.commands.specs.Checks.{Check, End, Holds, IsTold, Pass, Passes, Refuse, pass, ◌>>=◌}
 pub use Rattle.commands.specs.Inputs.{IsInputOnSurface, SpellsMesh, SpellsPair, mesh_in, pair_in}
 pub use Rattle.commands.specs.Outcomes.{AnswersTo, IsAnswerOf, Outcome}
-pub use Rattle.commands.specs.Stops.{Reads, Stops, Tells}
+pub use Rattle.commands.specs.Stops.{EndsReading, Stops, Tells}
 pub use Rattle.commands.specs.declared.status.Status.{Status}
 pub use Rattle.commands.specs.declared.stop.Stop.{Stop}
 pub use Rattle.commands.specs.declared.stop.Stop.TheVariants.{OutOfMemory, ReadFault, Refused}
@@ -24,6 +24,6 @@ pub use Rattle.surf_model.specs.OrientableSurfaces.{HasComponents, IsOrientableS
 pub use Rattle.surf_model.specs.Surfaces.{IsClosedManifold, IsOrientable}
 pub use Rattle.surf_model.specs.declared.numbers.SurfaceNumbers.{SurfaceNumbers}
 pub use Rattle.surface_commands.specs.Surface.{HasFewComponents, IsMeasured, IsSurfaceInput, genera_of, genus_line, numbers_of, numbers_text, surface}
-pub use Rattle.surface_commands.specs.SurfaceInput.{as_surface, closed, of_few_components, surface_in}
+pub use Rattle.surface_commands.specs.SurfaceInput.{as_surface, closed_alone, of_few_components, surface_in}
 pub use Rattle.surface_commands.specs.SurfaceRefusals.{components_line, surface_line}
 pub use Rattle.surface_commands.specs.declared.surface.TheConstants.{MOST_COMPONENTS}

@@ -1,5 +1,5 @@
 -- Commands that read a surface, then walks of it, and answer what is asked of these.
-use Rattle.surface_commands.proofs.Common.{stops_next, stops_second, memory_no_fault, only_then, runs_faulty, runs_replied, runs_stopped, Answer, Check, Passes, ◌>>=◌, Reads, Stops, Stop, ReadFault, OutOfMemory, ◌≡◌, ℕ, List, inr, subst, Option, Result, Ok, Err, IsErrAnd, Files, FaceList, surface_in}
+use Rattle.surface_commands.proofs.Common.{stops_next, stops_second, memory_no_fault, only_then, runs_faulty, runs_replied, runs_stopped, Answer, Check, Passes, ◌>>=◌, EndsReading, Stops, Stop, ReadFault, OutOfMemory, ◌≡◌, ℕ, List, inr, subst, Option, Result, Ok, Err, IsErrAnd, Files, FaceList, surface_in}
 use Rattle.commands.specs.Replies.{Replies, Runs}
 use Rattle.commands.specs.declared.reply.Reply.{Reply}
 use Rattle.surf_io.specs.Calls.{OnlyReads}
@@ -11,7 +11,7 @@ command name walks_in next files = surface_in files name >>= (λ mesh. walks_in 
 
 module _ {X A V : Type 0} {held : X → Option Files} {faults : X → ℕ} {old mid : X} {thing : V} (name : List ℕ) (surface : FaceList)
     (walks_in : Option Files → FaceList → Check A) (next : FaceList → A → Check Answer)
-    (read : Reads {V = V} held faults old mid (λ files. Passes (surface_in files name) surface) (Ok thing)) where
+    (read : EndsReading {V = V} held faults old mid (λ files. Passes (surface_in files name) surface) (Ok thing)) where
   walks_stop : (stop : Stop) → Stops (walks_in (held mid) surface) stop → Stops (command name walks_in next (held old)) stop
   walks_stop stop stops =
       stops_second (surface_in (held old) name) (walks_in (held old)) next surface stop read.end
@@ -22,7 +22,8 @@ module _ {X A V : Type 0} {held : X → Option Files} {faults : X → ℕ} {old 
 
   -- the walks are refused
   pub runs_refused_walks : {new : X} {W : Type 0} {IsEnd : Option Files → Type 0} {stop : Stop} {result : Result Reply Stop}
-      → Reads {V = W} held faults mid new IsEnd (Err stop) → IsErrAnd result (λ e. e ≡ stop) → Stops (walks_in (held mid) surface) stop
+      → EndsReading {V = W} held faults mid new IsEnd (Err stop) → IsErrAnd result (λ e. e ≡ stop)
+      → Stops (walks_in (held mid) surface) stop
       → Runs held faults old new (command name walks_in next) result
   runs_refused_walks {new} {W} {IsEnd} {stop} h failed stops =
       runs_stopped (λ none. none.0.0.0) failed read.only_reads h (walks_stop stop stops)

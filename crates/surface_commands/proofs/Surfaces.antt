@@ -1,5 +1,5 @@
 -- How the checks of a surface end.
-use Rattle.surface_commands.proofs.Common.{stops_next, told_stops, sound-orientable, IsSound, sound-then, sound-unless_fault, OfOddChain, End, Refuse, Pass, Passes, mesh_in, Stops, Tells, Stop, Refused, IsFirstFault, ◌≡◌, inl, inr, ℕ, ◌<◌, ◌≤◌, List, refl, sym, ap, subst, arith, Option, Result, Ok, Err, IfOk, MatchResult, length, Files, FaceList, IsFaceList, HasComponents, IsClosedManifold, as_surface, closed, surface_in, of_few_components, surface_line, components_line}
+use Rattle.surface_commands.proofs.Common.{stops_next, told_stops, sound-orientable, IsSound, sound-then, sound-unless_fault, OfOddChain, End, Refuse, Pass, Passes, mesh_in, Stops, Tells, Stop, Refused, IsFirstFault, ◌≡◌, inl, inr, ℕ, ◌<◌, ◌≤◌, List, refl, sym, ap, subst, arith, Option, Result, Ok, Err, IfOk, MatchResult, length, Files, FaceList, IsFaceList, HasComponents, IsClosedManifold, as_surface, closed_alone, surface_in, of_few_components, surface_line, components_line}
 use Rattle.closed_surfaces.proofs.SomeParts.{some_parts, same_count}
 use Rattle.closed_surfaces.specs.SignedSurfaces.{IsNoSurface}
 use Rattle.closed_surfaces.specs.declared.signed_mesh.NoSurface.{NoSurface}
@@ -12,9 +12,10 @@ use Rattle.std.proofs.lemmas.Bool.{cases_lt}
 use Rattle.surf_model.specs.ComponentParts.{PartsView, AreParts}
 use Rattle.surf_model.specs.declared.chains.ChainLink.{ChainLink}
 
-pub sound-closed : (held : Option Files) (mesh : FaceList) → IsFaceList mesh → IsSound held (closed mesh)
+pub sound-closed : (held : Option Files) (mesh : FaceList) → IsFaceList mesh → IsSound held (closed_alone mesh)
 sound-closed held mesh valid =
-    sound-unless_fault (closed mesh) surface_line (IsFirstFault mesh) (IsClosedManifold mesh) mesh (λ _ h. h) (λ _ h. h) (one_fault mesh)
+    sound-unless_fault (closed_alone mesh) surface_line (IsFirstFault mesh) (IsClosedManifold mesh) mesh (λ _ h. h) (λ _ h. h)
+    (one_fault mesh)
     (no_fault mesh) held
     (λ none. closed_or_fault mesh valid (λ is. none (Pass mesh) (is, refl))
     (λ fault is. none (Refuse (surface_line fault)) (fault, is, refl)))

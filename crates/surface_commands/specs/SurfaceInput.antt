@@ -12,8 +12,8 @@ use Rattle.commands.specs.Inputs.{mesh_in, orientable}
 use Rattle.surface_commands.specs.SurfaceRefusals.{surface_line, components_line}
 
 -- a closed manifold passes, and any other mesh is refused for its first fault
-abbrev pub closed : FaceList → Check FaceList
-closed mesh = without_files ends
+abbrev pub closed_alone : FaceList → Check FaceList
+closed_alone mesh = without_files ends
   where
     ends : End FaceList → Type 0
     ends (Refuse texts) = (fault : SurfaceFault) × IsFirstFault mesh fault × (texts ≡ surface_line fault)
@@ -22,7 +22,7 @@ closed mesh = without_files ends
 -- an orientable closed surface passes
 abbrev pub as_surface : FaceList → Check FaceList
 as_surface mesh = do
-  surface ← closed mesh
+  surface ← closed_alone mesh
   orientable surface
 
 -- the orientable closed surface that the file spells

@@ -4,7 +4,7 @@ ghost use Rattle.surf_model.specs.ComponentParts.{AreParts};
 ghost use Rattle.orientation.specs.Classes.{IsLeastKept};
 ghost use Rattle.commands.specs.Checks.{Passes};
 ghost use Rattle.closed_surfaces.specs.SignedSurfaces.{IsSigned};
-ghost use Rattle.commands.specs.Stops.{Ends, Reads, Stops};
+ghost use Rattle.commands.specs.Stops.{Ends, EndsReading, Stops};
 ghost use Rattle.surface_commands.specs.SurfaceInput.{as_surface, of_few_components, surface_in};
 ghost use Rattle.commands.specs.declared.stop.Stop.{Stop};
 
@@ -19,7 +19,7 @@ use surf_model::Faces;
 /// The surface in the file `name`: its mesh, with the table of its edges, and with the signs that keep the least face of each
 /// component. Where the mesh is no orientable closed surface, the first condition of one that fails stops the command.
 pub fn read_surface<S: Shelf>(alloc: Global, shelf: &mut S, name: &str) -> Result<SignedMesh, Stop>
-    ensures reads { Reads S.held S.faults shelf.old shelf.new (λ files. MatchResult result
+    ensures reads { EndsReading S.held S.faults shelf.old shelf.new (λ files. MatchResult result
         (λ surface. Passes (surface_in files name.now) surface.faces) (Stops (surface_in files name.now))) result }
     ensures signed { IfOk result IsSigned }
     ensures least_kept { IfOk result (λ surface. IsLeastKept surface.faces surface.signs) }

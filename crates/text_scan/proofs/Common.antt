@@ -10,7 +10,7 @@ pub use Rattle.std.specs.List.{after_first, before_first, list_all, list_any, on
 pub use Rattle.std.specs.Prelude.{All, Err, MatchOption, None, Ok, Option, Result, Some, bytes_eq, codes, decimal, flat_map, map, nat_le, negsuc, option_map, pos, position, unwrap_or, ℤ}
 pub use Rattle.text_scan.specs.Each.{each_some, ok_first}
 pub use Rattle.text_scan.specs.Lines.{Line, full_lines, is_blank, is_filled, uncommented}
-unfoldable pub use Rattle.text_scan.specs.Lines.{cut, lines_from, unmarked, words}
+unfoldable pub use Rattle.text_scan.specs.Lines.{cut_lines, lines_from, unmarked, words}
 pub use Rattle.text_scan.specs.Numbers.{fits_i64, has_exponent_or_none, integer_of, is_decimal, is_digit, is_exponent_mark, is_point, is_unsigned_text, natural_of, number_below, number_of, signed_of, unsigned}
 unfoldable pub use Rattle.text_scan.specs.Numbers.{is_natural, is_number_text, value_of}
 pub use Rattle.text_scan.specs.Steps.{ArePastDigits, IsFirstWord, IsLineEnd, IsPast, IsPastDecimal, IsPastDigits, begins_with, begins_word, ends_word, from_first}

@@ -1,5 +1,5 @@
 -- The words of the present line and the lines behind it, byte by byte from a place in a text.
-use Rattle.text_scan.proofs.Common.{◌≡◌, ℕ, ◌+◌, Bool, true, false, cond, eqb, ◌||◌, List, [], ◌∷◌, filter, refl, sym, ap, ◌∙◌, inl, inr, arith, or_parts, or_cases, not-true, eqb-true, ne_eqb, before_first, slice_split, onto_first, is_filled, is_blank, uncommented, cut, words, lines_from, ends_word, from_first, begins_word, is_line_feed, words_here, behind}
+use Rattle.text_scan.proofs.Common.{◌≡◌, ℕ, ◌+◌, Bool, true, false, cond, eqb, ◌||◌, List, [], ◌∷◌, filter, refl, sym, ap, ◌∙◌, inl, inr, arith, or_parts, or_cases, not-true, eqb-true, ne_eqb, before_first, slice_split, onto_first, is_filled, is_blank, uncommented, cut_lines, words, lines_from, ends_word, from_first, begins_word, is_line_feed, words_here, behind}
 use Rattle.text_scan.proofs.ListLemmas.{before_first-yes, before_first-no, after_first-yes, after_first-no, from_first-yes, from_first-no}
 
 abbrev pub is_hash : ℕ → Bool
@@ -113,16 +113,16 @@ behind-other byte rest e = after_first-no is_line_feed byte rest e
 
 -- a text that is not empty begins with its first line
 abbrev pub BeginsWithLine : List ℕ → Type 0
-BeginsWithLine rest = cut rest ≡ before_first is_line_feed rest ∷ cut (behind rest)
+BeginsWithLine rest = cut_lines rest ≡ before_first is_line_feed rest ∷ cut_lines (behind rest)
 
 cut_by_cases : (byte : ℕ) (rest : List ℕ) → (b : Bool) → is_line_feed byte ≡ b
-    → onto_first byte (cut rest) ≡ (byte ∷ before_first is_line_feed rest) ∷ cut (behind rest) → BeginsWithLine (byte ∷ rest)
-unfolding cut
+    → onto_first byte (cut_lines rest) ≡ (byte ∷ before_first is_line_feed rest) ∷ cut_lines (behind rest) → BeginsWithLine (byte ∷ rest)
+unfolding cut_lines
 cut_by_cases byte rest true e others = rw (behind-line_feed byte rest e, before_first-yes is_line_feed byte rest e, e) refl
 cut_by_cases byte rest false e others = rw (behind-other byte rest e, before_first-no is_line_feed byte rest e, e) others
 
 pub cut_first : (byte : ℕ) (rest : List ℕ) → BeginsWithLine (byte ∷ rest)
-unfolding cut behind
+unfolding cut_lines behind
 cut_first byte [] = cut_by_cases byte [] (is_line_feed byte) refl refl
 cut_first byte (next ∷ rest) = cut_by_cases byte (next ∷ rest) (is_line_feed byte) refl (ap (onto_first byte) (cut_first next rest))
 
@@ -130,6 +130,6 @@ cut_first byte (next ∷ rest) = cut_by_cases byte (next ∷ rest) (is_line_feed
 pub lines_from_here : (n : ℕ) (rest : List ℕ)
     → lines_from n rest ≡ cond (is_filled (words_here rest)) (record { number = n; words = words_here rest }
     ∷ lines_from (n + 1) (behind rest)) (lines_from (n + 1) (behind rest))
-unfolding lines_from words_here words cut behind
+unfolding lines_from words_here words cut_lines behind
 lines_from_here n [] = refl
 lines_from_here n (byte ∷ rest) = grind (arith, cut_first)

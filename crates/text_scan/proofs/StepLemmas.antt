@@ -1,5 +1,5 @@
 -- One step over the bytes of a text.
-use Rattle.text_scan.proofs.Common.{◌≡◌, ◌≢◌, ℕ, ◌+◌, ◌-◌, ◌*◌, ◌/◌, ◌^◌, ◌<◌, ◌≤◌, min, Bool, true, false, cond, not, eqb, ◌||◌, List, [], ◌∷◌, ◌++◌, length, take, drop, get_or, length-append, length-drop, refl, sym, ap, subst, ◌∙◌, append_assoc, inl, inr, arith, cases_Bool, not-true, not-false, eq-eqb, and_parts, and_from, and_left, and_right, or_parts, common_steps, pow_more, take_all, get_or-drop, drop-drop, list_all-append, fold-append, list_all, before_first, position_or_len, onto_first, Some, None, option_map, is_filled, is_blank, cut, lines_from, is_digit, is_natural, value_of, natural_of, ends_word, from_first, begins_with, begins_word, IsPast, ArePastDigits, IsLineEnd, is_line_feed, words_here, behind, next_natural}
+use Rattle.text_scan.proofs.Common.{◌≡◌, ◌≢◌, ℕ, ◌+◌, ◌-◌, ◌*◌, ◌/◌, ◌^◌, ◌<◌, ◌≤◌, min, Bool, true, false, cond, not, eqb, ◌||◌, List, [], ◌∷◌, ◌++◌, length, take, drop, get_or, length-append, length-drop, refl, sym, ap, subst, ◌∙◌, append_assoc, inl, inr, arith, cases_Bool, not-true, not-false, eq-eqb, and_parts, and_from, and_left, and_right, or_parts, common_steps, pow_more, take_all, get_or-drop, drop-drop, list_all-append, fold-append, list_all, before_first, position_or_len, onto_first, Some, None, option_map, is_filled, is_blank, cut_lines, lines_from, is_digit, is_natural, value_of, natural_of, ends_word, from_first, begins_with, begins_word, IsPast, ArePastDigits, IsLineEnd, is_line_feed, words_here, behind, next_natural}
 use Rattle.std.proofs.Math.Nat.{min-eq_left, pow-le-pow_right}
 use Rattle.text_scan.proofs.ListLemmas.{before_first-yes, before_first-no, from_first-yes, from_first-no, before_first-append, from_first-append}
 use Rattle.text_scan.proofs.PlaceLemmas.{is_hash, words_here-nil, words_here-line_feed, words_here-hash, words_here-blank, words_here-word, behind-nil, behind-line_feed, behind-other, cut_first, lines_from_here}
@@ -79,7 +79,7 @@ pass_comment n m bytes rest after =
     grind (arith, common_steps, by_head, behind, same_lines, words_here-hash, behind-other, hash_is_no_feed)
 
 pub no_more : (n m : ℕ) (bytes rest : List ℕ) → length rest < 1 → SoFar n bytes m rest → lines_from n bytes ≡ []
-unfolding lines_from cut
+unfolding lines_from cut_lines
 no_more n m bytes [] h so_far = so_far.0
 no_more n m bytes (byte ∷ rest) h so_far = absurd (omega (arith, h))
 
@@ -347,7 +347,7 @@ behind-shorter rest = omega (arith, length-drop (position_or_len is_line_feed re
 
 -- one line more
 pub one_line : (rest : List ℕ) → eqb (length rest) 0 ≡ false
-    → (length (cut rest) ≡ length (cut (behind rest)) + 1) × (length (behind rest) < length rest)
+    → (length (cut_lines rest) ≡ length (cut_lines (behind rest)) + 1) × (length (behind rest) < length rest)
 one_line [] some = absurd (grind (arith, some))
 one_line (byte ∷ rest) some = (omega (arith, ap length (cut_first byte rest)), shorter (is_line_feed byte) refl)
   where
@@ -355,15 +355,15 @@ one_line (byte ∷ rest) some = (omega (arith, ap length (cut_first byte rest)),
     shorter true e = omega (arith, ap length (behind-line_feed byte rest e))
     shorter false e = omega (arith, ap length (behind-other byte rest e), behind-shorter rest)
 
-pub no_lines : (rest : List ℕ) → eqb (length rest) 0 ≡ true → length (cut rest) ≡ 0
-unfolding cut
+pub no_lines : (rest : List ℕ) → eqb (length rest) 0 ≡ true → length (cut_lines rest) ≡ 0
+unfolding cut_lines
 no_lines [] none = refl
 no_lines (byte ∷ rest) none = absurd (grind (arith, none))
 
-pub few_lines : (text : List ℕ) → length (cut text) ≤ length text
-unfolding cut
+pub few_lines : (text : List ℕ) → length (cut_lines text) ≤ length text
+unfolding cut_lines
 few_lines [] = omega arith
-few_lines (byte ∷ text) = by_test (is_line_feed byte) (cut text) (few_lines text)
+few_lines (byte ∷ text) = by_test (is_line_feed byte) (cut_lines text) (few_lines text)
   where
     by_test : (b : Bool) (lines : List (List ℕ)) → length lines ≤ length text
         → length (cond b ([] ∷ lines) (onto_first byte lines)) ≤ length (byte ∷ text)

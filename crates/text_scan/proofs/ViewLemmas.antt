@@ -1,5 +1,5 @@
 -- What the steps over the bytes are to what is left to read.
-use Rattle.text_scan.proofs.Common.{◌≡◌, ℕ, ◌+◌, Bool, true, false, List, [], ◌∷◌, drop, refl, sym, ap, subst, ◌∙◌, take, filter, cond, ◌<◌, ◌≤◌, ◌^◌, ◌-◌, arith, Bor, eqb, length, common_steps, before_first, slice_split, onto_first, Option, Some, None, MatchOption, unwrap_or, cut, is_filled, is_blank, words, unmarked, lines_from, full_lines, ends_word, begins_with, begins_word, IsPast, IsFirstWord, Unread, LinesLeft, lines_left, at_line, past_word, next_word, words_here, behind, unread_at}
+use Rattle.text_scan.proofs.Common.{◌≡◌, ℕ, ◌+◌, Bool, true, false, List, [], ◌∷◌, drop, refl, sym, ap, subst, ◌∙◌, take, filter, cond, ◌<◌, ◌≤◌, ◌^◌, ◌-◌, arith, Bor, eqb, length, common_steps, before_first, slice_split, onto_first, Option, Some, None, MatchOption, unwrap_or, cut_lines, is_filled, is_blank, words, unmarked, lines_from, full_lines, ends_word, begins_with, begins_word, IsPast, IsFirstWord, Unread, LinesLeft, lines_left, at_line, past_word, next_word, words_here, behind, unread_at}
 use Rattle.std.specs.Cmp.Lexicographic.{pointwise}
 use Rattle.text_scan.proofs.PlaceLemmas.{words_here-word, lines_from_here}
 use Rattle.text_scan.proofs.StepLemmas.{no_word}
@@ -130,9 +130,9 @@ few_here text n rest unread is some fits = omega (arith, some, fits, few_words r
 -- ---- line by line
 
 pub a_line : (n m : ℕ) (rest found after text : List ℕ) (left : LinesLeft)
-    → record { lines = lines_from n rest; count = length (cut text) } ≡ left → IsFirstWord n rest m found
+    → record { lines = lines_from n rest; count = length (cut_lines text) } ≡ left → IsFirstWord n rest m found
     → words_here after ≡ [] → behind after ≡ behind found
-    → left ≡ record { lines = record { number = m; words = words_here found } ∷ lines_from m after; count = length (cut text) }
+    → left ≡ record { lines = record { number = m; words = words_here found } ∷ lines_from m after; count = length (cut_lines text) }
 a_line n m rest found after text left is h none same = grind (arith, words_here-word, behind, lines_from_here)
 
 pub none_in_line : (rest after : List ℕ) (left : List (List ℕ)) → words_here rest ≡ left → IsPast 0 rest after

@@ -1,5 +1,5 @@
 -- Lines that were written are read again.
-use Rattle.text_scan.proofs.Common.{◌≡◌, ℕ, suc, ◌==◌, ◌+◌, ◌-◌, ◌%◌, ◌^◌, ◌<◌, ◌≤◌, true, false, not, List, [], ◌∷◌, ◌++◌, refl, ap, ◌∙◌, append_assoc, arith, lt-ltb, leb-true, and_parts, and_from, common_steps, list_all-append, list_all, Some, nat_le, decimal, flat_map, All, ℤ, pos, negsuc, option_map, map, each_some, Line, is_filled, cut, lines_from, is_digit, is_natural, value_of, natural_of, signed_of, fits_i64, number_below, number_of, integer_of, ends_word, begins_word, from_first, is_line_feed, words_here, behind}
+use Rattle.text_scan.proofs.Common.{◌≡◌, ℕ, suc, ◌==◌, ◌+◌, ◌-◌, ◌%◌, ◌^◌, ◌<◌, ◌≤◌, true, false, not, List, [], ◌∷◌, ◌++◌, refl, ap, ◌∙◌, append_assoc, arith, lt-ltb, leb-true, and_parts, and_from, common_steps, list_all-append, list_all, Some, nat_le, decimal, flat_map, All, ℤ, pos, negsuc, option_map, map, each_some, Line, is_filled, cut_lines, lines_from, is_digit, is_natural, value_of, natural_of, signed_of, fits_i64, number_below, number_of, integer_of, ends_word, begins_word, from_first, is_line_feed, words_here, behind}
 use Rattle.std.proofs.lemmas.Fmt.{decimal_by_steps}
 use Rattle.std.proofs.lemmas.List.{append-nil}
 use Rattle.std.proofs.lemmas.List.Elements.{All-head, All-tail, All-cons, All-nil}
@@ -82,7 +82,7 @@ numbered n (words ∷ lines) = record { number = n; words = words } ∷ numbered
 
 pub lines_from-written : (n : ℕ) (lines : List (List (List ℕ))) → All IsLine lines
     → lines_from n (flat_map line_of lines) ≡ numbered n lines
-unfolding lines_from cut
+unfolding lines_from cut_lines
 lines_from-written n [] all = refl
 lines_from-written n ([] ∷ lines) all = let first = All-head IsLine [] lines all in cc
 lines_from-written n ((word ∷ words) ∷ lines) all =

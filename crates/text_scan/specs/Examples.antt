@@ -1,6 +1,6 @@
 -- The definitions at work. Each line is proved by computing.
 use Rattle.std.specs.Prelude.{◌≡◌, ℕ, true, false, List, [], ◌∷◌, ◌++◌, map, Some, None, codes, refl, pos, negsuc}
-use Rattle.text_scan.specs.Lines.{Line, unmarked, cut, words, lines_from, full_lines, end_line}
+use Rattle.text_scan.specs.Lines.{Line, unmarked, cut_lines, words, lines_from, full_lines, end_line}
 use Rattle.text_scan.specs.Unread.{are_words}
 use Rattle.text_scan.specs.Numbers.{is_natural, value_of, natural_of, signed_of, number_of, integer_of, is_number_text}
 
@@ -14,16 +14,16 @@ abbrev line : ℕ → List (List ℕ) → Line
 line number words = record { number = number; words = words }
 
 -- Behind a last line feed there is no line, but an empty line between two line feeds is one.
-three_lines : cut (text (codes "a" ∷ [] ∷ codes "b" ∷ [] ∷ [])) ≡ codes "a" ∷ [] ∷ codes "b" ∷ []
-unfolding cut
+three_lines : cut_lines (text (codes "a" ∷ [] ∷ codes "b" ∷ [] ∷ [])) ≡ codes "a" ∷ [] ∷ codes "b" ∷ []
+unfolding cut_lines
 three_lines = refl
 
-no_line_feed_at_the_end : cut (codes "ab") ≡ codes "ab" ∷ []
-unfolding cut
+no_line_feed_at_the_end : cut_lines (codes "ab") ≡ codes "ab" ∷ []
+unfolding cut_lines
 no_line_feed_at_the_end = refl
 
-no_lines : cut [] ≡ []
-unfolding cut
+no_lines : cut_lines [] ≡ []
+unfolding cut_lines
 no_lines = refl
 
 -- The five blanks, of which two are seldom seen, and a comment that begins in a word.
@@ -38,24 +38,24 @@ only_a_comment = refl
 -- Blank lines are passed over and counted.
 numbered : full_lines (text (codes "# title" ∷ codes "OFF" ∷ [] ∷ codes " 4 4" ∷ []))
     ≡ line 2 (codes "OFF" ∷ []) ∷ line 4 (codes "4" ∷ codes "4" ∷ []) ∷ []
-unfolding unmarked cut words lines_from
+unfolding unmarked cut_lines words lines_from
 numbered = refl
 
 the_end : end_line (text (codes "a" ∷ codes "b" ∷ [] ∷ [])) ≡ 3
-unfolding unmarked cut
+unfolding unmarked cut_lines
 the_end = refl
 
 the_end_of_nothing : end_line (239 ∷ 187 ∷ 191 ∷ []) ≡ 1
-unfolding unmarked cut
+unfolding unmarked cut_lines
 the_end_of_nothing = refl
 
 -- One byte-order mark is passed over; a second is the first word's.
 one_mark : full_lines (239 ∷ 187 ∷ 191 ∷ codes "OFF") ≡ line 1 (codes "OFF" ∷ []) ∷ []
-unfolding unmarked cut words lines_from
+unfolding unmarked cut_lines words lines_from
 one_mark = refl
 
 two_marks : full_lines (239 ∷ 187 ∷ 191 ∷ 239 ∷ 187 ∷ 191 ∷ codes "OFF") ≡ line 1 ((239 ∷ 187 ∷ 191 ∷ codes "OFF") ∷ []) ∷ []
-unfolding unmarked cut words lines_from
+unfolding unmarked cut_lines words lines_from
 two_marks = refl
 
 -- A natural has any length; a sign, a point and an empty word make none.

@@ -13,9 +13,9 @@ unfoldable pub unmarked : List ℕ → List ℕ
 unmarked text = if bytes_eq (take 3 text) (239 ∷ 187 ∷ 191 ∷ []) then drop 3 text else text
 
 -- the lines, cut at each line feed; behind a last line feed there is none
-unfoldable pub cut : List ℕ → List (List ℕ)
-cut [] = []
-cut (byte ∷ rest) = if byte == 10 then [] ∷ cut rest else onto_first byte (cut rest)
+unfoldable pub cut_lines : List ℕ → List (List ℕ)
+cut_lines [] = []
+cut_lines (byte ∷ rest) = if byte == 10 then [] ∷ cut_lines rest else onto_first byte (cut_lines rest)
 
 -- a blank, a tab, a vertical tab, a form feed or a carriage return
 abbrev pub is_blank : ℕ → Bool
@@ -37,7 +37,7 @@ pub record Line : Type 0 where
 -- the lines of a text that have words, where its first line has number n
 unfoldable pub lines_from : ℕ → List ℕ → List Line
 lines_from n text =
-    filter (λ line. is_filled line.words) (map (λ p. record { number = p.0; words = words p.1 }) (enumerate_from n (cut text)))
+    filter (λ line. is_filled line.words) (map (λ p. record { number = p.0; words = words p.1 }) (enumerate_from n (cut_lines text)))
 
 -- the lines of a whole text that are not blank: lines are counted from 1, blank ones too
 abbrev pub full_lines : List ℕ → List Line
@@ -45,7 +45,7 @@ full_lines text = lines_from 1 (unmarked text)
 
 -- the number of lines of a whole text
 abbrev pub line_count : List ℕ → ℕ
-line_count text = length (cut (unmarked text))
+line_count text = length (cut_lines (unmarked text))
 
 -- the line where a text ends: one more than its number of lines
 abbrev pub end_line : List ℕ → ℕ

@@ -2,7 +2,7 @@
 use Rattle.std.specs.Prelude.{ℕ, ℤ, ◌+◌, ◌==◌, ◌&&◌, if◌then◌else◌, List, [], ◌∷◌, length, drop, Bool, true, false, Option, None, Some}
 use Rattle.std.specs.List.{before_first, after_first}
 use Rattle.std.specs.Str.{bytes_eq}
-use Rattle.text_scan.specs.Lines.{Line, is_filled, words, cut, lines_from}
+use Rattle.text_scan.specs.Lines.{Line, is_filled, words, cut_lines, lines_from}
 use Rattle.text_scan.specs.Numbers.{natural_of, number_of, integer_of, is_number_text}
 
 -- a place in a text: the number of the present line, the words left in it, the lines behind it that are not blank,
@@ -77,4 +77,4 @@ behind = after_first is_line_feed
 -- what is left of a text without a mark where the bytes `rest` are left, the first of them in line `line`
 abbrev pub unread_at : List ℕ → ℕ → List ℕ → Unread
 unread_at text line rest =
-    record { line = line; words = words_here rest; lines = lines_from (line + 1) (behind rest); end_line = length (cut text) + 1 }
+    record { line = line; words = words_here rest; lines = lines_from (line + 1) (behind rest); end_line = length (cut_lines text) + 1 }

@@ -20,12 +20,12 @@ pub struct Lines<'a> {
 
 impl<'a> Model for Lines<'a> {
     ghost use Rattle.std.specs.Prelude.{◌+◌, ◌^◌, ◌<◌, length};
-    ghost use Rattle.text_scan.specs.Lines.{cut, lines_from};
+    ghost use Rattle.text_scan.specs.Lines.{cut_lines, lines_from};
     ghost use Rattle.text_scan.specs.Unread.{LinesLeft};
 
     ghost Value = { LinesLeft };
 
-    ghost view = { λ a. record { lines = lines_from a.line a.rest.now; count = length (cut a.text.now) } };
+    ghost view = { λ a. record { lines = lines_from a.line a.rest.now; count = length (cut_lines a.text.now) } };
 
     ghost invariant = { λ a. a.line + length a.rest.now < 2 ^ 64 };
 }

@@ -1,6 +1,6 @@
 //! Steps over the bytes of a text.
 ghost use Rattle.std.specs.Prelude.{◌≡◌, ℕ, List, ◌+◌, ◌-◌, ◌^◌, ◌<◌, ◌≤◌, ◌==◌, min, not, true, false, [], Some, IfSome, IfNone, IsTrue, is_some, MatchOption, option_map, length};
-ghost use Rattle.text_scan.specs.Lines.{is_blank, cut, lines_from};
+ghost use Rattle.text_scan.specs.Lines.{is_blank, cut_lines, lines_from};
 ghost use Rattle.text_scan.specs.Numbers.{is_digit};
 ghost use Rattle.text_scan.specs.Unread.{words_here, behind, next_natural, next_is_number_text};
 ghost use Rattle.std.specs.List.{before_first};
@@ -64,7 +64,7 @@ fn after_line_feed(bytes: &[u8]) -> &[u8]
 
 /// The number of lines.
 pub(crate) fn line_count(text: &[u8]) -> u64
-    ensures { result ≡ length (cut text.now) }
+    ensures { result ≡ length (cut_lines text.now) }
 {
     let mut count: u64 = 0;
     let mut rest = text;

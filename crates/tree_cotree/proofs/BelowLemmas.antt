@@ -1,5 +1,5 @@
 -- The face below each edge, by the darts that are kept for the faces.
-use Rattle.tree_cotree.proofs.Common.{Rotations, ◌≡◌, ◌≢◌, inl, inr, ℕ, zero, suc, ◌+◌, ◌<◌, List, length, refl, ap, sym, ◌∙◌, subst, arith, set, cases_eq, common_steps, length-replicate, length-set, get_or-set_same, get_or-set_other, Option, Some, None, is_some, replicate, AreBelowEdges, AreApart, kept_at}
+use Rattle.tree_cotree.proofs.Common.{Rotations, ◌≡◌, ◌≢◌, inl, inr, ℕ, zero, suc, ◌+◌, ◌<◌, List, length, refl, ap, sym, ◌∙◌, subst, arith, set, cases_eq, common_steps, length-replicate, length-set, get_or-set_same, get_or-set_other, Option, Some, None, is_some, replicate, AreBelowEdges, AreDartsApart, kept_at}
 use Rattle.tree_cotree.proofs.SetLemmas.{with_one, with_itself, with_other}
 use Rattle.tree_cotree.proofs.SearchLemmas.{not_both}
 use Rattle.tree_cotree.proofs.TreeLemmas.{marked_none, marked_skip, marked_more}
@@ -13,7 +13,7 @@ below_skip : {maps : Rotations} {from : List (Option ℕ)} {edges n : ℕ} {belo
 below_skip {from} {n} h none = grind (arith, marked_skip, not_both)
 
 below_more : {maps : Rotations} {from : List (Option ℕ)} {edges n : ℕ} (x : ℕ) {below : ℕ → Option ℕ} (more : ℕ → Option ℕ)
-    → AreApart maps from → AreBelowEdges maps from edges below n
+    → AreDartsApart maps from → AreBelowEdges maps from edges below n
     → kept_at from n ≡ Some x → maps.edge x < edges → more (maps.edge x) ≡ Some n → ((e : ℕ) → e ≢ maps.edge x → more e ≡ below e)
     → AreBelowEdges maps from edges more (n + 1)
 below_more {maps} {from} {n} x {below} more apart h some l here other =
@@ -40,7 +40,7 @@ pub faces_skip : {maps : Rotations} {from : List (Option ℕ)} {edges n : ℕ} (
 faces_skip faces h none = below_skip h none
 
 pub faces_more : {maps : Rotations} {from : List (Option ℕ)} {edges n : ℕ} (x : ℕ) (faces : List (Option ℕ))
-    → AreApart maps from → length faces ≡ edges → AreBelowEdges maps from edges (kept_at faces) n
+    → AreDartsApart maps from → length faces ≡ edges → AreBelowEdges maps from edges (kept_at faces) n
     → kept_at from n ≡ Some x → maps.edge x < edges
     → AreBelowEdges maps from edges (kept_at (set faces (maps.edge x) (Some n))) (n + 1)
 faces_more {maps} {n} x faces apart long h some l =
@@ -49,7 +49,7 @@ faces_more {maps} {n} x faces apart long h some l =
     (λ e ne. get_or-set_other faces (maps.edge x) e (Some n) None ne)
 
 -- such a list is there
-faces_next : {maps : Rotations} {from : List (Option ℕ)} {edges n : ℕ} → AreApart maps from
+faces_next : {maps : Rotations} {from : List (Option ℕ)} {edges n : ℕ} → AreDartsApart maps from
     → ((v x : ℕ) → kept_at from v ≡ Some x → maps.edge x < edges)
     → (faces : List (Option ℕ)) → length faces ≡ edges → AreBelowEdges maps from edges (kept_at faces) n
     → (o : Option ℕ) → kept_at from n ≡ o
@@ -61,7 +61,7 @@ faces_next {maps} {n} apart within faces long h (Some x) is = (
   faces_more x faces apart long h is (within n x is),
 )
 
-pub faces_there : {maps : Rotations} {from : List (Option ℕ)} (edges : ℕ) → AreApart maps from
+pub faces_there : {maps : Rotations} {from : List (Option ℕ)} (edges : ℕ) → AreDartsApart maps from
     → ((v x : ℕ) → kept_at from v ≡ Some x → maps.edge x < edges) → (n : ℕ)
     → (faces : List (Option ℕ)) × (length faces ≡ edges) × AreBelowEdges maps from edges (kept_at faces) n
 faces_there {maps} {from} edges apart within zero =

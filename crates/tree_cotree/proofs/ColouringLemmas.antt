@@ -1,6 +1,6 @@
 -- Kinds of edges that are made by joining classes, edge by edge: what they are when the edges below n have been tried, and the trees that
 -- they make in the end.
-use Rattle.tree_cotree.proofs.Common.{joined_at_same, joined_at_ends, joined_refl, joined_step, joined_trans, joined_at, rotation_system, names_all, OrientedMesh, IsOrientedSurface, Rotations, rotations_of, IsRotationSystem, IsDartStep, IsDartFrom, ◌≡◌, ◌≢◌, inl, inr, ℕ, ◌+◌, ◌/◌, ◌<◌, ◌≤◌, Bool, true, false, List, [], ◌∷◌, length, get_or, refl, ap, sym, ◌∙◌, subst, arith, set, cases_Bool, cases_eq, both_ways, common_steps, length-replicate, get_or-set_same, get_or-set_other, length-set, range_with_len, replicate, count_below, IsPath, AreJoined, HasColouredTrees, without_ways, ColouringView, bound_of, is_node_of, kind_over, AreEnds, HangTogether, AreSpanned, IsTried, node_of, same_kind, has_kind, StepsIn, HasOneRing, SplitView, HasTrees, in_tree, in_cotree, is_left, Nodes, Vertices, Faces, Kind, Tree, Cotree, Left}
+use Rattle.tree_cotree.proofs.Common.{joined_at_same, joined_at_ends, joined_refl, joined_step, joined_trans, joined_at, rotation_system, names_all, OrientedMesh, IsOrientedSurface, Rotations, rotations_of, IsRotationSystem, IsDartStep, IsDartFrom, ◌≡◌, ◌≢◌, inl, inr, ℕ, ◌+◌, ◌/◌, ◌<◌, ◌≤◌, Bool, true, false, List, [], ◌∷◌, length, get_or, refl, ap, sym, ◌∙◌, subst, arith, set, cases_Bool, cases_eq, both_ways, common_steps, length-replicate, get_or-set_same, get_or-set_other, length-set, range_with_len, replicate, count_below, IsPath, AreJoined, HasColouredTrees, without_ways, ColouringView, bound_of, is_node_of, kind_over, AreEnds, HangTogether, AreSpanned, IsEdgeTried, node_of, same_kind, has_kind, StepsIn, MakesOneRing, SplitView, HasTrees, in_tree, in_cotree, is_left, Nodes, Vertices, Faces, Kind, Tree, Cotree, Left}
 use Rattle.tree_cotree.proofs.SetLemmas.{with_one, with_itself, with_other}
 use Rattle.tree_cotree.proofs.GrowthLemmas.{HasNodes}
 use Rattle.tree_cotree.proofs.SplitLemmas.{tree_ring, closed_holds_all}
@@ -91,7 +91,7 @@ spanning_more {s} {nodes} {kind} {old} {n} {m} {least} {kinds} {x} {y} o l b oth
 pub spanning_early : {s : OrientedMesh} {nodes : Nodes} {kind : Kind} {old : List Kind} {n m : ℕ} {least more : List ℕ}
     {kinds new : List Kind}
     → IsOrientedSurface s → m < length s.table → m < length kinds → same_kind Left kind ≡ false
-    → IsTried s nodes kind m least more kinds new → IsSpanning s nodes kind old n least kinds
+    → IsEdgeTried s nodes kind m least more kinds new → IsSpanning s nodes kind old n least kinds
     → IsSpanning s nodes kind old n more new
 spanning_early {s} {nodes} {kind} {old} {n} {m} {least} {more} {kinds} {new} o l b other tried h =
     elim (cases_Bool (has_kind kinds Left m)) [
@@ -128,7 +128,7 @@ spanning_passed {kind} {n} {kinds} l out h = grind (arith, joining_set, joining_
 pub spanning_next : {s : OrientedMesh} {nodes : Nodes} {kind : Kind} {old : List Kind} {n : ℕ} {least more : List ℕ}
     {kinds new : List Kind}
     → IsOrientedSurface s → n < length s.table → n < length kinds → same_kind Left kind ≡ false
-    → IsTried s nodes kind n least more kinds new → IsSpanning s nodes kind old n least kinds
+    → IsEdgeTried s nodes kind n least more kinds new → IsSpanning s nodes kind old n least kinds
     → IsSpanning s nodes kind old (n + 1) more new
 spanning_next {s} {nodes} {kind} {old} {n} {least} {more} {kinds} {new} o l b other tried h =
     elim (cases_Bool (has_kind kinds Left n)) [
@@ -210,7 +210,7 @@ faces_hang {s} {k1} o first t d e l k =
     steps : ℕ → ℕ → Type 0
     steps = StepsIn (rotations_of s) (rotations_of s).face (has_kind k1 Left)
 
-    ring : HasOneRing maps (has_kind k1 Tree)
+    ring : MakesOneRing maps (has_kind k1 Tree)
     ring = tree_ring r (vertex_nodes (names_all s o)) t.spans
 
 -- no edge is of another kind than leftover at first, and none in the cotree after the tree

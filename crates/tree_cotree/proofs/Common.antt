@@ -27,15 +27,15 @@ pub use Rattle.tree_cotree.specs.ColouredTrees.{HasColouredTrees, without_ways}
 pub use Rattle.tree_cotree.specs.Colourings.{ColouringView, IsColouring, colouring_of}
 pub use Rattle.tree_cotree.specs.EdgeFaces.{AreBelowEdges}
 pub use Rattle.tree_cotree.specs.Graphs.{crosses, maps_of, node_in, turn_in}
-pub use Rattle.tree_cotree.specs.Joinings.{AreEnds, AreSpanned, HangTogether, IsTried, bound_of, is_node_of, kind_over}
-pub use Rattle.tree_cotree.specs.Markings.{AreApart, AreMarked, IsMarked}
+pub use Rattle.tree_cotree.specs.Joinings.{AreEnds, AreSpanned, HangTogether, IsEdgeTried, bound_of, is_node_of, kind_over}
+pub use Rattle.tree_cotree.specs.Markings.{AreDartsApart, AreMarked, IsMarked}
 pub use Rattle.tree_cotree.specs.RingCounts.{any_below, class_count, exchanged, is_least, meets, ring_count}
 pub use Rattle.tree_cotree.specs.RingViews.{AreRingsOf, ChangesByOne, RingView, dart_numbers, is_inside, rings_of}
-pub use Rattle.tree_cotree.specs.Searches.{AreAdded, IsCrossed, IsFound, IsNamed, IsOrder, IsSearched, LeadsBack, has_kind, kept_at, node_of, same_kind, turn_of}
-pub use Rattle.tree_cotree.specs.SpanningTrees.{HasOneRing, IsSpanningTree, IsStepIn, StepsIn, after_dart}
+pub use Rattle.tree_cotree.specs.Searches.{AreAdded, IsFound, IsNamed, IsNodeCrossed, IsOrder, IsSearched, LeadsBack, has_kind, kept_at, next_round_node, node_of, same_kind}
+pub use Rattle.tree_cotree.specs.SpanningTrees.{IsSpanningTree, IsStepIn, MakesOneRing, StepsIn, after_dart}
 pub use Rattle.tree_cotree.specs.Splits.{HasChildFaces, HasParents, HasTrees, IsSplit, SplitView, StepsToParent, StepsUp, below_edge, in_cotree, in_tree, is_cotree_kind, is_left, is_left_kind, is_tree_kind, kind_of}
 pub use Rattle.tree_cotree.specs.StoredSplits.{made_split}
-pub use Rattle.tree_cotree.specs.Waiting.{IsTaken, waiting_darts}
+pub use Rattle.tree_cotree.specs.Waiting.{IsTakenOut, waiting_darts}
 pub use Rattle.tree_cotree.specs.Ways.{IsRooted, IsWay, LeadsUp}
 pub use Rattle.tree_cotree.specs.declared.search.Nodes.{Nodes}
 pub use Rattle.tree_cotree.specs.declared.search.Nodes.TheVariants.{Faces, Vertices}

@@ -1,6 +1,6 @@
 -- Each surface has a split, and so a genus: its edges are tried one after another, as a colouring is made, until they span its vertices,
 -- and then its faces.
-use Rattle.tree_cotree.proofs.Common.{joined_at, names_all, used_vertices, OrientedMesh, IsOrientedSurface, Rotations, rotations_of, ◌≡◌, inl, inr, ℕ, zero, suc, ◌+◌, ◌*◌, ◌/◌, ◌<◌, ◌≤◌, Bool, true, false, List, length, get_or, refl, ◌∙◌, subst, arith, set, cases_Bool, cases_eq, both_ways, length-replicate, range_with_len, replicate, Edge, IsTableOf, FaceList, IsFaceList, is_used, count_below, IsSurface, bound_of, kind_over, AreEnds, HangTogether, AreSpanned, IsTried, any_below, node_of, has_kind, SplitView, IsSplit, Nodes, Vertices, Faces, Kind, Tree, Left}
+use Rattle.tree_cotree.proofs.Common.{joined_at, names_all, used_vertices, OrientedMesh, IsOrientedSurface, Rotations, rotations_of, ◌≡◌, inl, inr, ℕ, zero, suc, ◌+◌, ◌*◌, ◌/◌, ◌<◌, ◌≤◌, Bool, true, false, List, length, get_or, refl, ◌∙◌, subst, arith, set, cases_Bool, cases_eq, both_ways, length-replicate, range_with_len, replicate, Edge, IsTableOf, FaceList, IsFaceList, is_used, count_below, IsSurface, bound_of, kind_over, AreEnds, HangTogether, AreSpanned, IsEdgeTried, any_below, node_of, has_kind, SplitView, IsSplit, Nodes, Vertices, Faces, Kind, Tree, Left}
 use Rattle.surf_model.proofs.EdgeTables.{some_table}
 use Rattle.tree_cotree.proofs.ClassLemmas.{found_below, passes_below}
 use Rattle.tree_cotree.proofs.LawLemmas.{some_dart, exact}
@@ -13,7 +13,7 @@ use Rattle.tree_cotree.proofs.ColouringLemmas.{IsSpanning, kind_not_left, spanni
 record Tried (s : OrientedMesh) (nodes : Nodes) (edge : ℕ) (least : List ℕ) (kinds : List Kind) : Type 0 where
   more : List ℕ
   new : List Kind
-  tried : IsTried s nodes (kind_over nodes) edge least more kinds new
+  tried : IsEdgeTried s nodes (kind_over nodes) edge least more kinds new
 
 some_try : {s : OrientedMesh} (nodes : Nodes) (edge : ℕ) (least : List ℕ) (kinds : List Kind) → IsOrientedSurface s → edge < length s.table
     → Tried s nodes edge least kinds

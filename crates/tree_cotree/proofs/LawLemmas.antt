@@ -1,5 +1,5 @@
 -- The laws of splits, from those of rotation systems.
-use Rattle.tree_cotree.proofs.Common.{rotation_system, names_all, used_vertices, OrientedMesh, IsOrientedSurface, rotations_of, NamesAll, ◌≡◌, ℕ, zero, suc, ◌+◌, ◌*◌, ◌<◌, true, not, length, refl, arith, common_steps, is_used, count_below, HasOneRing, SplitView, HasTrees, kind_of, is_tree_kind, is_cotree_kind, is_left_kind, in_tree, in_cotree, is_left, Kind, Tree, Cotree, Left}
+use Rattle.tree_cotree.proofs.Common.{rotation_system, names_all, used_vertices, OrientedMesh, IsOrientedSurface, rotations_of, NamesAll, ◌≡◌, ℕ, zero, suc, ◌+◌, ◌*◌, ◌<◌, true, not, length, refl, arith, common_steps, is_used, count_below, MakesOneRing, SplitView, HasTrees, kind_of, is_tree_kind, is_cotree_kind, is_left_kind, in_tree, in_cotree, is_left, Kind, Tree, Cotree, Left}
 use Rattle.tree_cotree.proofs.GrowthLemmas.{HasNodes}
 use Rattle.tree_cotree.proofs.SplitLemmas.{OneOfThree, tree_one, cotree_one, left_one, tree_ring, cotree_ring, count_three}
 use Rattle.tree_cotree.proofs.LeftoverLemmas.{even_left}
@@ -21,12 +21,12 @@ one_of_three split e = go (kind_of split e)
     go Left = left_one
 
 pub tree_has_ring : (s : OrientedMesh) (split : SplitView) → IsOrientedSurface s → HasTrees s split
-    → HasOneRing (rotations_of s) (in_tree split)
+    → MakesOneRing (rotations_of s) (in_tree split)
 tree_has_ring s split o t =
     tree_ring (rotation_system s o) (vertex_nodes (names_all s o)) t.tree
 
 pub rest_has_ring : (s : OrientedMesh) (split : SplitView) → IsOrientedSurface s → HasTrees s split
-    → HasOneRing (rotations_of s) (λ e. not (in_cotree split e))
+    → MakesOneRing (rotations_of s) (λ e. not (in_cotree split e))
 rest_has_ring s split o t =
     cotree_ring (rotation_system s o) (face_nodes (names_all s o)) t.cotree
 

@@ -1,6 +1,6 @@
 -- The number of leftover edges is even: put in one by one, each makes one ring more or one less, and there is one ring before
 -- and one after.
-use Rattle.tree_cotree.proofs.Common.{IsPermutationBelow, Rotations, IsRotationSystem, ◌≡◌, ◌≢◌, inl, inr, ℕ, zero, suc, ◌+◌, ◌*◌, ◌<◌, ◌≤◌, Bool, true, false, not, ◌&&◌, ◌||◌, ltb, refl, ap, sym, ◌∙◌, subst, arith, cases_Bool, cases_eq, both_ways, ltb-true, lt-ltb, count_below, meets, ring_count, exchanged, after_dart, HasOneRing}
+use Rattle.tree_cotree.proofs.Common.{IsPermutationBelow, Rotations, IsRotationSystem, ◌≡◌, ◌≢◌, inl, inr, ℕ, zero, suc, ◌+◌, ◌*◌, ◌<◌, ◌≤◌, Bool, true, false, not, ◌&&◌, ◌||◌, ltb, refl, ap, sym, ◌∙◌, subst, arith, cases_Bool, cases_eq, both_ways, ltb-true, lt-ltb, count_below, meets, ring_count, exchanged, after_dart, MakesOneRing}
 use Rattle.tree_cotree.proofs.ExchangeLemmas.{one_ring_less, one_ring_more, reached_from, meets_from, exchanged_permutes}
 use Rattle.tree_cotree.proofs.AfterLemmas.{after_permutes, after_agrees, after_exchanges, DifferAt}
 use Rattle.tree_cotree.proofs.SplitLemmas.{OneOfThree, tree_one, cotree_one, left_one, rings_same, one_ring_counted}
@@ -82,7 +82,7 @@ step_taken tree left k h t = grind arith
 -- rings and leftover edges together stay odd
 odd_so_far : {maps : Rotations} (tree left : ℕ → Bool) (edges : ℕ) → IsRotationSystem maps
     → ((e : ℕ) → e < edges → (d : ℕ) × (d < maps.darts) × (maps.edge d ≡ e))
-    → ((e : ℕ) → e < edges → left e ≡ true → tree e ≡ false) → 0 < maps.darts → HasOneRing maps tree → (k : ℕ) → k ≤ edges
+    → ((e : ℕ) → e < edges → left e ≡ true → tree e ≡ false) → 0 < maps.darts → MakesOneRing maps tree → (k : ℕ) → k ≤ edges
     → (m : ℕ) × (ring_count (after_dart maps (with_left tree left k)) maps.darts + count_below left k ≡ m + m + 1)
 odd_so_far {maps} tree left edges r darts apart some ring zero l = (
   0,
@@ -132,8 +132,8 @@ odd_so_far {maps} tree left edges r darts apart some ring (suc k) l =
 pub even_left : {maps : Rotations} (tree cotree left : ℕ → Bool) (edges : ℕ) → IsRotationSystem maps
     → ((d : ℕ) → d < maps.darts → maps.edge d < edges)
     → ((e : ℕ) → e < edges → (d : ℕ) × (d < maps.darts) × (maps.edge d ≡ e))
-    → ((e : ℕ) → e < edges → OneOfThree (tree e) (cotree e) (left e)) → 0 < maps.darts → HasOneRing maps tree
-    → HasOneRing maps (λ e. not (cotree e))
+    → ((e : ℕ) → e < edges → OneOfThree (tree e) (cotree e) (left e)) → 0 < maps.darts → MakesOneRing maps tree
+    → MakesOneRing maps (λ e. not (cotree e))
     → (g : ℕ) × (count_below left edges ≡ 2 * g)
 unfolding with_left
 even_left {maps} tree cotree left edges r edge_in darts kinds some ring ring_left =

@@ -1,5 +1,5 @@
 -- What an order of a search needs to grow, and what it is when it grows no more.
-use Rattle.tree_cotree.proofs.Common.{next_permutes, face-next, IsPermutationBelow, AreAlike, two_alike, steps_within, reached_keeps, rotation_system, after_steps, IsReached, OrientedMesh, IsOrientedSurface, Rotations, rotations_of, IsRotationSystem, ◌≡◌, ◌≢◌, ◌⊎◌, inl, inr, ℕ, zero, suc, ◌+◌, ◌<◌, ◌≤◌, Bool, true, false, List, [], ◌∷◌, ◌++◌, length, get_or, refl, ap, sym, ◌∙◌, subst, arith, set, cases_eq, cases_lt, common_steps, length_push, get_or_push, get_or_append_left, get_or-set_same, get_or-set_other, length-set, get_or_read, map-append, append-nil, option_map, Option, Some, None, is_some, DartName, dart_numbers, node_of, turn_of, kept_at, IsFound, IsNamed, LeadsBack, IsOrder, IsCrossed, AreAdded, Nodes, Vertices, Faces}
+use Rattle.tree_cotree.proofs.Common.{next_permutes, face-next, IsPermutationBelow, AreAlike, two_alike, steps_within, reached_keeps, rotation_system, after_steps, IsReached, OrientedMesh, IsOrientedSurface, Rotations, rotations_of, IsRotationSystem, ◌≡◌, ◌≢◌, ◌⊎◌, inl, inr, ℕ, zero, suc, ◌+◌, ◌<◌, ◌≤◌, Bool, true, false, List, [], ◌∷◌, ◌++◌, length, get_or, refl, ap, sym, ◌∙◌, subst, arith, set, cases_eq, cases_lt, common_steps, length_push, get_or_push, get_or_append_left, get_or-set_same, get_or-set_other, length-set, get_or_read, map-append, append-nil, option_map, Option, Some, None, is_some, DartName, dart_numbers, node_of, next_round_node, kept_at, IsFound, IsNamed, LeadsBack, IsOrder, IsNodeCrossed, AreAdded, Nodes, Vertices, Faces}
 use Rattle.halfedge_map.proofs.VertexLemmas.{turns_permute, origin-turned}
 use Rattle.tree_cotree.proofs.AfterLemmas.{twin_edge}
 use Rattle.tree_cotree.proofs.ExchangeLemmas.{reached_soon}
@@ -172,7 +172,7 @@ CrossedUpTo maps node allowed turn order first k =
 pub crossed_round : {maps : Rotations} {node : ℕ → ℕ} (allowed : ℕ → Bool) {turn : ℕ → ℕ} (order : List ℕ) (first k : ℕ)
     → IsTurning maps node turn → first < maps.darts
     → CrossedUpTo maps node allowed turn order first k → (0 < k) × (after_steps turn k first ≡ first)
-    → IsCrossed maps node allowed order (node first)
+    → IsNodeCrossed maps node allowed order (node first)
 crossed_round {maps} {node} allowed {turn} order first k t l crossed comes d b same passes =
     let way : IsReached turn first d = t.reaches first d l b (sym same) in
     let soon = round turn first k way.steps comes.0 comes.1 in
@@ -180,7 +180,7 @@ crossed_round {maps} {node} allowed {turn} order first k t l crossed comes d b s
 
 pub crossed_all : {maps : Rotations} {node : ℕ → ℕ} (allowed : ℕ → Bool) {turn : ℕ → ℕ} (order : List ℕ) (first k : ℕ)
     → IsTurning maps node turn → first < maps.darts
-    → CrossedUpTo maps node allowed turn order first k → maps.darts ≤ k → IsCrossed maps node allowed order (node first)
+    → CrossedUpTo maps node allowed turn order first k → maps.darts ≤ k → IsNodeCrossed maps node allowed order (node first)
 crossed_all {maps} {node} allowed {turn} order first k t l crossed many d b same passes =
     let way : IsReached turn first d = t.reaches first d l b (sym same) in
     let soon = reached_soon maps.darts turn t.permutes first l (suc way.steps) way.steps d (omega arith) way.leads in grind arith
@@ -193,12 +193,12 @@ pub crossed_more : (maps : Rotations) (node : ℕ → ℕ) (allowed : ℕ → Bo
 crossed_more maps node allowed turn old new first k h crossed here i l passes = grind (arith, found_on)
 
 pub crossed_on : (maps : Rotations) (node : ℕ → ℕ) (allowed : ℕ → Bool) (old new : List ℕ) (v : ℕ) → GoesOn old new
-    → IsCrossed maps node allowed old v → IsCrossed maps node allowed new v
+    → IsNodeCrossed maps node allowed old v → IsNodeCrossed maps node allowed new v
 crossed_on maps node allowed old new v h crossed d l is passes = found_on new h (crossed d l is passes)
 
 -- round a vertex by the next dart of the twin, round a face by the next dart
 pub turning : {s : OrientedMesh} → IsOrientedSurface s → (nodes : Nodes)
-    → IsTurning (rotations_of s) (node_of nodes (rotations_of s)) (turn_of nodes (rotations_of s))
+    → IsTurning (rotations_of s) (node_of nodes (rotations_of s)) (next_round_node nodes (rotations_of s))
 turning {s} h Vertices =
     let r : IsRotationSystem (rotations_of s) = rotation_system s h in grind (arith, turns_permute, origin-turned)
 turning {s} h Faces =

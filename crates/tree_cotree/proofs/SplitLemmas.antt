@@ -1,6 +1,6 @@
 -- Tree, cotree and leftover edges of a rotation system: the rings of the tree and of tree and leftover edges, sets of faces that
 -- are closed under crossing edges, and the number of leftover edges, which is even.
-use Rattle.tree_cotree.proofs.Common.{IsPermutationBelow, steps_within, reached_step, after_steps, IsReached, Rotations, IsRotationSystem, ◌≡◌, inl, inr, ℕ, zero, suc, ◌+◌, ◌<◌, ◌≤◌, Bool, true, false, not, eqb, cond, refl, ap, sym, ◌∙◌, subst, arith, cases_Bool, cases_eq, count_below, any_below, meets, is_least, ring_count, after_dart, IsSpanningTree, HasOneRing}
+use Rattle.tree_cotree.proofs.Common.{IsPermutationBelow, steps_within, reached_step, after_steps, IsReached, Rotations, IsRotationSystem, ◌≡◌, inl, inr, ℕ, zero, suc, ◌+◌, ◌<◌, ◌≤◌, Bool, true, false, not, eqb, cond, refl, ap, sym, ◌∙◌, subst, arith, cases_Bool, cases_eq, count_below, any_below, meets, is_least, ring_count, after_dart, IsSpanningTree, MakesOneRing}
 use Rattle.tree_cotree.proofs.ClassLemmas.{count_same, passes_below}
 use Rattle.tree_cotree.proofs.ExchangeLemmas.{meets_from}
 use Rattle.tree_cotree.proofs.AfterLemmas.{after_permutes, go_on, turn}
@@ -9,18 +9,18 @@ use Rattle.tree_cotree.proofs.GrowthLemmas.{HasNodes, one_ring}
 -- the tree over the vertices leaves one ring
 pub tree_ring : {maps : Rotations} {is_node : ℕ → Bool} {bound edges : ℕ} {tree : ℕ → Bool} → IsRotationSystem maps
     → HasNodes maps maps.origin is_node bound edges
-    → IsSpanningTree maps maps.origin is_node bound edges tree → HasOneRing maps tree
+    → IsSpanningTree maps maps.origin is_node bound edges tree → MakesOneRing maps tree
 tree_ring r h t d e d_in e_in =
     one_ring (λ b. b) r h refl t (λ x y l k. ((r.vertices x y l k).1, (r.vertices x y l k).0)) d e d_in e_in
 
 -- the cotree over the faces, taken out, leaves one ring
 pub cotree_ring : {maps : Rotations} {is_node : ℕ → Bool} {bound edges : ℕ} {cotree : ℕ → Bool} → IsRotationSystem maps
     → HasNodes maps maps.face is_node bound edges
-    → IsSpanningTree maps maps.face is_node bound edges cotree → HasOneRing maps (λ e. not (cotree e))
+    → IsSpanningTree maps maps.face is_node bound edges cotree → MakesOneRing maps (λ e. not (cotree e))
 cotree_ring r h t d e d_in e_in = one_ring not r h refl t (λ x y l k. ((r.faces x y l k).1, (r.faces x y l k).0)) d e d_in e_in
 
 -- a set of faces that holds one and is closed under crossing the edges outside a set with one ring holds every face
-pub closed_holds_all : {maps : Rotations} (inside : ℕ → Bool) (holds : ℕ → Type 0) → IsRotationSystem maps → HasOneRing maps inside
+pub closed_holds_all : {maps : Rotations} (inside : ℕ → Bool) (holds : ℕ → Type 0) → IsRotationSystem maps → MakesOneRing maps inside
     → ((d : ℕ) → d < maps.darts → inside (maps.edge d) ≡ false → holds (maps.face d) → holds (maps.face (maps.twin d)))
     → (start d : ℕ) → start < maps.darts → d < maps.darts → holds (maps.face start) → holds (maps.face d)
 closed_holds_all {maps} inside holds r ring closed start d start_in d_in h =

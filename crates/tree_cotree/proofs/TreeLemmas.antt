@@ -1,5 +1,5 @@
 -- The tree that a search makes: a node's dart leads back to a node found before, so following the darts ends at the root.
-use Rattle.tree_cotree.proofs.Common.{joined_trans, joined_sym, Rotations, IsRotationSystem, ◌≡◌, ◌≢◌, ◌⊎◌, inl, inr, ℕ, zero, suc, ◌+◌, ◌<◌, Bool, true, false, cond, List, [], ◌∷◌, length, get_or, refl, ap, sym, ◌∙◌, subst, arith, set, cases_Bool, cases_eq, both_ways, get_or-set_same, get_or-set_other, length-set, Option, Some, None, is_some, count_below, IsPath, AreJoined, HangTogether, AreApart, AreMarked, IsMarked, same_kind, has_kind, kept_at, IsFound, IsNamed, LeadsBack, IsOrder, IsSearched, IsStepIn, StepsIn, LeadsUp, IsRooted, Kind, Tree, Cotree, Left}
+use Rattle.tree_cotree.proofs.Common.{joined_trans, joined_sym, Rotations, IsRotationSystem, ◌≡◌, ◌≢◌, ◌⊎◌, inl, inr, ℕ, zero, suc, ◌+◌, ◌<◌, Bool, true, false, cond, List, [], ◌∷◌, length, get_or, refl, ap, sym, ◌∙◌, subst, arith, set, cases_Bool, cases_eq, both_ways, get_or-set_same, get_or-set_other, length-set, Option, Some, None, is_some, count_below, IsPath, AreJoined, HangTogether, AreDartsApart, AreMarked, IsMarked, same_kind, has_kind, kept_at, IsFound, IsNamed, LeadsBack, IsOrder, IsSearched, IsStepIn, StepsIn, LeadsUp, IsRooted, Kind, Tree, Cotree, Left}
 use Rattle.tree_cotree.proofs.SetLemmas.{with_one, with_itself, with_other, with_cases, with_keeps, count_with}
 use Rattle.tree_cotree.proofs.ClassLemmas.{count_same}
 use Rattle.tree_cotree.proofs.AfterLemmas.{twin_edge}
@@ -138,7 +138,7 @@ kept_join {maps} {node} inside {root} {from} r f marked d e l k =
 
 -- no two kept darts lie on one edge
 pub kept_apart : {maps : Rotations} {node : ℕ → ℕ} {allowed : ℕ → Bool} {bound root : ℕ} {from : List (Option ℕ)}
-    → IsRotationSystem maps → IsRooted maps node allowed bound root from → AreApart maps from
+    → IsRotationSystem maps → IsRooted maps node allowed bound root from → AreDartsApart maps from
 kept_apart {maps} {node} {root} {from} r h =
     record {
       within = h.within;
@@ -191,7 +191,7 @@ pub marks_skip : {maps : Rotations} {from : List (Option ℕ)} {kind : Kind} {ol
     → IsMarked maps from kind old new (n + 1)
 marks_skip h none = grind (arith, marked_skip)
 
-pub marks_more : {maps : Rotations} {from : List (Option ℕ)} {kind : Kind} {old new : List Kind} {n : ℕ} (x : ℕ) → AreApart maps from
+pub marks_more : {maps : Rotations} {from : List (Option ℕ)} {kind : Kind} {old new : List Kind} {n : ℕ} (x : ℕ) → AreDartsApart maps from
     → IsMarked maps from kind old new n
     → kept_at from n ≡ Some x → maps.edge x < length old → has_kind old kind (maps.edge x) ≡ false
     → IsMarked maps from kind old (set new (maps.edge x) kind) (n + 1)

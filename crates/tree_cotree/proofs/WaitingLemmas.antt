@@ -1,14 +1,14 @@
 -- The darts that wait while a search is underway: each found node is crossed, or a dart of it waits.
-use Rattle.tree_cotree.proofs.Common.{Rotations, ◌≡◌, ◌⊎◌, inl, inr, ℕ, ◌+◌, ◌-◌, ◌<◌, Bool, List, [], ◌∷◌, ◌++◌, length, get_or, refl, ap, sym, ◌∙◌, subst, arith, cases_lt, common_steps, get_or_read, length-append, get_or-append_right, append_assoc, map-append, option_to_list, Option, Some, None, IfSome, IfNone, Contains, DartName, dart_numbers, IsFound, IsOrder, IsCrossed, IsSearched, AreAdded, waiting_darts, IsTaken}
+use Rattle.tree_cotree.proofs.Common.{Rotations, ◌≡◌, ◌⊎◌, inl, inr, ℕ, ◌+◌, ◌-◌, ◌<◌, Bool, List, [], ◌∷◌, ◌++◌, length, get_or, refl, ap, sym, ◌∙◌, subst, arith, cases_lt, common_steps, get_or_read, length-append, get_or-append_right, append_assoc, map-append, option_to_list, Option, Some, None, IfSome, IfNone, Contains, DartName, dart_numbers, IsFound, IsOrder, IsNodeCrossed, IsSearched, AreAdded, waiting_darts, IsTakenOut}
 use Rattle.std.proofs.lemmas.List.Elements.{Contains-append_left, Contains-append_right, Contains-append_cases, Contains-push_cases, Contains-get_or}
 use Rattle.tree_cotree.proofs.SearchLemmas.{GoesOn, added_goes, crossed_on}
 
 -- what is taken stood there, what is left stood there, nothing else did, and one waits less
-taken_stood : {old new : List ℕ} {x : ℕ} → IsTaken old new x → Contains old x
+taken_stood : {old new : List ℕ} {x : ℕ} → IsTakenOut old new x → Contains old x
 taken_stood {x} t =
     subst (λ (xs : List ℕ). Contains xs x) (sym t.was) (Contains-append_right t.before (x ∷ t.behind) x (0, omega arith, refl))
 
-taken_stays : {old new : List ℕ} {x : ℕ} → IsTaken old new x → (y : ℕ) → Contains new y → Contains old y
+taken_stays : {old new : List ℕ} {x : ℕ} → IsTakenOut old new x → (y : ℕ) → Contains new y → Contains old y
 taken_stays {x} t y h =
     subst (λ (xs : List ℕ). Contains xs y) (sym t.was)
     (elim (Contains-append_cases t.before t.behind y (subst (λ (xs : List ℕ). Contains xs y) t.is h)) [
@@ -16,7 +16,7 @@ taken_stays {x} t y h =
       | inr behind ↦ Contains-append_right t.before (x ∷ t.behind) y (Contains-append_right (x ∷ []) t.behind y behind)
     ])
 
-taken_others : {old new : List ℕ} {x : ℕ} → IsTaken old new x → (y : ℕ) → Contains old y → (y ≡ x) ⊎ Contains new y
+taken_others : {old new : List ℕ} {x : ℕ} → IsTakenOut old new x → (y : ℕ) → Contains old y → (y ≡ x) ⊎ Contains new y
 taken_others {x} t y h =
     let split : Contains ((t.before ++ x ∷ []) ++ t.behind) y =
     subst (λ (xs : List ℕ). Contains xs y) (t.was ∙ sym (append_assoc t.before (x ∷ []) t.behind)) h in
@@ -28,7 +28,7 @@ taken_others {x} t y h =
       | inr behind ↦ inr (Contains-append_right t.before t.behind y behind)
     ])
 
-pub taken_longer : {old new : List ℕ} {x : ℕ} → IsTaken old new x → length old ≡ length new + 1
+pub taken_longer : {old new : List ℕ} {x : ℕ} → IsTakenOut old new x → length old ≡ length new + 1
 taken_longer {x} t = grind (arith, common_steps)
 
 numbers_apart : (far near : List DartName) → waiting_darts far near ≡ dart_numbers far ++ dart_numbers near
@@ -36,34 +36,34 @@ numbers_apart far near = map-append (λ (d : DartName). d.0) far near
 
 -- the first of the present patch leaves
 pub taken_near : (first : Option DartName) (far near rest : List DartName) → near ≡ option_to_list first ++ rest
-    → IfSome first (λ dart. IsTaken (waiting_darts far near) (waiting_darts far rest) dart.0)
+    → IfSome first (λ dart. IsTakenOut (waiting_darts far near) (waiting_darts far rest) dart.0)
 taken_near None far near rest is = tt
 taken_near (Some first) far near rest is = grind (arith, numbers_apart)
 
 -- the first of all leaves, where all wait for a patch of their own
 pub taken_far : (first : Option DartName) (far near all rest none : List DartName) → all ≡ far ++ near → none ≡ []
     → all ≡ option_to_list first ++ rest
-    → IfSome first (λ dart. IsTaken (waiting_darts far near) (waiting_darts rest none) dart.0)
+    → IfSome first (λ dart. IsTakenOut (waiting_darts far near) (waiting_darts rest none) dart.0)
 taken_far None far near all rest none whole empty is = tt
 taken_far (Some first) far near all rest none whole empty is = grind (arith, common_steps)
 
 -- the last of the present patch leaves
 pub taken_near_last : (last : Option DartName) (far near rest : List DartName) → near ≡ rest ++ option_to_list last
-    → IfSome last (λ dart. IsTaken (waiting_darts far near) (waiting_darts far rest) dart.0)
+    → IfSome last (λ dart. IsTakenOut (waiting_darts far near) (waiting_darts far rest) dart.0)
 taken_near_last None far near rest is = tt
 taken_near_last (Some last) far near rest is = grind (arith, common_steps, numbers_apart)
 
 -- the last of the others leaves
 pub taken_far_last : (last : Option DartName) (far near same rest : List DartName) → near ≡ same ++ [] → far ≡ rest ++ option_to_list last
-    → IfSome last (λ dart. IsTaken (waiting_darts far near) (waiting_darts rest same) dart.0)
+    → IfSome last (λ dart. IsTakenOut (waiting_darts far near) (waiting_darts rest same) dart.0)
 taken_far_last None far near same rest stays is = tt
 taken_far_last (Some last) far near same rest stays is = grind (arith, common_steps, numbers_apart)
 
 -- what a dart that is taken, or none, says
 pub taken : (first : Option DartName) (x : DartName) (waiting rest : List ℕ) → first ≡ Some x
-    → IfSome first (λ dart. IsTaken waiting rest dart.0)
-    → IsTaken waiting rest x.0
-taken first x waiting rest is h = subst (λ (o : Option DartName). IfSome o (λ dart. IsTaken waiting rest dart.0)) is h
+    → IfSome first (λ dart. IsTakenOut waiting rest dart.0)
+    → IsTakenOut waiting rest x.0
+taken first x waiting rest is h = subst (λ (o : Option DartName). IfSome o (λ dart. IsTakenOut waiting rest dart.0)) is h
 
 pub none_waits : (first : Option DartName) (waiting : List ℕ) → ((x : DartName) → first ≡ Some x → ⊥) → IfNone first (waiting ≡ [])
     → waiting ≡ []
@@ -75,20 +75,20 @@ pub record IsUnderway (maps : Rotations) (node : ℕ → ℕ) (allowed : ℕ →
     (from : List (Option ℕ)) : Type 0 where
   pub is_order : IsOrder maps node allowed bound root order from
   pub known : (x : ℕ) → Contains waiting x → Contains order x
-  pub either : (j : ℕ) → j < length order → IsCrossed maps node allowed order (node (get_or order j 0))
+  pub either : (j : ℕ) → j < length order → IsNodeCrossed maps node allowed order (node (get_or order j 0))
       ⊎ Contains waiting (get_or order j 0)
 
 -- the dart that is taken is one, of a node that was found
 pub taken_dart : {maps : Rotations} {node : ℕ → ℕ} {allowed : ℕ → Bool} {bound root : ℕ} {order waiting rest : List ℕ}
     {from : List (Option ℕ)} {x : ℕ}
-    → IsUnderway maps node allowed bound root order waiting from → IsTaken waiting rest x → x < maps.darts
+    → IsUnderway maps node allowed bound root order waiting from → IsTakenOut waiting rest x → x < maps.darts
 taken_dart {order} {x} h t =
     let k = h.known x (taken_stood t) in
     omega (arith, h.is_order.within k.0 k.1, get_or_read order k.0 x k.1 (sym k.2) 0)
 
 pub taken_found : {maps : Rotations} {node : ℕ → ℕ} {allowed : ℕ → Bool} {bound root : ℕ} {order waiting rest : List ℕ}
     {from : List (Option ℕ)} {x : ℕ}
-    → IsUnderway maps node allowed bound root order waiting from → IsTaken waiting rest x → IsFound node order (node x)
+    → IsUnderway maps node allowed bound root order waiting from → IsTakenOut waiting rest x → IsFound node order (node x)
 taken_found {node} {order} {x} h t =
     let k = h.known x (taken_stood t) in
     record { place = k.0; within = k.1; is = ap node (sym (get_or_read order k.0 x k.1 (sym k.2) 0)) }
@@ -96,8 +96,8 @@ taken_found {node} {order} {x} h t =
 -- one more node is crossed
 pub underway_more : {maps : Rotations} {node : ℕ → ℕ} {allowed : ℕ → Bool} {bound root : ℕ} {order waiting rest new more : List ℕ}
     {from kept : List (Option ℕ)} {x : ℕ}
-    → IsUnderway maps node allowed bound root order waiting from → IsTaken waiting rest x → IsOrder maps node allowed bound root new kept
-    → AreAdded order rest new more → IsCrossed maps node allowed new (node x) → IsUnderway maps node allowed bound root new more kept
+    → IsUnderway maps node allowed bound root order waiting from → IsTakenOut waiting rest x → IsOrder maps node allowed bound root new kept
+    → AreAdded order rest new more → IsNodeCrossed maps node allowed new (node x) → IsUnderway maps node allowed bound root new more kept
 underway_more {maps} {node} {allowed} {order} {rest} {new} {more} h t is adds crossed =
     let goes : GoesOn order new = added_goes adds in
     record {
@@ -112,10 +112,10 @@ underway_more {maps} {node} {allowed} {order} {rest} {new} {more} h t is adds cr
         | inl less ↦
             (let old : get_or new j 0 ≡ get_or order j 0 = goes.same j less in
             elim (h.either j less) [
-              | inl closed ↦ inl (subst (λ y. IsCrossed maps node allowed new (node y)) (sym old)
+              | inl closed ↦ inl (subst (λ y. IsNodeCrossed maps node allowed new (node y)) (sym old)
                   (crossed_on maps node allowed order new (node (get_or order j 0)) goes closed))
               | inr waits ↦ elim (taken_others t (get_or order j 0) waits) [
-                | inl same ↦ inl (subst (λ y. IsCrossed maps node allowed new (node y)) (sym (old ∙ same)) crossed)
+                | inl same ↦ inl (subst (λ y. IsNodeCrossed maps node allowed new (node y)) (sym (old ∙ same)) crossed)
                 | inr stays ↦ inr (rw (old, adds.waits) (Contains-append_left rest adds.added (get_or order j 0) stays))
               ]
             ])

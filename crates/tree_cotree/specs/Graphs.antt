@@ -2,7 +2,7 @@
 use Rattle.std.specs.Prelude.{ℕ, Bool}
 use Rattle.halfedge_map.specs.RotationSystems.{Rotations, rotations_of}
 use Rattle.tree_cotree.specs.declared.search.Graph.{Graph}
-use Rattle.tree_cotree.specs.Searches.{node_of, turn_of, is_allowed}
+use Rattle.tree_cotree.specs.Searches.{node_of, next_round_node, is_allowed}
 
 -- the maps of the surface
 abbrev pub maps_of : Graph → Rotations
@@ -14,7 +14,7 @@ node_in graph = node_of graph.nodes (maps_of graph)
 
 -- the dart that follows round the node
 abbrev pub turn_in : Graph → ℕ → ℕ
-turn_in graph = turn_of graph.nodes (maps_of graph)
+turn_in graph = next_round_node graph.nodes (maps_of graph)
 
 -- the edges that a search may cross
 abbrev pub crosses : Graph → ℕ → Bool

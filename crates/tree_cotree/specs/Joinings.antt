@@ -50,7 +50,7 @@ pub record AreJoinedAcross (surface : OrientedMesh) (nodes : Nodes) (kind : Kind
   pub same : slice_index least x ≡ slice_index least y → new ≡ old
 
 -- a leftover edge is tried so; at another edge all stays as it is
-pub record IsTried (surface : OrientedMesh) (nodes : Nodes) (kind : Kind) (edge : ℕ) (least more : List ℕ) (old new : List Kind)
+pub record IsEdgeTried (surface : OrientedMesh) (nodes : Nodes) (kind : Kind) (edge : ℕ) (least more : List ℕ) (old new : List Kind)
     : Type 0 where
   pub left : has_kind old Left edge ≡ true → AreJoinedAcross surface nodes kind edge least more old new
   pub other : has_kind old Left edge ≡ false → (more ≡ least) × (new ≡ old)

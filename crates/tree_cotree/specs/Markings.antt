@@ -7,7 +7,7 @@ use Rattle.tree_cotree.specs.declared.split.Kind.TheVariants.{Tree}
 use Rattle.tree_cotree.specs.Searches.{kept_at, has_kind}
 
 -- each kept dart is a dart, and no two of them lie on one edge
-pub record AreApart (maps : Rotations) (from : List (Option ℕ)) : Type 0 where
+pub record AreDartsApart (maps : Rotations) (from : List (Option ℕ)) : Type 0 where
   pub within : (v x : ℕ) → kept_at from v ≡ Some x → x < maps.darts
   pub apart : (v w x y : ℕ) → kept_at from v ≡ Some x → kept_at from w ≡ Some y → v ≢ w → maps.edge x ≢ maps.edge y
 

@@ -15,9 +15,9 @@ node_of Vertices maps = maps.origin
 node_of Faces maps = maps.face
 
 -- the dart that follows round the node
-abbrev pub turn_of : Nodes → Rotations → ℕ → ℕ
-turn_of Vertices maps = around maps
-turn_of Faces maps = maps.next
+abbrev pub next_round_node : Nodes → Rotations → ℕ → ℕ
+next_round_node Vertices maps = around maps
+next_round_node Faces maps = maps.next
 
 -- what is kept for a number, if anything is: the dart for a node, or the face for an edge
 abbrev pub kept_at : List (Option ℕ) → ℕ → Option ℕ
@@ -58,15 +58,15 @@ pub record IsOrder (maps : Rotations) (node : ℕ → ℕ) (allowed : ℕ → Bo
   pub only : (v x : ℕ) → kept_at from v ≡ Some x → IsNamed node order v x
 
 -- across each allowed edge of a node the other node is found
-abbrev pub IsCrossed : Rotations → (ℕ → ℕ) → (ℕ → Bool) → List ℕ → ℕ → Type 0
-IsCrossed maps node allowed order v =
+abbrev pub IsNodeCrossed : Rotations → (ℕ → ℕ) → (ℕ → Bool) → List ℕ → ℕ → Type 0
+IsNodeCrossed maps node allowed order v =
     (d : ℕ) → d < maps.darts → node d ≡ v → allowed (maps.edge d) ≡ true → IsFound node order (node (maps.twin d))
 
 -- What a search gives: an order to which no allowed edge would add a node.
 pub record IsSearched (maps : Rotations) (node : ℕ → ℕ) (allowed : ℕ → Bool) (bound root : ℕ) (from : List (Option ℕ)) : Type 0 where
   pub order : List ℕ
   pub is_order : IsOrder maps node allowed bound root order from
-  pub closed : (j : ℕ) → j < length order → IsCrossed maps node allowed order (node (slice_index order j))
+  pub closed : (j : ℕ) → j < length order → IsNodeCrossed maps node allowed order (node (slice_index order j))
 
 -- the darts of the nodes found since are put last, both to the order and to those that wait
 pub record AreAdded (old waited new waiting : List ℕ) : Type 0 where

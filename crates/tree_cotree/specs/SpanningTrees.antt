@@ -27,5 +27,5 @@ pub record IsSpanningTree (maps : Rotations) (node : ℕ → ℕ) (is_node : ℕ
   pub count : count_below inside edges + 1 ≡ count_below is_node bound
 
 -- all darts stand on one ring of the set
-abbrev pub HasOneRing : Rotations → (ℕ → Bool) → Type 0
-HasOneRing maps inside = (d e : ℕ) → d < maps.darts → e < maps.darts → IsReached (after_dart maps inside) d e
+abbrev pub MakesOneRing : Rotations → (ℕ → Bool) → Type 0
+MakesOneRing maps inside = (d e : ℕ) → d < maps.darts → e < maps.darts → IsReached (after_dart maps inside) d e

@@ -25,5 +25,5 @@ IsOrdered graph bound root search =
     IsOrder (maps_of graph) (node_in graph) (crosses graph) bound root (found_by search) search.from.items
 
 -- one search comes of another by darts that are put last
-abbrev pub GoesOn : Search → Search → Type 0
-GoesOn old new = AreAdded (found_by old) (waiting_in old) (found_by new) (waiting_in new)
+abbrev pub SearchGoesOn : Search → Search → Type 0
+SearchGoesOn old new = AreAdded (found_by old) (waiting_in old) (found_by new) (waiting_in new)

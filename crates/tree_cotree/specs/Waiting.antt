@@ -8,7 +8,7 @@ abbrev pub waiting_darts : List DartName → List DartName → List ℕ
 waiting_darts far near = dart_numbers (far ++ near)
 
 -- a number leaves a list: it stood between what is left
-pub record IsTaken (old new : List ℕ) (x : ℕ) : Type 0 where
+pub record IsTakenOut (old new : List ℕ) (x : ℕ) : Type 0 where
   pub before : List ℕ
   pub behind : List ℕ
   pub was : old ≡ before ++ x ∷ behind

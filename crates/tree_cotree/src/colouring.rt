@@ -4,7 +4,7 @@ ghost use Rattle.std.specs.List.{range_with_len};
 ghost use Rattle.halfedge_map.specs.OrientedMeshes.{IsOrientedSurface};
 ghost use Rattle.halfedge_map.specs.RotationSystems.{rotations_of};
 ghost use Rattle.tree_cotree.specs.Colourings.{IsColouring};
-ghost use Rattle.tree_cotree.specs.Joinings.{bound_of, kind_over, AreEnds, AreSpanned, HangTogether, IsTried};
+ghost use Rattle.tree_cotree.specs.Joinings.{bound_of, kind_over, AreEnds, AreSpanned, HangTogether, IsEdgeTried};
 ghost use Rattle.tree_cotree.specs.Searches.{has_kind, node_of};
 ghost use Rattle.tree_cotree.specs.declared.split.Kind.TheVariants.{Left};
 
@@ -147,7 +147,7 @@ fn try_edge(
     requires edge { edge.0 < length surface.now.table }
     requires classes { length classes.old ≡ bound_of nodes surface.now }
     requires kinds { length kinds.old.items ≡ length surface.now.table }
-    ensures { IsTried surface.now nodes (kind_over nodes) edge.0 classes.old classes.new kinds.old.items kinds.new.items }
+    ensures { IsEdgeTried surface.now nodes (kind_over nodes) edge.0 classes.old classes.new kinds.old.items kinds.new.items }
 {
     if is_same(kinds[edge.0 as usize], Kind::Left) {
         let (first, second) = ends(surface, nodes, edge);

@@ -1,7 +1,7 @@
 //! Faces that are kept for the edges on which darts of theirs are kept.
 ghost use Rattle.std.specs.Prelude.{◌≡◌, length, IfOk};
 ghost use Rattle.halfedge_map.specs.RotationSystems.{rotations_of};
-ghost use Rattle.tree_cotree.specs.Markings.{AreApart};
+ghost use Rattle.tree_cotree.specs.Markings.{AreDartsApart};
 ghost use Rattle.tree_cotree.specs.Searches.{kept_at};
 ghost use Rattle.tree_cotree.specs.EdgeFaces.{AreBelowEdges};
 
@@ -16,7 +16,7 @@ pub(crate) fn faces_below(
     from: &[MaybeNumber],
 ) -> Result<Vec<MaybeNumber>, AllocError>
     requires each_face { length from.now ≡ length surface.now.mesh.faces }
-    requires apart { AreApart (rotations_of surface.now) from.now }
+    requires apart { AreDartsApart (rotations_of surface.now) from.now }
     ensures each_edge { IfOk result (λ below. length below.items ≡ length surface.now.table) }
     ensures below { IfOk result (λ below. AreBelowEdges (rotations_of surface.now) from.now (length surface.now.table)
         (kept_at below.items) (length from.now)) }

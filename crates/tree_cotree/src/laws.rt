@@ -8,7 +8,7 @@ ghost use Rattle.surf_model.specs.Numbers.{count_below};
 ghost use Rattle.halfedge_map.specs.OrientedMeshes.{OrientedMesh, IsOrientedSurface};
 ghost use Rattle.halfedge_map.specs.DartMaps.{used_vertices};
 ghost use Rattle.halfedge_map.specs.RotationSystems.{rotations_of};
-ghost use Rattle.tree_cotree.specs.SpanningTrees.{HasOneRing};
+ghost use Rattle.tree_cotree.specs.SpanningTrees.{MakesOneRing};
 ghost use Rattle.tree_cotree.specs.Splits.{SplitView, HasTrees, IsSplit, in_tree, in_cotree, is_left};
 ghost use Rattle.tree_cotree.specs.Colourings.{ColouringView, IsColouring};
 ghost use Rattle.tree_cotree.specs.ColouredTrees.{HasColouredTrees};
@@ -17,9 +17,9 @@ ghost use Rattle.tree_cotree.specs.ColouredTrees.{HasColouredTrees};
 /// and the leftover ones.
 pub fn split_leaves_one_ring()
     ensures tree { (surface : OrientedMesh) (split : SplitView) → IsOrientedSurface surface → IsSplit surface split
-        → HasOneRing (rotations_of surface) (in_tree split) }
+        → MakesOneRing (rotations_of surface) (in_tree split) }
     ensures tree_and_left { (surface : OrientedMesh) (split : SplitView) → IsOrientedSurface surface → IsSplit surface split
-        → HasOneRing (rotations_of surface) (λ e. not (in_cotree split e)) }
+        → MakesOneRing (rotations_of surface) (λ e. not (in_cotree split e)) }
 {}
 
 /// Used vertices, faces and twice the genus are two more than the edges: the genus is the one of the Euler

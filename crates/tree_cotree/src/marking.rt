@@ -5,7 +5,7 @@ ghost use Rattle.halfedge_map.specs.OrientedMeshes.{IsOrientedSurface};
 ghost use Rattle.halfedge_map.specs.DartMaps.{darts_of, edge_of};
 ghost use Rattle.halfedge_map.specs.RotationSystems.{rotations_of};
 ghost use Rattle.tree_cotree.specs.Searches.{kept_at, has_kind};
-ghost use Rattle.tree_cotree.specs.Markings.{AreApart, IsMarked};
+ghost use Rattle.tree_cotree.specs.Markings.{AreDartsApart, IsMarked};
 ghost use Rattle.tree_cotree.specs.declared.split.Kind.TheVariants.{Left};
 
 use crate::maybe_number::MaybeNumber;
@@ -18,7 +18,7 @@ use surf_model::{DartName, EdgeName};
 pub(crate) fn mark(kinds: &mut Vec<Kind>, surface: &Surface, from: &[MaybeNumber], kind: Kind)
     requires valid { IsOrientedSurface surface.now }
     requires kinds { length kinds.old.items ≡ length surface.now.table }
-    requires apart { AreApart (rotations_of surface.now) from.now }
+    requires apart { AreDartsApart (rotations_of surface.now) from.now }
     requires free { (v x : ℕ) → kept_at from.now v ≡ Some x → has_kind kinds.old.items kind (edge_of surface.now x) ≡ false }
     ensures { IsMarked (rotations_of surface.now) from.now kind kinds.old.items kinds.new.items (length from.now) }
 {

@@ -3,8 +3,8 @@ ghost use Rattle.std.specs.Prelude.{◌≡◌, ◌<◌, true, length, OnOk, IfOk
 ghost use Rattle.halfedge_map.specs.OrientedMeshes.{IsOrientedSurface};
 ghost use Rattle.halfedge_map.specs.DartMaps.{darts_of};
 ghost use Rattle.tree_cotree.specs.Graphs.{maps_of, node_in, turn_in, crosses};
-ghost use Rattle.tree_cotree.specs.Underway.{found_by, HasFound, IsOrdered, GoesOn};
-ghost use Rattle.tree_cotree.specs.Searches.{same_kind, AreBelow, IsCrossed, IsSearched};
+ghost use Rattle.tree_cotree.specs.Underway.{found_by, HasFound, IsOrdered, SearchGoesOn};
+ghost use Rattle.tree_cotree.specs.Searches.{same_kind, AreBelow, IsNodeCrossed, IsSearched};
 
 use crate::maybe_number::MaybeNumber;
 use crate::split::Kind;
@@ -125,7 +125,7 @@ fn cross(
     requires found { HasFound graph.now search.old (node_in graph.now dart.0) }
     requires order { IsOrdered graph.now (length search.old.from.items) root search.old }
     ensures order { OnOk result (IsOrdered graph.now (length search.old.from.items) root search.new) }
-    ensures added { OnOk result (GoesOn search.old search.new) }
+    ensures added { OnOk result (SearchGoesOn search.old search.new) }
     ensures crossed { OnOk result (crosses graph.now ((maps_of graph.now).edge dart.0) ≡ true
         → HasFound graph.now search.new (node_in graph.now ((maps_of graph.now).twin dart.0))) }
 {
@@ -156,8 +156,8 @@ fn visit(
     requires found { HasFound graph.now search.old (node_in graph.now first.0) }
     requires order { IsOrdered graph.now (length search.old.from.items) root search.old }
     ensures order { OnOk result (IsOrdered graph.now (length search.old.from.items) root search.new) }
-    ensures added { OnOk result (GoesOn search.old search.new) }
-    ensures crossed { OnOk result (IsCrossed (maps_of graph.now) (node_in graph.now)
+    ensures added { OnOk result (SearchGoesOn search.old search.new) }
+    ensures crossed { OnOk result (IsNodeCrossed (maps_of graph.now) (node_in graph.now)
         (crosses graph.now) (found_by search.new) (node_in graph.now first.0)) }
 {
     let mut dart = first;

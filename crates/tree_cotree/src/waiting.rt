@@ -1,6 +1,6 @@
 //! Darts that wait until a search goes round their nodes.
 ghost use Rattle.std.specs.Prelude.{◌≡◌, [], ◌∷◌, ◌++◌, OnOk, IfOk, IfNone, IfSome};
-ghost use Rattle.tree_cotree.specs.Waiting.{waiting_darts, IsTaken};
+ghost use Rattle.tree_cotree.specs.Waiting.{waiting_darts, IsTakenOut};
 
 use std::alloc::{AllocError, Global};
 use std::collections::VecDeque;
@@ -55,7 +55,7 @@ impl Waiting {
     /// The dart that comes next leaves those that wait.
     pub(crate) fn take(&mut self, order: Order) -> Result<Option<DartName>, AllocError>
         ensures none { IfOk result (λ taken. IfNone taken (waiting_darts self.old.far.items self.old.near.items ≡ [])) }
-        ensures some { IfOk result (λ taken. IfSome taken (λ dart. IsTaken (waiting_darts self.old.far.items self.old.near.items)
+        ensures some { IfOk result (λ taken. IfSome taken (λ dart. IsTakenOut (waiting_darts self.old.far.items self.old.near.items)
             (waiting_darts self.new.far.items self.new.near.items) dart.0)) }
     {
         match order {
@@ -67,7 +67,7 @@ impl Waiting {
     /// The dart of the present patch that was found first or, where the patch is large enough, the one that waits longest.
     fn take_by_patches(&mut self) -> Result<Option<DartName>, AllocError>
         ensures none { IfOk result (λ taken. IfNone taken (waiting_darts self.old.far.items self.old.near.items ≡ [])) }
-        ensures some { IfOk result (λ taken. IfSome taken (λ dart. IsTaken (waiting_darts self.old.far.items self.old.near.items)
+        ensures some { IfOk result (λ taken. IfSome taken (λ dart. IsTakenOut (waiting_darts self.old.far.items self.old.near.items)
             (waiting_darts self.new.far.items self.new.near.items) dart.0)) }
     {
         if self.room > 0 && !self.near.is_empty() {
@@ -81,7 +81,7 @@ impl Waiting {
     /// The dart that was found last.
     fn take_last(&mut self) -> Option<DartName>
         ensures none { IfNone result (waiting_darts self.old.far.items self.old.near.items ≡ []) }
-        ensures some { IfSome result (λ dart. IsTaken (waiting_darts self.old.far.items self.old.near.items)
+        ensures some { IfSome result (λ dart. IsTakenOut (waiting_darts self.old.far.items self.old.near.items)
             (waiting_darts self.new.far.items self.new.near.items) dart.0) }
     {
         match self.near.pop_back() {

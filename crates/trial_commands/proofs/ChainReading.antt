@@ -1,5 +1,5 @@
 -- The text of a chain of tori is read as the chain: it is that of the mesh, with the places of the vertices for points.
-use Rattle.trial_commands.proofs.Common.{meaning_of, BadVertex, ◌≡◌, ℕ, zero, suc, ◌*◌, ◌^◌, ◌<◌, ◌≤◌, true, List, [], ◌∷◌, ◌++◌, length, get_or, map, arith, ap, ◌∙◌, subst, refl, and_from, Some, None, Ok, decimal, flat_map, sum_by, ◌≢◌, if◌then◌else◌, coordinates, chain_text, vertices, cells, face, chain_mesh, IsChain, IsFace, IsFaceList, HasFileSize, next_corner}
+use Rattle.trial_commands.proofs.Common.{meaning_of, BadVertex, ◌≡◌, ℕ, zero, suc, ◌*◌, ◌^◌, ◌<◌, ◌≤◌, true, List, [], ◌∷◌, ◌++◌, length, get_or, map, arith, ap, ◌∙◌, subst, refl, and_from, Some, None, Ok, decimal, flat_map, sum_by, ◌≢◌, if◌then◌else◌, coordinates, chain_text, vertices, cells, face, chain_mesh, IsChainSize, IsFace, IsFaceList, HasFileSize, next_corner}
 use Rattle.off_writer.proofs.ReadingBack.{IsPointLine, lines_with, reads_back_with}
 use Rattle.std.proofs.lemmas.List.{length-map, map-append}
 use Rattle.std.proofs.lemmas.List.Elements.{All-nil, All-cons, All-map, All-weaker}
@@ -32,7 +32,7 @@ number_text n less =
     (AllPass-from_list_all (λ k. is_number_text (decimal k)) (range_with_len 0 200) each_is_text n 0
     (omega (arith, less, length-range_with_len 0 200)))
 
-place_is_point : (genus grid : ℕ) (p : Point) → IsChain genus grid → IsPoint genus grid p → IsPointLine (map decimal (coordinates p))
+place_is_point : (genus grid : ℕ) (p : Point) → IsChainSize genus grid → IsPoint genus grid p → IsPointLine (map decimal (coordinates p))
 place_is_point genus grid p chain at =
     let P : ℕ → Type 0 = λ n. n < 2 ^ 32 in
     let torus : p.torus < 200 = omega (arith, at.torus, chain.few_tori) in
@@ -73,7 +73,7 @@ quad_is_face count a b c d quad =
     differ (suc (suc (suc zero))) within = quad.da
     differ (suc (suc (suc (suc t)))) within = absurd (omega (arith, within))
 
-chain_faces : (genus grid : ℕ) → IsChain genus grid → IsFaceList (chain_mesh genus grid)
+chain_faces : (genus grid : ℕ) → IsChainSize genus grid → IsFaceList (chain_mesh genus grid)
 chain_faces genus grid chain =
     let count : ℕ = length (vertices genus grid) in
     record {
@@ -84,7 +84,7 @@ chain_faces genus grid chain =
           (all_cells genus grid));
     }
 
-chain_fits : (genus grid : ℕ) → IsChain genus grid → HasFileSize (chain_mesh genus grid)
+chain_fits : (genus grid : ℕ) → IsChainSize genus grid → HasFileSize (chain_mesh genus grid)
 chain_fits genus grid chain =
     let few = few_points genus grid chain.few_tori chain.few_points in
     let faces : List (List ℕ) = map (face grid) (cells genus grid) in
@@ -99,7 +99,7 @@ chain_fits genus grid chain =
 
 -- ---- the text
 
-pub chain_read : (genus grid : ℕ) → IsChain genus grid → meaning_of (chain_text genus grid) ≡ Ok (chain_mesh genus grid)
+pub chain_read : (genus grid : ℕ) → IsChainSize genus grid → meaning_of (chain_text genus grid) ≡ Ok (chain_mesh genus grid)
 unfolding digits
 chain_read genus grid chain =
     let mesh = chain_mesh genus grid in

@@ -17,7 +17,7 @@ pub use Rattle.std.proofs.lemmas.Bool.{and_from, le-leb}
 pub use Rattle.std.specs.Prelude.{Err, IfOk, MatchResult, None, Ok, Option, Result, Some, decimal, flat_map, if◌then◌else◌, nat_le, sum_by, ◌↔◌, ◌≢◌}
 pub use Rattle.surf_gen.specs.ChainTexts.{chain_text, coordinates}
 pub use Rattle.surf_gen.specs.Chains.{cells, chain_mesh, face, vertices}
-pub use Rattle.surf_gen.specs.Sizes.{IsChain}
+pub use Rattle.surf_gen.specs.Sizes.{IsChainSize}
 pub use Rattle.surf_gen.specs.TrialWalks.{first_walk, second_walk}
 pub use Rattle.surf_gen.specs.declared.limits.TheConstants.{LEAST_GRID, MOST_GENUS, MOST_GRID}
 pub use Rattle.surf_gen.specs.declared.walks.TrialPair.{TrialPair}
@@ -26,12 +26,13 @@ pub use Rattle.surf_io.specs.Files.{Files}
 pub use Rattle.surf_model.specs.FaceLists.{FaceList, HasFileSize, IsFace, IsFaceList, next_corner}
 pub use Rattle.surf_model.specs.Genera.{AreNumbersOf}
 pub use Rattle.surf_model.specs.OrientableSurfaces.{IsOrientableSurface}
+pub use Rattle.surf_model.specs.Walks.{AreWalkPair, walk_at}
 pub use Rattle.surf_model.specs.declared.decisions.Answer.TheVariants.{Different, Homotopic}
 pub use Rattle.surf_model.specs.declared.numbers.SurfaceNumbers.{SurfaceNumbers}
 pub use Rattle.surface_commands.proofs.Measuring.{as_passed, as_passes, sound-genera, sound-numbers}
 pub use Rattle.surface_commands.proofs.Surfaces.{few_pass, few_passed, sound-as_surface, sound-few}
 pub use Rattle.surface_commands.specs.Surface.{genera_of, genus_line, numbers_of}
 pub use Rattle.surface_commands.specs.SurfaceInput.{as_surface, of_few_components}
-pub use Rattle.trial_commands.specs.Trial.{AreDecisions, IsRightOn, IsTrialRow, IsTried, decision_on, is_within, last_lines, pair_decided, pair_walks, pairs_decided, size_fault, surface_spelled, trial, trial_text}
+pub use Rattle.trial_commands.specs.Trial.{AreTrialDecisions, IsRightOn, IsTrialRow, IsTried, decision_on, is_within, last_lines, pair_decided, pair_walks, pairs_decided, size_fault, surface_spelled, trial, trial_text}
 pub use Rattle.trial_commands.specs.declared.trial.Decisions.{Decisions}
 pub use Rattle.walk_files.specs.Pairs.{IsPair, pair_fault}

@@ -1,5 +1,5 @@
 -- `trial` in the words of the chain.
-use Rattle.trial_commands.proofs.Common.{AreGeneraOf, behind, refused_behind, sound-pass_unless, meant_told, unless_told, Answer, yes_with, Check, End, Refuse, Pass, Passes, pass, ◌>>=◌, refused, off_line, pair_line, told, joined_few, meaning_of, ◌≡◌, inl, inr, ℕ, true, List, refl, subst, and_from, le-leb, Option, Some, None, nat_le, chain_text, chain_mesh, IsChain, MOST_GENUS, LEAST_GRID, MOST_GRID, TrialPair, Commuting, Cell, Loops, Files, FaceList, IsFaceList, AreNumbersOf, IsOrientableSurface, SurfaceNumbers, as_passes, sound-few, few_pass, numbers_of, genera_of, of_few_components, IsTrialRow, IsTried, AreDecisions, IsRightOn, is_within, size_fault, surface_spelled, pair_walks, pair_decided, pairs_decided, trial_text, trial, Decisions, IsPair, pair_fault}
+use Rattle.trial_commands.proofs.Common.{AreGeneraOf, behind, refused_behind, sound-pass_unless, meant_told, unless_told, Answer, yes_with, Check, End, Refuse, Pass, Passes, pass, ◌>>=◌, refused, off_line, pair_line, told, joined_few, meaning_of, ◌≡◌, inl, inr, ℕ, true, List, refl, subst, and_from, le-leb, Option, Some, None, nat_le, chain_text, chain_mesh, IsChainSize, MOST_GENUS, LEAST_GRID, MOST_GRID, TrialPair, Commuting, Cell, Loops, Files, FaceList, IsFaceList, AreNumbersOf, IsOrientableSurface, SurfaceNumbers, as_passes, sound-few, few_pass, numbers_of, genera_of, of_few_components, IsTrialRow, IsTried, AreTrialDecisions, IsRightOn, is_within, size_fault, surface_spelled, pair_walks, pair_decided, pairs_decided, trial_text, trial, Decisions, IsPair, pair_fault}
 use Rattle.closed_surfaces.proofs.SomeParts.{some_parts}
 use Rattle.commands.specs.Outcomes.{Outcome, AnswersTo, IsAnswerOf}
 use Rattle.commands.specs.declared.status.Status.{Status}
@@ -26,7 +26,7 @@ bounds_so files genus grid phrases outcome status text fault ends answer =
 
 -- ---- within bounds
 
-no_fault : (genus grid : ℕ) → IsChain genus grid → size_fault genus grid ≡ None
+no_fault : (genus grid : ℕ) → IsChainSize genus grid → size_fault genus grid ≡ None
 no_fault genus grid chain =
     let genus_fits : is_within 1 MOST_GENUS genus ≡ true =
     and_from (nat_le 1 genus) (nat_le genus MOST_GENUS) (le-leb 1 genus chain.some_tori) (le-leb genus MOST_GENUS chain.few_tori) in
@@ -99,12 +99,12 @@ pair_so {T} files mesh grid which next end pair ends = by_end ends
 -- the decisions on all pairs, and what comes behind them
 record PairsDecided (mesh : FaceList) (grid : ℕ) (next : Decisions → Check Answer) (outcome : Outcome) : Type 0 where
   decisions : Decisions
-  are : AreDecisions mesh grid decisions
+  are : AreTrialDecisions mesh grid decisions
   behind_them : (next decisions).Ends outcome
 
 pairs_end : (files : Option Files) (mesh : FaceList) (grid : ℕ) (end : End Decisions)
     → ((which : TrialPair) → IsPair mesh (pair_walks grid which))
-    → (pairs_decided mesh grid).Ends end → (decisions : Decisions) × AreDecisions mesh grid decisions × (end ≡ Pass decisions)
+    → (pairs_decided mesh grid).Ends end → (decisions : Decisions) × AreTrialDecisions mesh grid decisions × (end ≡ Pass decisions)
 pairs_end files mesh grid end pairs ends =
     let commuting = pair_so files mesh grid Commuting (with_cell mesh grid) end (pairs Commuting) ends in
     let cell = pair_so files mesh grid Cell (with_loops mesh grid commuting.decision) end (pairs Cell) commuting.behind_it in
@@ -123,14 +123,14 @@ pairs_so files mesh grid next outcome pairs (inl p) = let e = (pairs_end files m
 pairs_so files mesh grid next outcome pairs (inr p) =
     let found = pairs_end files mesh grid (Pass p.0) pairs p.1 in
     let same : found.0 ≡ p.0 = let e = found.2 in cc in
-    record { decisions = p.0; are = subst (AreDecisions mesh grid) same found.1; behind_them = p.2 }
+    record { decisions = p.0; are = subst (AreTrialDecisions mesh grid) same found.1; behind_them = p.2 }
 
-within_so : (files : Option Files) (genus grid : ℕ) (outcome : Outcome) (status : Status) (text : List ℕ) → IsChain genus grid
+within_so : (files : Option Files) (genus grid : ℕ) (outcome : Outcome) (status : Status) (text : List ℕ) → IsChainSize genus grid
     → IsSurface (chain_mesh genus grid) → ((which : TrialPair) → IsPair (chain_mesh genus grid) (pair_walks grid which))
     → (trial genus grid).Ends outcome → IsAnswerOf outcome status text
     → (status ≡ Yes) × (numbers : SurfaceNumbers) × AreNumbersOf (chain_mesh genus grid) numbers
     × (genera : List ℕ) × AreGeneraOf (chain_mesh genus grid) genera
-    × (decisions : Decisions) × AreDecisions (chain_mesh genus grid) grid decisions
+    × (decisions : Decisions) × AreTrialDecisions (chain_mesh genus grid) grid decisions
     × (text ≡ trial_text genus grid numbers genera decisions)
 within_so files genus grid outcome status text chain is pairs ends answer =
     let mesh = chain_mesh genus grid in

@@ -1,8 +1,7 @@
 -- How the checks of `trial` end.
-use Rattle.trial_commands.proofs.Common.{AreGeneraOf, stops_first, stops_next, told_stops, one_decision, differs, IsSound, sound-then, sound-pass, sound-meant, sound-pass_unless, Answer, yes_with, Check, End, Refuse, Pass, Passes, meant, pass, pass_unless, ◌>>=◌, off_line, pair_line, told, Stops, Tells, meaning_of, ◌≡◌, inl, inr, ℕ, true, false, List, [], ◌∷◌, refl, sym, subst, codes, Option, Some, None, Result, Ok, Err, IfOk, MatchResult, decimal, ◌↔◌, chain_text, first_walk, second_walk, MOST_GENUS, LEAST_GRID, MOST_GRID, TrialPair, Commuting, Cell, Loops, Files, FaceList, IsFaceList, AreNumbersOf, IsOrientableSurface, Homotopic, Different, SurfaceNumbers, sound-numbers, sound-genera, as_passed, sound-as_surface, sound-few, few_passed, numbers_of, genera_of, as_surface, of_few_components, is_within, size_fault, surface_spelled, decision_on, pair_walks, pair_decided, pairs_decided, trial_text, trial, Decisions, pair_fault}
+use Rattle.trial_commands.proofs.Common.{AreGeneraOf, stops_first, stops_next, told_stops, one_decision, differs, IsSound, sound-then, sound-pass, sound-meant, sound-pass_unless, Answer, yes_with, Check, End, Refuse, Pass, Passes, meant, pass, pass_unless, ◌>>=◌, off_line, pair_line, told, Stops, Tells, meaning_of, ◌≡◌, inl, inr, ℕ, true, false, List, [], ◌∷◌, refl, sym, subst, codes, Option, Some, None, Result, Ok, Err, IfOk, MatchResult, decimal, ◌↔◌, chain_text, first_walk, second_walk, MOST_GENUS, LEAST_GRID, MOST_GRID, TrialPair, Commuting, Cell, Loops, Files, FaceList, IsFaceList, AreNumbersOf, IsOrientableSurface, walk_at, Homotopic, Different, SurfaceNumbers, sound-numbers, sound-genera, as_passed, sound-as_surface, sound-few, few_passed, numbers_of, genera_of, as_surface, of_few_components, is_within, size_fault, surface_spelled, decision_on, pair_walks, pair_decided, pairs_decided, trial_text, trial, Decisions, pair_fault}
 use Rattle.closed_surfaces.specs.declared.signed_mesh.SignedMesh.{SignedMesh}
 use Rattle.commands.proofs.MeshTexts.{is_face_list}
-use Rattle.commands.specs.Inputs.{walk_at}
 use Rattle.commands.specs.declared.stop.Stop.{Stop}
 use Rattle.off_reader.specs.declared.off_fault.OffFault.{OffFault}
 use Rattle.walk_files.specs.declared.pair.PairFault.{PairFault}

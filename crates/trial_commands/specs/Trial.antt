@@ -6,7 +6,7 @@ use Rattle.surf_model.specs.Surfaces.{IsSurface}
 use Rattle.off_reader.specs.OffTexts.{meaning_of}
 use Rattle.surf_gen.specs.Chains.{chain_mesh}
 use Rattle.surf_gen.specs.ChainTexts.{chain_text}
-use Rattle.surf_gen.specs.Sizes.{IsChain}
+use Rattle.surf_gen.specs.Sizes.{IsChainSize}
 use Rattle.surf_gen.specs.TrialWalks.{first_walk, second_walk}
 use Rattle.surf_gen.specs.declared.limits.TheConstants.{MOST_GENUS, LEAST_GRID, MOST_GRID}
 use Rattle.surf_gen.specs.declared.walks.TrialPair.{TrialPair}
@@ -17,7 +17,7 @@ use Rattle.surf_model.specs.declared.decisions.Answer.TheVariants.{Homotopic}
 use Rattle.commands.specs.Answers.{Answer, yes_with}
 use Rattle.commands.specs.Certificates.{decision_word}
 use Rattle.commands.specs.Checks.{Check, End, Refuse, Pass, meant, pass, pass_unless, without_files, ◌>>=◌}
-use Rattle.commands.specs.Inputs.{walk_at}
+use Rattle.surf_model.specs.Walks.{walk_at}
 use Rattle.commands.specs.Lines.{line, in_lines, refused}
 use Rattle.commands.specs.Refusals.{off_line, pair_line, told}
 use Rattle.surf_model.specs.Genera.{AreNumbersOf}
@@ -98,7 +98,7 @@ trial_text genus grid numbers genera decisions =
 abbrev pub IsRightOn : FaceList → ℕ → TrialPair → deciding.Answer → Type 0
 IsRightOn mesh grid which decision = (decision ≡ Homotopic) ↔ moves.Homotopic mesh (first_walk grid which) (second_walk grid which)
 
-pub record AreDecisions (mesh : FaceList) (grid : ℕ) (decisions : Decisions) : Type 0 where
+pub record AreTrialDecisions (mesh : FaceList) (grid : ℕ) (decisions : Decisions) : Type 0 where
   pub commuting : IsRightOn mesh grid Commuting decisions.commuting
   pub cell : IsRightOn mesh grid Cell decisions.cell
   pub loops : IsRightOn mesh grid Loops decisions.loops
@@ -109,11 +109,11 @@ pub record AreDecisions (mesh : FaceList) (grid : ℕ) (decisions : Decisions) :
 pub record IsTried (words : List (List ℕ)) (status : Status) (text : List ℕ) : Type 0 where
   pub out_of_bounds : (genus grid : ℕ) (phrases : List (List ℕ)) → IsTrialRow words genus grid → size_fault genus grid ≡ Some phrases
       → (status ≡ Refused) × (text ≡ refused phrases)
-  pub within_bounds : (genus grid : ℕ) → IsTrialRow words genus grid → IsChain genus grid → IsSurface (chain_mesh genus grid)
+  pub within_bounds : (genus grid : ℕ) → IsTrialRow words genus grid → IsChainSize genus grid → IsSurface (chain_mesh genus grid)
       → ((which : TrialPair) → IsPair (chain_mesh genus grid) (pair_walks grid which))
       → (status ≡ Yes) × (numbers : SurfaceNumbers) × AreNumbersOf (chain_mesh genus grid) numbers
       × (genera : List ℕ) × AreGeneraOf (chain_mesh genus grid) genera
-      × (decisions : Decisions) × AreDecisions (chain_mesh genus grid) grid decisions
+      × (decisions : Decisions) × AreTrialDecisions (chain_mesh genus grid) grid decisions
       × (text ≡ trial_text genus grid numbers genera decisions)
 
 -- what is looked at, in order, and then the eight lines; a chain in several pieces, of which there is none, would be refused as such

@@ -1,7 +1,7 @@
 //! The command `trial`: what `surface` and `decide` say of a chain of tori, and of its three pairs of walks.
 ghost use Rattle.std.specs.Prelude.{◌≡◌, [], ◌∷◌, ◌++◌, MatchResult, IfOk, OnOk, Err};
 ghost use Rattle.surf_gen.specs.ChainTexts.{chain_text};
-ghost use Rattle.surf_gen.specs.Sizes.{IsChain};
+ghost use Rattle.surf_gen.specs.Sizes.{IsChainSize};
 ghost use Rattle.surf_model.specs.Components.{EachTwoAreJoined};
 ghost use Rattle.commands.specs.Certificates.{decision_word};
 ghost use Rattle.commands.specs.Checks.{Passes, pass_unless};
@@ -62,7 +62,7 @@ pub fn trial(alloc: Global, genus: u32, grid: u32) -> Result<Reply, Stop>
 fn check_sizes(genus: u32, grid: u32) -> Result<(), Stop>
     ensures end { MatchResult result (λ _. Passes (pass_unless told (size_fault genus grid) genus) genus)
         (Stops (pass_unless told (size_fault genus grid) genus)) }
-    ensures sizes { IfOk result (λ _. IsChain genus grid) }
+    ensures sizes { IfOk result (λ _. IsChainSize genus grid) }
     ensures no_fault { result ≡ Err Stop.ReadFault → ⊥ }
 {
     if !is_within(1, MOST_GENUS, genus) {
@@ -83,7 +83,7 @@ fn is_within(least: u32, most: u32, n: u32) -> bool
 
 /// The chain as a surface, read from its text.
 fn chain_surface(alloc: Global, genus: u32, grid: u32) -> Result<SignedMesh, Stop>
-    requires { IsChain genus grid }
+    requires { IsChainSize genus grid }
     ensures end { MatchResult result (λ surface. Passes (surface_spelled (chain_text genus grid)) surface.faces)
         (Stops (surface_spelled (chain_text genus grid))) }
     ensures signed { IfOk result IsSigned }
@@ -112,7 +112,7 @@ fn measure_chain(alloc: Global, chain: &SignedMesh) -> Result<Measured, Stop>
 
 /// The decisions on the three pairs of walks of a chain.
 fn decide_on(alloc: Global, chain: SignedMesh, genus: u32, grid: u32) -> Result<Decisions, Stop>
-    requires sizes { IsChain genus grid }
+    requires sizes { IsChainSize genus grid }
     requires signed { IsSigned chain }
     requires joined { EachTwoAreJoined chain.faces }
     ensures end { Ends (pairs_decided chain.faces grid) result }
@@ -128,7 +128,7 @@ fn decide_on(alloc: Global, chain: SignedMesh, genus: u32, grid: u32) -> Result<
 
 /// The decisions on the three pairs.
 fn decide_pairs(alloc: Global, decider: &Decider, genus: u32, grid: u32) -> Result<Decisions, Stop>
-    requires { IsChain genus grid }
+    requires { IsChainSize genus grid }
     ensures end { Ends (pairs_decided decider.now grid) result }
     ensures no_fault { result ≡ Err Stop.ReadFault → ⊥ }
 {
@@ -150,7 +150,7 @@ fn decide_pair(
     grid: u32,
     which: TrialPair,
 ) -> Result<Answer, Stop>
-    requires { IsChain genus grid }
+    requires { IsChainSize genus grid }
     ensures end { Ends (pair_decided decider.now grid which) result }
     ensures no_fault { result ≡ Err Stop.ReadFault → ⊥ }
 {

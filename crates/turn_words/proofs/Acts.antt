@@ -1,5 +1,5 @@
 -- What a put means for a state, and for a recorder.
-use Rattle.turn_words.proofs.Common.{◌≡◌, ℕ, ◌<◌, arith, sym, ◌∙◌, ap, List, [], ◌∷◌, ◌++◌, length, reverse, Option, Some, common_steps, reverse-reverse, append-nil, HyperState, turn_to, value_at, hyper_next, BelongsTo, LeadOn, good_word, turn_below, next_belongs, put-good, add, minus, put_steps, put, with_steps, TellsMore, next_changed, after_steps, Step}
+use Rattle.turn_words.proofs.Common.{◌≡◌, ℕ, ◌<◌, arith, sym, ◌∙◌, ap, List, [], ◌∷◌, ◌++◌, length, reverse, Option, Some, common_steps, reverse-reverse, append-nil, HyperState, turn_to, value_at, hyper_next, BelongsTo, LeadOn, good_word, turn_below, next_belongs, put-good, add, minus, put_steps, put, with_steps, TellsMore, next_changed, after_word_steps, Step}
 use Rattle.turn_words.proofs.Telling.{tells-steps}
 use Rattle.turn_words.proofs.Reaching.{IsNextBelow, put-reached}
 
@@ -14,9 +14,9 @@ puts-lead places s i b =
     let t = turn_to places s i in
     let good = good_word places s b in
     let front : (w : List ℕ) → IsNextBelow d w →
-    after_steps d (put_steps d (reverse s.word) t) (s.word ++ (t ∷ w)) ≡ Some (reverse (put d (reverse s.word) t).word
+    after_word_steps d (put_steps d (reverse s.word) t) (s.word ++ (t ∷ w)) ≡ Some (reverse (put d (reverse s.word) t).word
     ++ next_changed d (put d (reverse s.word) t).change w)
-    = λ w below. ap (λ u. after_steps d (put_steps d (reverse s.word) t) (u ++ (t ∷ w))) (sym (reverse-reverse s.word))
+    = λ w below. ap (λ u. after_word_steps d (put_steps d (reverse s.word) t) (u ++ (t ∷ w))) (sym (reverse-reverse s.word))
     ∙ put-reached d b.own.five (reverse s.word) t w good below in
     record {
       alone = front [] tt ∙ ap Some (append-nil _);

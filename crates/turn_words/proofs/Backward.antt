@@ -1,5 +1,5 @@
 -- Each elementary step is undone by one, so reaching goes both ways.
-use Rattle.turn_words.proofs.Common.{◌≡◌, ℕ, ◌<◌, ◌≤◌, inl, inr, arith, refl, sym, ◌∙◌, ap, ap₂, zero, suc, true, false, List, [], ◌∷◌, ◌++◌, Option, Some, None, cases_eq, eq-eqb, ne_eqb, cases_lt, lt-ltb, le-ltb, option_map, IsTurnWord, in-range-from, all-from, InRange, up-down, down-up, add-cases, minus-cases, add, minus, next_changed, spur_in, spur_out, pushed, from_place, after_step, after_steps, Reaches, Step, SpurIn, SpurOut, Push}
+use Rattle.turn_words.proofs.Common.{◌≡◌, ℕ, ◌<◌, ◌≤◌, inl, inr, arith, refl, sym, ◌∙◌, ap, ap₂, zero, suc, true, false, List, [], ◌∷◌, ◌++◌, Option, Some, None, cases_eq, eq-eqb, ne_eqb, cases_lt, lt-ltb, le-ltb, option_map, IsTurnWord, in-range-from, all-from, InRange, up-down, down-up, add-cases, minus-cases, add, minus, next_changed, spur_in, spur_out, pushed, from_place, after_step, after_word_steps, Reaches, Step, SpurIn, SpurOut, Push}
 use Rattle.turn_words.proofs.Reading.{state, keeps-step, next-back, minus-next}
 use Rattle.turn_words.proofs.Reaching.{start-sound, after_steps-append}
 
@@ -93,8 +93,8 @@ module _ (d : ℕ) (five : 5 ≤ d) where
       let back = undone-from_place (pushed d false) (λ k. pushed d true) undone-down at w v s e in (Push at true, back.1)
 
   steps-next : (step : Step) (steps : List Step) (w v : List ℕ) → InRange d w →
-      ((u : List ℕ) → InRange d u → after_steps d steps u ≡ Some v → InRange d v × Reaches d v u) →
-      after_steps d (step ∷ steps) w ≡ Some v → InRange d v × Reaches d v w
+      ((u : List ℕ) → InRange d u → after_word_steps d steps u ≡ Some v → InRange d v × Reaches d v u) →
+      after_word_steps d (step ∷ steps) w ≡ Some v → InRange d v × Reaches d v w
   steps-next step steps w v s h e = go (after_step d step w) refl
     where
       go : (o : Option (List ℕ)) → after_step d step w ≡ o → InRange d v × Reaches d v w
@@ -104,10 +104,10 @@ module _ (d : ℕ) (five : 5 ≤ d) where
           let range = (keeps-step d five step (state [] 0) w u (start-sound d five) s f).0 in
           let rest = h u range allowed in
           let back = step-back step w u s f in
-          let last : after_steps d (back.0 ∷ []) u ≡ Some w = rw back.1 refl in
+          let last : after_word_steps d (back.0 ∷ []) u ≡ Some w = rw back.1 refl in
           (rest.0, (rest.1.0 ++ (back.0 ∷ []), after_steps-append d rest.1.0 (back.0 ∷ []) v u rest.1.1 ∙ last))
 
-  steps-back : (steps : List Step) (w v : List ℕ) → InRange d w → after_steps d steps w ≡ Some v → InRange d v × Reaches d v w
+  steps-back : (steps : List Step) (w v : List ℕ) → InRange d w → after_word_steps d steps w ≡ Some v → InRange d v × Reaches d v w
   steps-back [] w v s e = let same : w ≡ v = cc in rw (← same) (s, ([], refl))
   steps-back (step ∷ steps) w v s e = steps-next step steps w v s (λ u i f. steps-back steps u v i f) e
 

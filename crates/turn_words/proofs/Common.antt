@@ -7,21 +7,21 @@ pub use Rattle.std.specs.Prelude.{Contains, IfSome, option_and_then, option_map}
 pub use Rattle.turn_words.specs.Canonical.{AreReduced, IsCanonical, IsCanonicalOf, IsTurnWord, StandsNowhere, closes_bracket}
 pub use Rattle.turn_words.specs.FormLaws.{NotesAlong, led}
 pub use Rattle.turn_words.specs.HyperStates.{BelongsTo, HyperState, HyperView, IsHyperWheel, LeadOn, empty_state, hyper_next, put_spoke, turn_to, value_at}
-pub use Rattle.turn_words.specs.Lemmas.Across.{across, first_side, minus-minus, one-minus, one-one, second_side, two-down, two-up}
+pub use Rattle.turn_words.specs.Lemmas.Across.{across, first_quad_side, minus-minus, one-minus, one-one, second_quad_side, two-down, two-up}
 pub use Rattle.turn_words.specs.Lemmas.FromEnd.{all-from, canonical-from, good-from-canonical, in-range-from, in-range-reverse}
 pub use Rattle.turn_words.specs.Lemmas.HyperLaws.{good_word, hyper_starts, length-next, next_belongs, turn_below}
 pub use Rattle.turn_words.specs.Lemmas.Lists.{InRange, reverse-cons, reverse-next}
 pub use Rattle.turn_words.specs.Lemmas.PutLaws.{cases, close, down-up, flip, other, put-back, put-good, put-put, spur, up-down}
 pub use Rattle.turn_words.specs.Lemmas.Sums.{add-cases, add-lt, add-zero, add_assoc, add_comm, minus-cases, minus-lt, minus-one, zero-add}
-pub use Rattle.turn_words.specs.Lemmas.WordEnds.{Follows, IsCons, IsGood, closed-two, flipped-end, flipped-run, good-head, good-tail, open-cases, open-one, open-other, open-two, put-close, put-else, put-flip}
+pub use Rattle.turn_words.specs.Lemmas.WordEnds.{Follows, IsCanonicalBackward, IsCons, closed-two, flipped-end, flipped-run, good-head, good-tail, open-cases, open-one, open-other, open-two, put-close, put-else, put-flip}
 pub use Rattle.turn_words.specs.Modulo.{add, minus}
 pub use Rattle.turn_words.specs.Private.PutSteps.{StoodIn, close_steps, flip_steps, pushes, put_steps, rewrite_steps}
-pub use Rattle.turn_words.specs.Private.StoredWords.{EndsBelow, EndsOtherwise, IsStoredWord, RunWordView, TopDiffers, last_changed, word_of}
+pub use Rattle.turn_words.specs.Private.StoredWords.{EndsBelow, EndsOtherwise, IsStoredWord, RunWordView, TopDiffers, last_changed, word_of_runs}
 pub use Rattle.turn_words.specs.PutTurns.{Put, closed, flipped, is_open, put, put_last}
 pub use Rattle.turn_words.specs.Recorded.{TellsMore, with_steps}
 pub use Rattle.turn_words.specs.Runs.{AreApart, AreFilled, RunStackView, written}
 pub use Rattle.turn_words.specs.SpokePaths.{place_round, turn_word_of, turns_after, turns_from}
-pub use Rattle.turn_words.specs.StepTable.{Reaches, after_step, after_steps, from_place, next_changed, pushed, spur_in, spur_out}
+pub use Rattle.turn_words.specs.StepTable.{Reaches, after_step, after_word_steps, from_place, next_changed, pushed, spur_in, spur_out}
 pub use Rattle.turn_words.specs.Wheels.{IsInside, IsWheel, StandsTwice}
 pub use Rattle.turn_words.specs.declared.step.Step.{Step}
 pub use Rattle.turn_words.specs.declared.step.Step.TheVariants.{Push, SpurIn, SpurOut}

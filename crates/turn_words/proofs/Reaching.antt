@@ -1,6 +1,6 @@
 -- The steps of a put lead to its word, in front of whatever comes next; so a word reaches what its entries, put one
 -- after another, leave.
-use Rattle.turn_words.proofs.Common.{◌≡◌, ℕ, ◌<◌, ◌≤◌, inl, inr, arith, refl, sym, ◌∙◌, ap, true, false, List, [], ◌∷◌, ◌++◌, reverse, length, Option, Some, None, cases_eq, eq-eqb, ne_eqb, common_steps, append-nil, option_map, option_and_then, two-up, one-one, one-minus, two-down, minus-minus, InRange, reverse-next, reverse-cons, put-back, cases, spur, flip, close, other, minus-one, add-zero, add_comm, IsGood, open-cases, put-flip, put-close, put-else, good-head, good-tail, Follows, add, minus, flip_steps, close_steps, put_steps, Put, is_open, flipped, closed, put, next_changed, spur_out, pushed, from_place, after_step, after_steps, Reaches, Step, SpurOut, Push}
+use Rattle.turn_words.proofs.Common.{◌≡◌, ℕ, ◌<◌, ◌≤◌, inl, inr, arith, refl, sym, ◌∙◌, ap, true, false, List, [], ◌∷◌, ◌++◌, reverse, length, Option, Some, None, cases_eq, eq-eqb, ne_eqb, common_steps, append-nil, option_map, option_and_then, two-up, one-one, one-minus, two-down, minus-minus, InRange, reverse-next, reverse-cons, put-back, cases, spur, flip, close, other, minus-one, add-zero, add_comm, IsCanonicalBackward, open-cases, put-flip, put-close, put-else, good-head, good-tail, Follows, add, minus, flip_steps, close_steps, put_steps, Put, is_open, flipped, closed, put, next_changed, spur_out, pushed, from_place, after_step, after_word_steps, Reaches, Step, SpurOut, Push}
 use Rattle.turn_words.proofs.Reading.{read, IsSound, Keeps, state, put-sound, keeps-step}
 
 -- a rule at the place behind a front changes what comes there
@@ -24,14 +24,14 @@ at_end rule r w v e = grind (arith, common_steps, from_place-append)
 
 -- one list of steps after another
 after-next : (d : ℕ) (a b : List Step) (v : List ℕ) (o : Option (List ℕ)) →
-    ((u : List ℕ) → after_steps d a u ≡ Some v → after_steps d (a ++ b) u ≡ after_steps d b v) →
-    option_and_then (after_steps d a) o ≡ Some v → option_and_then (after_steps d (a ++ b)) o ≡ after_steps d b v
+    ((u : List ℕ) → after_word_steps d a u ≡ Some v → after_word_steps d (a ++ b) u ≡ after_word_steps d b v) →
+    option_and_then (after_word_steps d a) o ≡ Some v → option_and_then (after_word_steps d (a ++ b)) o ≡ after_word_steps d b v
 after-next d a b v None h e = absurd cc
 after-next d a b v (Some u) h e = h u e
 
-pub after_steps-append : (d : ℕ) (a b : List Step) (w v : List ℕ) → after_steps d a w ≡ Some v
-    → after_steps d (a ++ b) w ≡ after_steps d b v
-after_steps-append d [] b w v e = let same : w ≡ v = cc in ap (after_steps d b) same
+pub after_steps-append : (d : ℕ) (a b : List Step) (w v : List ℕ) → after_word_steps d a w ≡ Some v
+    → after_word_steps d (a ++ b) w ≡ after_word_steps d b v
+after_steps-append d [] b w v e = let same : w ≡ v = cc in ap (after_word_steps d b) same
 after_steps-append d (s ∷ a) b w v e = after-next d a b v (after_step d s w) (λ u f. after_steps-append d a b u v f) e
 
 -- the entry that comes next is below the degree
@@ -45,9 +45,9 @@ next-below d (y ∷ w) i = i.0
 
 module _ (d : ℕ) (five : 5 ≤ d) where
   -- a step at the end of a front, and then the others
-  step-then : (s : Step) (steps : List Step) (w u v : List ℕ) → after_step d s w ≡ Some u → after_steps d steps u ≡ Some v
-      → after_steps d (s ∷ steps) w ≡ Some v
-  step-then s steps w u v e f = ap (option_and_then (after_steps d steps)) e ∙ f
+  step-then : (s : Step) (steps : List Step) (w u v : List ℕ) → after_step d s w ≡ Some u → after_word_steps d steps u ≡ Some v
+      → after_word_steps d (s ∷ steps) w ≡ Some v
+  step-then s steps w u v e f = ap (option_and_then (after_word_steps d steps)) e ∙ f
 
   push-up : (x : ℕ) (r w : List ℕ) →
       after_step d (Push (length r) true) (reverse (x ∷ r) ++ (minus d 1 ∷ w)) ≡ Some (reverse r ++ (add d x 1 ∷ 1 ∷ next_changed d 1 w))
@@ -63,14 +63,15 @@ module _ (d : ℕ) (five : 5 ≤ d) where
   spur-goes x r w = grind (arith, spur_out, reverse-next, at_end)
 
   -- the steps of a flip
-  flip-last : (x : ℕ) (r w : List ℕ) → after_steps d (Push (length r) true ∷ [])
+  flip-last : (x : ℕ) (r w : List ℕ) → after_word_steps d (Push (length r) true ∷ [])
       (reverse (x ∷ r) ++ (minus d 1 ∷ w)) ≡ Some (reverse (1 ∷ add d x 1 ∷ r) ++ next_changed d 1 w)
   flip-last x r w =
       step-then (Push (length r) true) [] (reverse (x ∷ r) ++ (minus d 1 ∷ w)) _ _ (push-up x r w)
       (ap Some (sym (reverse-next 1 (add d x 1 ∷ r) (next_changed d 1 w) ∙ reverse-next (add d x 1) r (1 ∷ next_changed d 1 w))))
 
   flip-reached : (x : ℕ) (r w : List ℕ) →
-      after_steps d (flip_steps d (x ∷ r)) (reverse (x ∷ r) ++ (minus d 1 ∷ w)) ≡ Some (reverse (flipped d (x ∷ r)) ++ next_changed d 1 w)
+      after_word_steps d (flip_steps d (x ∷ r)) (reverse (x ∷ r) ++ (minus d 1 ∷ w))
+      ≡ Some (reverse (flipped d (x ∷ r)) ++ next_changed d 1 w)
   flip-reached x [] w = flip-last x [] w
   flip-reached x (y ∷ r) w = elim (cases_eq x (minus d 2)) [
     | inl e ↦ rw (eq-eqb x (minus d 2) e) (
@@ -86,7 +87,7 @@ module _ (d : ℕ) (five : 5 ≤ d) where
 
   -- the steps of a close
   close-bracket : (x : ℕ) (r w : List ℕ) → x < d →
-      after_steps d (close_steps (1 ∷ x ∷ r)) (reverse (1 ∷ x ∷ r) ++ (1 ∷ w)) ≡ Some (reverse (add d x (minus d 1) ∷ r)
+      after_word_steps d (close_steps (1 ∷ x ∷ r)) (reverse (1 ∷ x ∷ r) ++ (1 ∷ w)) ≡ Some (reverse (add d x (minus d 1) ∷ r)
       ++ next_changed d (minus d 1) w)
   close-bracket x r w h =
       step-then (Push (length (x ∷ r)) false) (SpurOut (length r) ∷ []) (reverse (1 ∷ x ∷ r) ++ (1 ∷ w))
@@ -97,8 +98,9 @@ module _ (d : ℕ) (five : 5 ≤ d) where
       (ap (λ z. Some (reverse r ++ (z ∷ next_changed d (minus d 1) w))) (add_comm d (minus d 1) x)
       ∙ ap Some (sym (reverse-next (add d x (minus d 1)) r (next_changed d (minus d 1) w)))))
 
-  close-reached : (x : ℕ) (r w : List ℕ) → IsGood d (x ∷ r) → is_open (x ∷ r) ≡ true →
-      after_steps d (close_steps (x ∷ r)) (reverse (x ∷ r) ++ (1 ∷ w)) ≡ Some (reverse (closed d (x ∷ r)) ++ next_changed d (minus d 1) w)
+  close-reached : (x : ℕ) (r w : List ℕ) → IsCanonicalBackward d (x ∷ r) → is_open (x ∷ r) ≡ true →
+      after_word_steps d (close_steps (x ∷ r)) (reverse (x ∷ r) ++ (1 ∷ w))
+      ≡ Some (reverse (closed d (x ∷ r)) ++ next_changed d (minus d 1) w)
   close-reached x [] w g o = absurd cc
   close-reached x (y ∷ r) w g o = elim ((open-cases x (y ∷ r) o).1) [
     | inl one ↦ rw one (close-bracket y r w (good-head d y r g.2))
@@ -126,8 +128,8 @@ module _ (d : ℕ) (five : 5 ≤ d) where
   steps-other x r t f = grind (arith, common_steps)
 
   -- the steps of a put lead to its word, and change what comes next
-  pub put-reached : (r : List ℕ) (t : ℕ) (w : List ℕ) → IsGood d r → IsNextBelow d w →
-      after_steps d (put_steps d r t) (reverse r ++ (t ∷ w)) ≡ Some (reverse (put d r t).word ++ next_changed d (put d r t).change w)
+  pub put-reached : (r : List ℕ) (t : ℕ) (w : List ℕ) → IsCanonicalBackward d r → IsNextBelow d w →
+      after_word_steps d (put_steps d r t) (reverse r ++ (t ∷ w)) ≡ Some (reverse (put d r t).word ++ next_changed d (put d r t).change w)
   put-reached [] t w g s = ap (λ z. Some (t ∷ z)) (sym (next-none w s))
   put-reached (x ∷ r) t w g s = elim (cases d five (x ∷ r) t) [
     | spur e ↦ rw e (step-then (SpurOut (length r)) [] (reverse (x ∷ r) ++ (0 ∷ w)) _ _ (spur-goes x r w) refl)
@@ -149,8 +151,8 @@ module _ (d : ℕ) (five : 5 ≤ d) where
             (put-reached p.word (add d y p.change) w s.good (next-below d w i.1)) ∙ later.1,
       )
 
-  keeps-next : (step : Step) (steps : List Step) (p : Put) (w v : List ℕ) → IsSound d p → InRange d w → Keeps d (after_steps d steps) →
-      after_steps d (step ∷ steps) w ≡ Some v → InRange d v × ((read d p w).word ≡ (read d p v).word)
+  keeps-next : (step : Step) (steps : List Step) (p : Put) (w v : List ℕ) → IsSound d p → InRange d w → Keeps d (after_word_steps d steps) →
+      after_word_steps d (step ∷ steps) w ≡ Some v → InRange d v × ((read d p w).word ≡ (read d p v).word)
   keeps-next step steps p w v s i k e = go (after_step d step w) refl
     where
       go : (o : Option (List ℕ)) → after_step d step w ≡ o → InRange d v × ((read d p w).word ≡ (read d p v).word)
@@ -162,7 +164,7 @@ module _ (d : ℕ) (five : 5 ≤ d) where
           (rest.0, first.1 ∙ rest.1)
 
   -- no list of steps changes what is left
-  pub keeps-steps : (steps : List Step) → Keeps d (after_steps d steps)
+  pub keeps-steps : (steps : List Step) → Keeps d (after_word_steps d steps)
   keeps-steps [] p w v s i e = let same : w ≡ v = cc in rw (← same) (i, refl)
   keeps-steps (step ∷ steps) p w v s i e = keeps-next step steps p w v s i (keeps-steps steps) e
 
@@ -171,7 +173,7 @@ module _ (d : ℕ) (five : 5 ≤ d) where
   read-append p [] b = refl
   read-append p (y ∷ a) b = read-append (put d p.word (add d y p.change)) a b
 
-  pub read-good : (r : List ℕ) → IsGood d r → read d (state [] 0) (reverse r) ≡ state r 0
+  pub read-good : (r : List ℕ) → IsCanonicalBackward d r → read d (state [] 0) (reverse r) ≡ state r 0
   read-good [] g = refl
   read-good (x ∷ r) g =
       ap (read d (state [] 0)) (reverse-cons x r)
@@ -188,7 +190,7 @@ module _ (d : ℕ) (five : 5 ≤ d) where
   start-sound = record { good = tt; below = omega arith }
 
   -- a canonical word that is reached is what is left
-  pub reached-good : (w r : List ℕ) → InRange d w → IsGood d r → Reaches d w (reverse r) → r ≡ (read d (state [] 0) w).word
+  pub reached-good : (w r : List ℕ) → InRange d w → IsCanonicalBackward d r → Reaches d w (reverse r) → r ≡ (read d (state [] 0) w).word
   reached-good w r i g reached =
       sym ((keeps-steps reached.0 (state [] 0) w (reverse r) start-sound i reached.1).1 ∙ ap (λ q. q.word) (read-good r g))
 

@@ -1,6 +1,6 @@
 -- The word that is left when the entries of a word are put one after another. One elementary step anywhere in the
 -- word does not change it.
-use Rattle.turn_words.proofs.Common.{◌≡◌, ℕ, ◌<◌, ◌≤◌, inl, inr, arith, refl, sym, ◌∙◌, ap, ap₂, zero, suc, true, false, List, [], ◌∷◌, Option, Some, None, cases_eq, eq-eqb, ne_eqb, cases_lt, lt-ltb, le-ltb, first_side, second_side, across, InRange, put-good, put-put, add-cases, minus-cases, minus-one, add-lt, minus-lt, zero-add, add_assoc, IsGood, add, minus, Put, put, next_changed, spur_in, spur_out, pushed, from_place, after_step, Step, SpurIn, SpurOut, Push}
+use Rattle.turn_words.proofs.Common.{◌≡◌, ℕ, ◌<◌, ◌≤◌, inl, inr, arith, refl, sym, ◌∙◌, ap, ap₂, zero, suc, true, false, List, [], ◌∷◌, Option, Some, None, cases_eq, eq-eqb, ne_eqb, cases_lt, lt-ltb, le-ltb, first_quad_side, second_quad_side, across, InRange, put-good, put-put, add-cases, minus-cases, minus-one, add-lt, minus-lt, zero-add, add_assoc, IsCanonicalBackward, add, minus, Put, put, next_changed, spur_in, spur_out, pushed, from_place, after_step, Step, SpurIn, SpurOut, Push}
 
 -- the entries put one after another, each changed by what the one before it left
 abbrev pub read : ℕ → Put → List ℕ → Put
@@ -9,7 +9,7 @@ read d p (y ∷ rest) = read d (put d p.word (add d y p.change)) rest
 
 -- a canonical word and a change below the degree
 pub record IsSound (d : ℕ) (p : Put) : Type 0 where
-  pub good : IsGood d p.word
+  pub good : IsCanonicalBackward d p.word
   pub below : p.change < d
 
 -- a rule of rewriting keeps the entries in range, and the word that is left
@@ -82,8 +82,8 @@ module _ (d : ℕ) (five : 5 ≤ d) where
       let one = minus-one d five in
       let t = add d x p.change in
       let t_below : t < d = add-lt d x p.change h s.below in
-      let a = first_side d p.word t in
-      let b = second_side d p.word (add d t (minus d 1)) in
+      let a = first_quad_side d p.word t in
+      let b = second_quad_side d p.word (add d t (minus d 1)) in
       let agree = across d five p.word t s.good t_below in
       let a_mid = put-good d five p.word t s.good t_below in
       let a_end = put-good d five (put d p.word t).word (add d 1 (put d p.word t).change) a_mid.0 (add-lt d 1 _ (omega arith) a_mid.1) in
@@ -95,7 +95,7 @@ module _ (d : ℕ) (five : 5 ≤ d) where
       let change : a.change ≡ add d (minus d 1) b.change = grind (arith, add-cases) in
       ap (λ q. (read d q rest).word) (ap₂ state agree.word change)
       ∙ sym (read-changed b.word b.change (minus d 1) rest b_end.1 (omega arith) r)
-      ∙ ap (λ z. (read d (second_side d p.word z) (next_changed d (minus d 1) rest)).word) sums
+      ∙ ap (λ z. (read d (second_quad_side d p.word z) (next_changed d (minus d 1) rest)).word) sums
 
   keeps-down : Keeps d (pushed d false)
   keeps-down p [] v s r e = absurd cc

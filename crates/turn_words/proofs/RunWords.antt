@@ -1,15 +1,15 @@
 -- A word as it is kept, and what the edits at its end make of it.
-use Rattle.turn_words.proofs.Common.{◌≡◌, ◌≢◌, ℕ, ◌+◌, ◌-◌, ◌<◌, ◌≤◌, ◌^◌, ◌⊎◌, inl, inr, arith, refl, sym, ◌∙◌, ap, ap₂, zero, suc, true, false, eqb, ◌&&◌, List, [], ◌∷◌, ◌++◌, length, reverse, replicate, take, drop, get_or, cases_eq, eq-eqb, ne_eqb, common_steps, length-append, length-take-le, get_or-take, take_more, take-append-drop, add-cases, IsCons, open-one, open-two, open-other, add, word_of, IsStoredWord, TopDiffers, is_open, written, AreFilled, AreApart}
+use Rattle.turn_words.proofs.Common.{◌≡◌, ◌≢◌, ℕ, ◌+◌, ◌-◌, ◌<◌, ◌≤◌, ◌^◌, ◌⊎◌, inl, inr, arith, refl, sym, ◌∙◌, ap, ap₂, zero, suc, true, false, eqb, ◌&&◌, List, [], ◌∷◌, ◌++◌, length, reverse, replicate, take, drop, get_or, cases_eq, eq-eqb, ne_eqb, common_steps, length-append, length-take-le, get_or-take, take_more, take-append-drop, add-cases, IsCons, open-one, open-two, open-other, add, word_of_runs, IsStoredWord, TopDiffers, is_open, written, AreFilled, AreApart}
 use Rattle.std.specs.Bool.{Decides}
 use Rattle.turn_words.proofs.RunLists.{cons-behind, written-append, written-push, filled-front, filled-length, apart-push, apart-front, top-differs, differs-top, last-run, back, back-written, back-push, back-cons, back-first, one-list}
 
-word-some : (len start : ℕ) (rs : List (ℕ × ℕ)) → 0 < len → word_of len start rs ≡ start ∷ written rs
+word-some : (len start : ℕ) (rs : List (ℕ × ℕ)) → 0 < len → word_of_runs len start rs ≡ start ∷ written rs
 word-some len start rs h = rw (ne_eqb len 0 (λ e. absurd (omega arith))) refl
 
-word-none : (len start : ℕ) (rs : List (ℕ × ℕ)) → len ≡ 0 → word_of len start rs ≡ []
+word-none : (len start : ℕ) (rs : List (ℕ × ℕ)) → len ≡ 0 → word_of_runs len start rs ≡ []
 word-none len start rs e = rw (eq-eqb len 0 e) refl
 
-pub reverse-some : (len start : ℕ) (rs : List (ℕ × ℕ)) → 0 < len → reverse (word_of len start rs) ≡ back start rs
+pub reverse-some : (len start : ℕ) (rs : List (ℕ × ℕ)) → 0 < len → reverse (word_of_runs len start rs) ≡ back start rs
 reverse-some len start rs h = ap reverse (word-some len start rs h)
 
 -- a word with a run is not empty
@@ -21,7 +21,7 @@ pub runs-few : (len : ℕ) (rs : List (ℕ × ℕ)) → IsStoredWord len rs → 
 runs-few len rs i f = grind (arith, filled-length)
 
 -- the length that is kept
-pub word-length : (len start : ℕ) (rs : List (ℕ × ℕ)) → IsStoredWord len rs → length (word_of len start rs) ≡ len
+pub word-length : (len start : ℕ) (rs : List (ℕ × ℕ)) → IsStoredWord len rs → length (word_of_runs len start rs) ≡ len
 word-length len start rs i = grind (arith, word-none, written, word-some)
 
 stored-made : (len : ℕ) (rs : List (ℕ × ℕ)) → 0 < len → len < 2 ^ 32 → len ≡ length (written rs) + 1 → AreApart rs → IsStoredWord len rs
@@ -35,7 +35,7 @@ length-written rs ss v c e = grind (arith, common_steps, written)
 pub record TakenOff (len start v c : ℕ) (old new : List (ℕ × ℕ)) : Type 0 where
   pub within : c < len
   pub stored : IsStoredWord (len - c) new
-  pub word : reverse (word_of len start old) ≡ replicate c v ++ reverse (word_of (len - c) start new)
+  pub word : reverse (word_of_runs len start old) ≡ replicate c v ++ reverse (word_of_runs (len - c) start new)
 
 pub taken-off : (len start v c : ℕ) (old new : List (ℕ × ℕ)) → IsStoredWord len old → 0 < len → written old ≡ written new
     ++ replicate c v → AreApart new → TakenOff len start v c old new
@@ -43,13 +43,13 @@ taken-off len start v c old new i some e a = grind (arith, common_steps, length-
 
 -- the last entry, and what is before it
 pub last-of : (len start v c : ℕ) (old mid : List (ℕ × ℕ)) → IsStoredWord len old → old ≡ mid ++ (v, c) ∷ [] → 0 < c
-    → reverse (word_of len start old) ≡ v ∷ replicate (c - 1) v ++ back start mid
+    → reverse (word_of_runs len start old) ≡ v ∷ replicate (c - 1) v ++ back start mid
 last-of len start v c old mid i e h = grind (arith, common_steps, reverse-some, some-run, back, back-first)
 
 -- the last entry was changed
 pub record Changed (len start v x : ℕ) (rest : List ℕ) (new : List (ℕ × ℕ)) : Type 0 where
   pub stored : IsStoredWord len new
-  pub word : reverse (word_of len start new) ≡ x ∷ rest
+  pub word : reverse (word_of_runs len start new) ≡ x ∷ rest
 
 -- the last entry of a run of more
 pub changed-inside : (len start v x c : ℕ) (old mid one new : List (ℕ × ℕ)) → IsStoredWord len old → old ≡ mid ++ (v, c) ∷ [] → 1 < c
@@ -105,29 +105,29 @@ module _ (len start : ℕ) (rs : List (ℕ × ℕ)) (i : IsStoredWord len rs) (f
   top-filled : AreFilled below × (0 < top.1)
   top-filled = filled-front below top (rw (← split) f)
 
-  end : reverse (word_of len start rs) ≡ back start (below ++ top ∷ [])
+  end : reverse (word_of_runs len start rs) ≡ back start (below ++ top ∷ [])
   end = reverse-some len start rs (some-run len below top whole) ∙ ap (back start) split
 
-  seen : is_open (reverse (word_of len start rs)) ≡ is_open (top.0 ∷ replicate (top.1 - 1) top.0 ++ back start below)
+  seen : is_open (reverse (word_of_runs len start rs)) ≡ is_open (top.0 ∷ replicate (top.1 - 1) top.0 ++ back start below)
   seen = ap is_open (end ∙ back-first start below top top-filled.1)
 
-  pub open-at-one : top.0 ≡ 1 → true ≡ is_open (reverse (word_of len start rs))
+  pub open-at-one : top.0 ≡ 1 → true ≡ is_open (reverse (word_of_runs len start rs))
   open-at-one one = sym (seen ∙ ap (λ n. is_open (n ∷ replicate (top.1 - 1) top.0 ++ back start below)) one
       ∙ open-one (replicate (top.1 - 1) top.0 ++ back start below)
       (cons-behind (top.1 - 1) top.0 (back start below) (back-cons start below)))
 
-  pub open-at-none : top.0 ≢ 1 → top.0 ≢ 2 → false ≡ is_open (reverse (word_of len start rs))
+  pub open-at-none : top.0 ≢ 1 → top.0 ≢ 2 → false ≡ is_open (reverse (word_of_runs len start rs))
   open-at-none not_one not_two = sym (seen ∙ open-other top.0 (replicate (top.1 - 1) top.0 ++ back start below) not_one not_two)
 
-  under-twos : top.0 ≡ 2 → is_open (reverse (word_of len start rs)) ≡ is_open (back start below)
+  under-twos : top.0 ≡ 2 → is_open (reverse (word_of_runs len start rs)) ≡ is_open (back start below)
   under-twos two = grind (arith, common_steps, back-push, back, open-twos, back-cons)
 
-  pub open-at-start : top.0 ≡ 2 → length rs < 2 → false ≡ is_open (reverse (word_of len start rs))
+  pub open-at-start : top.0 ≡ 2 → length rs < 2 → false ≡ is_open (reverse (word_of_runs len start rs))
   open-at-start two short =
       let nothing : length rs - 1 ≡ 0 = omega arith in
       sym (under-twos two ∙ ap (λ n. is_open (back start (take n rs))) nothing)
 
-  pub open-at-two : top.0 ≡ 2 → 2 ≤ length rs → eqb (get_or rs (length rs - 2) (0, 0)).0 1 ≡ is_open (reverse (word_of len start rs))
+  pub open-at-two : top.0 ≡ 2 → 2 ≤ length rs → eqb (get_or rs (length rs - 2) (0, 0)).0 1 ≡ is_open (reverse (word_of_runs len start rs))
   open-at-two two more =
       let long = length-take-le (length rs - 1) rs (omega arith) in
       let next : get_or below (length below - 1) (0, 0) ≡ get_or rs (length rs - 2) (0, 0) =
@@ -154,13 +154,13 @@ module _ (len start : ℕ) (rs : List (ℕ × ℕ)) (i : IsStoredWord len rs) (f
 
 -- two words that are kept alike are equal
 pub same-words : (len other start first : ℕ) (rs ss : List (ℕ × ℕ)) → len ≡ other → (len ≡ 0) ⊎ (start ≡ first) → rs ≡ ss
-    → word_of len start rs ≡ word_of other first ss
+    → word_of_runs len start rs ≡ word_of_runs other first ss
 same-words len other start first rs ss long begins runs = grind (arith, word-none)
 
 -- equal words are kept alike
 pub same-runs : (len other start first : ℕ) (rs ss : List (ℕ × ℕ)) → IsStoredWord len rs → IsStoredWord other ss → AreFilled rs
     → AreFilled ss →
-    word_of len start rs ≡ word_of other first ss → (len ≡ other) × ((len ≡ 0) ⊎ (start ≡ first)) × (rs ≡ ss)
+    word_of_runs len start rs ≡ word_of_runs other first ss → (len ≡ other) × ((len ≡ 0) ⊎ (start ≡ first)) × (rs ≡ ss)
 same-runs len other start first rs ss i j f g e = grind (arith, word-length, written, word-some, one-list)
 
 -- the runs written out, one run on

@@ -1,5 +1,5 @@
 -- A list of spokes leads to the canonical word of its turn word, and the steps that are noted along it lead there too.
-use Rattle.turn_words.proofs.Common.{◌≡◌, ℕ, ◌+◌, ◌%◌, ◌==◌, ◌<◌, ◌⊎◌, arith, refl, sym, ◌∙◌, ap, Bool, true, false, not, List, [], ◌∷◌, ◌++◌, All, length, reverse, Some, eq-eqb, ne_eqb, append-nil, IsCanonicalOf, IsTurnWord, led, NotesAlong, HyperState, empty_state, value_at, turn_to, put_spoke, hyper_next, IsHyperWheel, BelongsTo, LeadOn, in-range-from, all-from, good_word, turn_below, next_belongs, length-next, hyper_starts, InRange, put-good, add-cases, minus-cases, add-lt, minus-lt, add, minus, put_steps, put, place_round, turns_after, turn_word_of, turns_from, next_changed, after_steps, IsWheel, Step}
+use Rattle.turn_words.proofs.Common.{◌≡◌, ℕ, ◌+◌, ◌%◌, ◌==◌, ◌<◌, ◌⊎◌, arith, refl, sym, ◌∙◌, ap, Bool, true, false, not, List, [], ◌∷◌, ◌++◌, All, length, reverse, Some, eq-eqb, ne_eqb, append-nil, IsCanonicalOf, IsTurnWord, led, NotesAlong, HyperState, empty_state, value_at, turn_to, put_spoke, hyper_next, IsHyperWheel, BelongsTo, LeadOn, in-range-from, all-from, good_word, turn_below, next_belongs, length-next, hyper_starts, InRange, put-good, add-cases, minus-cases, add-lt, minus-lt, add, minus, put_steps, put, place_round, turns_after, turn_word_of, turns_from, next_changed, after_word_steps, IsWheel, Step}
 use Rattle.turn_words.proofs.Reaching.{IsNextBelow, next-below, after_steps-append}
 use Rattle.turn_words.proofs.Acts.{puts-lead}
 
@@ -93,26 +93,26 @@ counts-from places s at_vertex last n (i ∷ spokes) c range = grind (arith, cou
 -- the steps of a spoke lead on, in front of the turns of those that come next
 lead-front : (places : List ℕ) (s : HyperState) (i : ℕ) (steps : List Step) (w : List ℕ) → LeadOn places s i steps
     → IsNextBelow (length places) w →
-    after_steps (length places) steps (s.word ++ (turn_to places s i ∷ w)) ≡ Some ((hyper_next places s i).word
+    after_word_steps (length places) steps (s.word ++ (turn_to places s i ∷ w)) ≡ Some ((hyper_next places s i).word
     ++ next_changed (length places) (put_spoke places s i).change w)
 lead-front places s i steps [] l below = l.alone ∙ ap Some (sym (append-nil (put_spoke places s i).word))
 lead-front places s i steps (y ∷ w) l below = l.in_front y w below
 
 lead-to-next : (places : List ℕ) (s : HyperState) (i : ℕ) (spokes : List ℕ) (steps : List Step) → BelongsTo places s
     → InRange (length places) (i ∷ spokes) → LeadOn places s i steps →
-    after_steps (length places) steps (s.word ++ turns_from places s (i ∷ spokes))
+    after_word_steps (length places) steps (s.word ++ turns_from places s (i ∷ spokes))
     ≡ Some ((hyper_next places s i).word ++ turns_from places (hyper_next places s i) spokes)
 lead-to-next places s i spokes steps b range l = grind (arith, next-below, turns-in-range, counts-next, stands, lead-front, counts-from)
 
 -- the steps that are noted along spokes lead from the state's word, with their turns behind it, to the word of the last state
 pub along : (places : List ℕ) (s : HyperState) (spokes : List ℕ) (steps : List Step) → BelongsTo places s
     → InRange (length places) spokes → NotesAlong hyper_next LeadOn places s spokes steps →
-    after_steps (length places) steps (s.word ++ turns_from places s spokes) ≡ Some (led hyper_next places s spokes).word
+    after_word_steps (length places) steps (s.word ++ turns_from places s spokes) ≡ Some (led hyper_next places s spokes).word
 along places s [] steps b range notes = rw notes (ap Some (append-nil s.word))
 along places s (i ∷ spokes) steps b range notes =
     let d = length places in
     let whole = s.word ++ turns_from places s (i ∷ spokes) in
-    ap (λ z. after_steps d z whole) notes.2
+    ap (λ z. after_word_steps d z whole) notes.2
     ∙ after_steps-append d notes.0 notes.1 whole _ (lead-to-next places s i spokes notes.0 b range notes.3)
     ∙ along places (hyper_next places s i) spokes notes.1 (next_belongs places s i b range.0) range.1 notes.4
 
@@ -137,7 +137,7 @@ turn-word-from places (i ∷ spokes) own range = grind (arith, minus-cases, add-
 
 pub notes-lead : (places spokes : List ℕ) (steps : List Step) → IsHyperWheel places → All (λ spoke. spoke < length places) spokes →
     NotesAlong hyper_next LeadOn places empty_state spokes steps
-    → after_steps (length places) steps (turn_word_of places spokes) ≡ Some (led hyper_next places empty_state spokes).word
+    → after_word_steps (length places) steps (turn_word_of places spokes) ≡ Some (led hyper_next places empty_state spokes).word
 notes-lead places spokes steps own all notes =
     let range = in-range-from (length places) spokes all in grind (arith, turn-word-from, along)
 

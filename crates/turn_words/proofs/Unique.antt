@@ -1,5 +1,5 @@
 -- A turn word reaches one canonical word: the one that is left when its entries are put one after another.
-use Rattle.turn_words.proofs.Common.{◌≡◌, ◌↔◌, ℕ, ◌+◌, ◌<◌, ◌≤◌, arith, refl, sym, ◌∙◌, ap, ap₂, subst, zero, suc, List, [], ◌∷◌, ◌++◌, All, length, reverse, take, get_or, common_steps, reverse-reverse, take_more, IsCanonical, IsCanonicalOf, IsTurnWord, canonical-from, good-from-canonical, in-range-from, InRange, IsGood, add, put, Reaches}
+use Rattle.turn_words.proofs.Common.{◌≡◌, ◌↔◌, ℕ, ◌+◌, ◌<◌, ◌≤◌, arith, refl, sym, ◌∙◌, ap, ap₂, subst, zero, suc, List, [], ◌∷◌, ◌++◌, All, length, reverse, take, get_or, common_steps, reverse-reverse, take_more, IsCanonical, IsCanonicalOf, IsTurnWord, canonical-from, good-from-canonical, in-range-from, InRange, IsCanonicalBackward, add, put, Reaches}
 use Rattle.turn_words.proofs.Reading.{read, IsSound, state}
 use Rattle.turn_words.proofs.Backward.{both-ways}
 use Rattle.turn_words.proofs.Reaching.{reached-good, left-reached, read-sound, start-sound, after_steps-append, read-append}
@@ -11,7 +11,7 @@ left d w = reverse (read d (state [] 0) w).word
 pub canonical-is-left : (d : ℕ) (w c : List ℕ) → IsTurnWord d w → IsCanonicalOf d w c → c ≡ left d w
 canonical-is-left d w c t f =
     let range = in-range-from d w t.in_range in
-    let good : IsGood d (reverse c) = good-from-canonical d (reverse c) (rw (reverse-reverse c) f.is_canonical) in
+    let good : IsCanonicalBackward d (reverse c) = good-from-canonical d (reverse c) (rw (reverse-reverse c) f.is_canonical) in
     let reached : Reaches d w (reverse (reverse c)) = rw (reverse-reverse c) f.reached in
     sym (reverse-reverse c) ∙ ap reverse (reached-good d t.five w (reverse c) range good reached)
 

@@ -1,7 +1,7 @@
 -- What the definitions give, on words over the degrees 8 and 5 and on the wheel of a double torus.
 use Rattle.std.specs.Prelude.{◌≡◌, ℕ, true, false, List, [], ◌∷◌, refl, Option, Some, None}
 use Rattle.turn_words.specs.Modulo.{add, minus}
-use Rattle.turn_words.specs.StepTable.{after_step, after_steps}
+use Rattle.turn_words.specs.StepTable.{after_step, after_word_steps}
 use Rattle.turn_words.specs.Canonical.{closes_bracket}
 use Rattle.turn_words.specs.PutTurns.{Put, put_last}
 use Rattle.turn_words.specs.HyperStates.{HyperState, empty_state, hyper_next}
@@ -63,7 +63,7 @@ unfolding add minus
 no_push_at_the_turn_2 = refl
 
 -- the whole way from a bracket to its other side, step by step
-pub a_bracket_goes : after_steps 8 (Push 3 false ∷ Push 2 false ∷ Push 1 false ∷ SpurOut 0 ∷ []) (1 ∷ 1 ∷ 2 ∷ 2 ∷ 1 ∷ [])
+pub a_bracket_goes : after_word_steps 8 (Push 3 false ∷ Push 2 false ∷ Push 1 false ∷ SpurOut 0 ∷ []) (1 ∷ 1 ∷ 2 ∷ 2 ∷ 1 ∷ [])
     ≡ Some (0 ∷ 6 ∷ 6 ∷ [])
 unfolding add minus
 a_bracket_goes = refl

@@ -5,7 +5,7 @@ use Rattle.turn_words.specs.declared.wheel.WheelFault.{WheelFault}
 use Rattle.turn_words.specs.declared.wheel.WheelFault.TheVariants.{Range, Twice, OutOfMemory}
 
 -- why the list is no list of places
-abbrev pub IsFaultOf : List ℕ → WheelFault → Type 0
-IsFaultOf places (Range spoke) = IsFirstOutside places spoke.0
-IsFaultOf places (Twice place) = IsInside places × IsFirstTwice places place
-IsFaultOf places OutOfMemory = Unit {0}
+abbrev pub IsWheelFault : List ℕ → WheelFault → Type 0
+IsWheelFault places (Range spoke) = IsFirstOutside places spoke.0
+IsWheelFault places (Twice place) = IsInside places × IsFirstTwice places place
+IsWheelFault places OutOfMemory = Unit {0}

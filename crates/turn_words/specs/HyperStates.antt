@@ -2,7 +2,7 @@
 -- degree is the length of that list.
 use Rattle.std.specs.Prelude.{◌≡◌, ℕ, ◌<◌, ◌≤◌, ◌%◌, ◌==◌, if◌then◌else◌, List, [], ◌∷◌, ◌++◌, length, slice_index, Some}
 use Rattle.turn_words.specs.Modulo.{add, minus}
-use Rattle.turn_words.specs.StepTable.{after_steps}
+use Rattle.turn_words.specs.StepTable.{after_word_steps}
 use Rattle.turn_words.specs.Canonical.{IsCanonical}
 use Rattle.turn_words.specs.PutTurns.{Put, put_last}
 use Rattle.turn_words.specs.Wheels.{IsWheel}
@@ -50,10 +50,10 @@ hyper_next places state spoke =
 -- come behind it, the first of which is then changed
 pub record LeadOn (places : List ℕ) (state : HyperState) (spoke : ℕ) (steps : List Step) : Type 0 where
   pub alone :
-      after_steps (length places) steps (state.word ++ turn_to places state spoke ∷ [])
+      after_word_steps (length places) steps (state.word ++ turn_to places state spoke ∷ [])
       ≡ Some (put_spoke places state spoke).word
   pub in_front : (turn : ℕ) (turns : List ℕ) → turn < length places →
-      after_steps (length places) steps (state.word ++ turn_to places state spoke ∷ turn ∷ turns)
+      after_word_steps (length places) steps (state.word ++ turn_to places state spoke ∷ turn ∷ turns)
       ≡ Some ((put_spoke places state spoke).word ++ add (length places) turn (put_spoke places state spoke).change ∷ turns)
 
 -- a wheel with five spokes at least

@@ -45,10 +45,10 @@ after_step degree (SpurOut at) word = from_place at (spur_out degree) word
 after_step degree (Push at up) word = from_place at (pushed degree up) word
 
 -- the word after a list of steps, or nothing where one of them is not allowed
-abbrev pub after_steps : ℕ → List Step → List ℕ → Option (List ℕ)
-after_steps degree [] word = Some word
-after_steps degree (step ∷ steps) word = option_and_then (after_steps degree steps) (after_step degree step word)
+abbrev pub after_word_steps : ℕ → List Step → List ℕ → Option (List ℕ)
+after_word_steps degree [] word = Some word
+after_word_steps degree (step ∷ steps) word = option_and_then (after_word_steps degree steps) (after_step degree step word)
 
 -- some list of elementary steps leads from the one word to the other
 abbrev pub Reaches : ℕ → List ℕ → List ℕ → Type 0
-Reaches degree word reached = (steps : List Step) × (after_steps degree steps word ≡ Some reached)
+Reaches degree word reached = (steps : List Step) × (after_word_steps degree steps word ≡ Some reached)

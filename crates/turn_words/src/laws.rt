@@ -6,7 +6,7 @@ ghost use Rattle.turn_words.specs.FiveCases.{FiveCases};
 ghost use Rattle.turn_words.specs.FormLaws.{led, NotesAlong};
 ghost use Rattle.turn_words.specs.HyperStates.{HyperState, empty_state, hyper_next, IsHyperWheel, BelongsTo, LeadOn};
 ghost use Rattle.turn_words.specs.SpokePaths.{turn_word_of, turns_from};
-ghost use Rattle.turn_words.specs.StepTable.{after_steps, Reaches};
+ghost use Rattle.turn_words.specs.StepTable.{after_word_steps, Reaches};
 ghost use Rattle.turn_words.specs.declared.step.Step.{Step};
 
 use crate::form::Form;
@@ -88,7 +88,7 @@ pub fn spokes_lead_from_any_state_to_the_canonical_word()
     ensures noted { (places : List ℕ) (state : HyperState) (spokes : List ℕ) (steps : List Step) →
         BelongsTo places state → All (λ spoke. spoke < length places) spokes →
         NotesAlong hyper_next LeadOn places state spokes steps →
-        after_steps (length places) steps (state.word ++ turns_from places state spokes)
+        after_word_steps (length places) steps (state.word ++ turns_from places state spokes)
         ≡ Some (led hyper_next places state spokes).word }
 {}
 
@@ -98,7 +98,7 @@ pub fn noted_steps_lead_to_the_canonical_word()
     ensures { (places spokes : List ℕ) (steps : List Step) → IsHyperWheel places →
         All (λ spoke. spoke < length places) spokes →
         NotesAlong hyper_next LeadOn places empty_state spokes steps →
-        after_steps (length places) steps (turn_word_of places spokes)
+        after_word_steps (length places) steps (turn_word_of places spokes)
         ≡ Some (led hyper_next places empty_state spokes).word }
 {}
 

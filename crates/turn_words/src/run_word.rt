@@ -26,12 +26,12 @@ pub(crate) struct RunWord {
 
 impl Model for RunWord {
     ghost use Rattle.std.specs.Prelude.{◌+◌, length};
-    ghost use Rattle.turn_words.specs.Private.StoredWords.{RunWordView, IsStoredWord, word_of};
+    ghost use Rattle.turn_words.specs.Private.StoredWords.{RunWordView, IsStoredWord, word_of_runs};
 
     ghost Value = { RunWordView };
 
     ghost view = { λ word. record {
-      word = word_of word.len word.start word.runs.runs;
+      word = word_of_runs word.len word.start word.runs.runs;
       runs = word.runs.runs;
       room = length word.runs.runs + word.runs.spare;
     } };

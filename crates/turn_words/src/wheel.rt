@@ -3,7 +3,7 @@ ghost use Rattle.std.specs.Prelude.{◌≡◌, ◌<◌, ◌≤◌, ◌^◌, ◌�
 ghost use Rattle.turn_words.specs.SpokePaths.{place_round};
 ghost use Rattle.turn_words.specs.Wheels.{IsWheel, IsInside, IsFirstOutside};
 ghost use Rattle.turn_words.specs.Private.StoredWheels.{IsInverse};
-ghost use Rattle.turn_words.specs.Faults.{IsFaultOf};
+ghost use Rattle.turn_words.specs.Faults.{IsWheelFault};
 
 use std::alloc::{AllocError, Global};
 use std::marker::Model;
@@ -19,13 +19,13 @@ pub struct Wheel {
 
 impl Model for Wheel {
     ghost use Rattle.std.specs.Prelude.{List, ℕ};
-    ghost use Rattle.turn_words.specs.Private.StoredWheels.{IsStored};
+    ghost use Rattle.turn_words.specs.Private.StoredWheels.{IsStoredWheel};
 
     ghost Value = { List ℕ };
 
     ghost view = { λ wheel. wheel.places.items };
 
-    ghost invariant = { λ wheel. IsStored wheel.places.items wheel.spokes.items };
+    ghost invariant = { λ wheel. IsStoredWheel wheel.places.items wheel.spokes.items };
 }
 
 /// Why a list is no list of places.
@@ -56,7 +56,7 @@ impl Wheel {
     pub fn build(alloc: Global, places: &[u32]) -> Result<Wheel, WheelFault>
         requires { length places.now < 2 ^ 32 }
         ensures places { IfOk result (λ wheel. wheel ≡ places.now) }
-        ensures cases { MatchResult result (λ _. IsWheel places.now) (IsFaultOf places.now) }
+        ensures cases { MatchResult result (λ _. IsWheel places.now) (IsWheelFault places.now) }
     {
         if let Some(spoke) = first_outside(places) {
             return Err(WheelFault::Range {
@@ -140,7 +140,7 @@ fn inverse_of(alloc: Global, places: &[u32]) -> Result<Vec<u32>, WheelFault>
     requires few { length places.now < 2 ^ 32 }
     requires inside { IsInside places.now }
     ensures inverse { IfOk result (λ spokes. IsInverse places.now spokes.items) }
-    ensures cases { MatchResult result (λ _. IsWheel places.now) (IsFaultOf places.now) }
+    ensures cases { MatchResult result (λ _. IsWheel places.now) (IsWheelFault places.now) }
 {
     let degree = places.len() as u32;
     // A place without a spoke so far has the degree in place of its spoke.

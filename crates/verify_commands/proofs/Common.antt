@@ -7,7 +7,7 @@ pub use Rattle.commands.proofs.Running.{judged_no_fault, only_self, only_then, r
 pub use Rattle.commands.proofs.Sound.{IsSound, held, meant_told, one_made, sound-file, sound-meant, sound-pass, sound-then, sound-where_told}
 pub use Rattle.commands.specs.Answers.{Answer, IsText, Texts}
 pub use Rattle.commands.specs.Checks.{Check, End, Holds, IsTold, Pass, Passes, Refuse, file, meant, where_told, ◌>>=◌}
-pub use Rattle.commands.specs.Inputs.{IsCertificateEnd, SpellsCertificate, SpellsPair, as_certificate, certificate_behind, certificate_in, certificate_in_bytes, certificate_of, mesh_in, pair_in, walk_at}
+pub use Rattle.commands.specs.Inputs.{IsCertificateEnd, SpellsCertificate, SpellsPair, as_certificate, certificate_behind, certificate_in, certificate_in_bytes, certificate_of, mesh_in, pair_in}
 pub use Rattle.commands.specs.Outcomes.{AnswersTo, IsAnswerOf, Outcome}
 pub use Rattle.commands.specs.Refusals.{certificate_line, too_large}
 pub use Rattle.commands.specs.Replies.{Concludes, IsReplyTo, Replies}
@@ -19,7 +19,7 @@ pub use Rattle.commands.specs.declared.status.Status.{Status}
 pub use Rattle.commands.specs.declared.status.Status.TheVariants.{Yes}
 pub use Rattle.commands.specs.declared.stop.Stop.{Stop}
 pub use Rattle.commands.specs.declared.stop.Stop.TheVariants.{OutOfMemory, ReadFault, Refused}
-pub use Rattle.labellings.specs.DenialVerdicts.{IsVerdict}
+pub use Rattle.labellings.specs.DenialVerdicts.{IsDenialVerdict}
 pub use Rattle.labellings.specs.Denials.{DenialHolds}
 pub use Rattle.labellings.specs.GoodLabellings.{HasDegree, HasPlaces, HasShape, IsGood}
 pub use Rattle.labellings.specs.Labellings.{FaceLabels, LabellingView, head_label, tail_label}
@@ -38,7 +38,7 @@ pub use Rattle.surf_model.specs.Edges.{Edge, edge_in, side_name}
 pub use Rattle.surf_model.specs.FaceLists.{FaceList, FaceSide, HasFileSize, IsFace, IsFaceList, corners_from, face_at, is_edge, is_used, total_sides}
 pub use Rattle.surf_model.specs.Moves.{Leads, PeakedMoves, apply_all, greatest_darts, same_walk}
 unfoldable pub use Rattle.surf_model.specs.Moves.{apply}
-pub use Rattle.surf_model.specs.Walks.{AreWalkPair, IsWalk, darts}
+pub use Rattle.surf_model.specs.Walks.{AreWalkPair, IsWalk, darts, walk_at}
 pub use Rattle.surf_model.specs.declared.moves.Move.{Move}
 pub use Rattle.verify_commands.specs.Progress.{IsVerdictOnFile, outlook, peak_in}
 pub use Rattle.verify_commands.specs.Verify.{IsDenialVerified, IsVerified, IsVerifyInput, denial_answer, denial_line, denial_status, judged_file, judgement, verdict_answer, verdict_status, verify}
@@ -49,7 +49,7 @@ pub use Rattle.walk_files.specs.DenialTexts.{AreNumbers, FitsDegree, ReadsBack, 
 pub use Rattle.walk_files.specs.Denials.{denial_behind, denial_of_lines, denial_of_text}
 pub use Rattle.walk_files.specs.MoveTexts.{FitsFormat, MoveFits, list_lines, list_text, move_words}
 pub use Rattle.walk_files.specs.Readers.{after_answer, answer_first, count_in, denial_left, moves_left, next_answer}
-pub use Rattle.walk_files.specs.Streams.{Belongs, IsAnswer, IsIn, IsWithin, Streamed, after_move, reader_at, streams_list}
+pub use Rattle.walk_files.specs.Streams.{Belongs, IsIn, IsStreamAnswer, IsWithin, Streamed, after_move, reader_at, streams_list}
 pub use Rattle.walk_files.specs.declared.certificate.CertHead.{CertHead}
 pub use Rattle.walk_files.specs.declared.certificate.CertHead.TheVariants.{Labels}
 pub use Rattle.walk_files.specs.declared.fault.CertFault.{CertFault}

@@ -1,5 +1,5 @@
 -- Each denial has a verdict, and one.
-use Rattle.verify_commands.proofs.Common.{first_failing, one_made, IsSound, sound-pass, Pass, Certificate, Moves, Denial, IsVerdict, HasShape, HasDegree, HasPlaces, IsGood, LabellingView, DenialVerdict, ◌≡◌, ◌⊎◌, inl, inr, ℕ, zero, suc, ◌<◌, List, length, refl, arith, Option, slice_index, Files, Edge, edge_in, FaceList, IsFaceList, judgement, denial_answer}
+use Rattle.verify_commands.proofs.Common.{first_failing, one_made, IsSound, sound-pass, Pass, Certificate, Moves, Denial, IsDenialVerdict, HasShape, HasDegree, HasPlaces, IsGood, LabellingView, DenialVerdict, ◌≡◌, ◌⊎◌, inl, inr, ℕ, zero, suc, ◌<◌, List, length, refl, arith, Option, slice_index, Files, Edge, edge_in, FaceList, IsFaceList, judgement, denial_answer}
 use Rattle.labellings.proofs.EdgeRuleLemmas.{each-edge, least-against}
 use Rattle.labellings.proofs.VerdictLemmas.{one_verdict}
 use Rattle.labellings.specs.TableRules.{EntryMeetsRule}
@@ -33,7 +33,7 @@ each_once labelling each none i j below other same = elim (three_ways i j) [
 
 -- some verdict is the first that holds
 pub some_verdict : (mesh : FaceList) (first second : List ℕ) (denial : denials.Denial) → IsFaceList mesh
-    → ((verdict : DenialVerdict) → IsVerdict mesh first second denial verdict → ⊥) → ⊥
+    → ((verdict : DenialVerdict) → IsDenialVerdict mesh first second denial verdict → ⊥) → ⊥
 some_verdict mesh first second denial valid none =
     none (Label Shape) (λ shape. none (Label (Degree denial.labelling.degree)) (shape, (λ degree. with_degree shape degree), refl))
   where
@@ -90,6 +90,7 @@ sound-judgement held mesh first second (Denial denial) valid =
     record {
       some = λ none. some_verdict mesh first second denial valid (λ verdict is. none (Pass (denial_answer verdict)) (verdict, refl, is));
       one = λ _ a b p q.
-          one_made (judgement mesh first second (Denial denial)) denial_answer (IsVerdict mesh first second denial) (λ _ h. h) (λ _ h. h)
+          one_made (judgement mesh first second (Denial denial)) denial_answer (IsDenialVerdict mesh first second denial) (λ _ h. h)
+          (λ _ h. h)
           (one_verdict mesh first second denial) a b p q;
     }

@@ -1,5 +1,5 @@
 -- A certificate that is read in pieces, and judged while it is read.
-use Rattle.verify_commands.proofs.Common.{stops_next, told_stops, IsText, Texts, Check, End, Refuse, Passes, IsTold, file, meant, where_told, IsCertificateEnd, certificate_in, certificate_in_bytes, certificate_of, certificate_line, too_large, Stops, StopsReading, bytes_of, Certificate as Certified, MOST_BYTES, Stop, Refused, ReadFault, OutOfMemory, true, ◌≡◌, inl, inr, ℕ, ◌+◌, ◌<◌, ◌≤◌, List, [], ◌∷◌, ◌++◌, length, refl, sym, ap, ◌∙◌, subst, Option, Some, None, Result, Ok, Err, IsSome, MatchOption, Files, file_of, Move, peak_in, before_ok, moves_left-step, head_of_text, moves_of_text, denial_of_lines, count_in, next_answer, after_answer, answer_first, moves_left, denial_left, Streamed, reader_at, streams_list, IsIn, IsAnswer, IsWithin, CertHead, Labels, CertFault, StreamEnd}
+use Rattle.verify_commands.proofs.Common.{stops_next, told_stops, IsText, Texts, Check, End, Refuse, Passes, IsTold, file, meant, where_told, IsCertificateEnd, certificate_in, certificate_in_bytes, certificate_of, certificate_line, too_large, Stops, StopsReading, bytes_of, Certificate as Certified, MOST_BYTES, Stop, Refused, ReadFault, OutOfMemory, true, ◌≡◌, inl, inr, ℕ, ◌+◌, ◌<◌, ◌≤◌, List, [], ◌∷◌, ◌++◌, length, refl, sym, ap, ◌∙◌, subst, Option, Some, None, Result, Ok, Err, IsSome, MatchOption, Files, file_of, Move, peak_in, before_ok, moves_left-step, head_of_text, moves_of_text, denial_of_lines, count_in, next_answer, after_answer, answer_first, moves_left, denial_left, Streamed, reader_at, streams_list, IsIn, IsStreamAnswer, IsWithin, CertHead, Labels, CertFault, StreamEnd}
 use Rattle.commands.specs.declared.refusal.Input.{Input}
 use Rattle.commands.specs.declared.text.Text.{Text}
 use Rattle.labellings.specs.declared.denial.Denial.{Denial}
@@ -53,7 +53,8 @@ file_passes held name f input is few = (subst (λ (o : Option (List ℕ)). IfSom
 -- ---- what stops the reading stops the check
 
 bytes_stop : (held : Option Files) (name f : List ℕ) (end : StreamEnd) (stop : Stop) → file_of held name ≡ Some f → StopsReading end stop
-    → IsAnswer {A = Certified} (Err end) (certificate_of f) → IsWithin end (length f) MOST_BYTES → (end ≡ TooLarge → MOST_BYTES < length f)
+    → IsStreamAnswer {A = Certified} (Err end) (certificate_of f) → IsWithin end (length f) MOST_BYTES
+    → (end ≡ TooLarge → MOST_BYTES < length f)
     → Stops (certificate_in_bytes held name) stop
 bytes_stop held name f Fault stop is h answer within large = subst (Stops (certificate_in_bytes held name)) (sym h) tt
 bytes_stop held name f TooLarge stop is h answer within large =
@@ -69,7 +70,7 @@ bytes_stop held name f (Cert fault) stop is h answer within large =
 bytes_stop held name f ends.OutOfMemory stop is h answer within large = subst (Stops (certificate_in_bytes held name)) (sym h) tt
 
 pub certificate_stopped : (held : Option Files) (name : List ℕ) (end : StreamEnd) (stop : Stop) → StopsReading end stop
-    → IfSome (file_of held name) (λ f. IsAnswer {A = Certified} (Err end) (certificate_of f))
+    → IfSome (file_of held name) (λ f. IsStreamAnswer {A = Certified} (Err end) (certificate_of f))
     → IfSome (file_of held name) (λ f. IsWithin end (length f) MOST_BYTES)
     → (end ≡ TooLarge → IfSome (file_of held name) (λ f. MOST_BYTES < length f))
     → Stops (certificate_in held name) stop
@@ -81,7 +82,7 @@ certificate_stopped held name end (Refused text) h answer within large =
     (told_match ((texts : Texts) × IsCertificateEnd (Refuse texts) × IsText texts (bytes_of text))
     (λ _. Stops (certificate_in_bytes held name) (Refused text)) o (any_refused end text h) (λ f is.
     bytes_stop held name f end (Refused text) is h
-    (at_told (λ (g : List ℕ). IsAnswer {A = Certified} (Err end) (certificate_of g)) o f is answer)
+    (at_told (λ (g : List ℕ). IsStreamAnswer {A = Certified} (Err end) (certificate_of g)) o f is answer)
     (at_told (λ (g : List ℕ). IsWithin end (length g) MOST_BYTES) o f is within)
     (λ e. at_told (λ (g : List ℕ). MOST_BYTES < length g) o f is (large e))))
 
@@ -100,8 +101,8 @@ certificate_passed held name shown h =
 -- ---- what is answered of a part is answered of the text
 
 -- of its head
-pub head_answered : (f : List ℕ) (end : StreamEnd) → IsAnswer {A = CertHead} (Err end) (head_of_text f)
-    → IsAnswer {A = Certified} (Err end) (certificate_of f)
+pub head_answered : (f : List ℕ) (end : StreamEnd) → IsStreamAnswer {A = CertHead} (Err end) (head_of_text f)
+    → IsStreamAnswer {A = Certified} (Err end) (certificate_of f)
 head_answered f Fault answer = tt
 head_answered f TooLarge answer = tt
 head_answered f (Cert fault) answer = rw answer refl
@@ -113,7 +114,7 @@ pub denial_start : (stream : Streamed) (f : List ℕ) (degree : ℕ) → stream.
 denial_start stream f degree is_head none = rw (is_head, none) refl
 
 pub denial_wrong : (f : List ℕ) (degree : ℕ) (end : StreamEnd) → head_of_text f ≡ Ok (Labels degree)
-    → IsAnswer {A = Denial} (Err end) (denial_of_lines degree f) → IsAnswer {A = Certified} (Err end) (certificate_of f)
+    → IsStreamAnswer {A = Denial} (Err end) (denial_of_lines degree f) → IsStreamAnswer {A = Certified} (Err end) (certificate_of f)
 denial_wrong f degree Fault h answer = tt
 denial_wrong f degree TooLarge h answer = tt
 denial_wrong f degree (Cert fault) h answer = rw (h, answer) refl
@@ -178,9 +179,9 @@ first_all start old moves f count peak is_moves none head gives so_far =
 
 pub first_wrong : (start old : Streamed) (moves : List Move) (f : List ℕ) (count peak : ℕ) (end : StreamEnd)
     → start.head ≡ Moves count peak → start.given ≡ 0 → head_of_text f ≡ Ok start.head
-    → IsAnswer {A = Option Move} (Err end) (next_answer (reader_at old f))
+    → IsStreamAnswer {A = Option Move} (Err end) (next_answer (reader_at old f))
     → moves_left (reader_at start f) ≡ before_ok moves (moves_left (reader_at old f))
-    → IsAnswer {A = Certified} (Err end) (certificate_of f)
+    → IsStreamAnswer {A = Certified} (Err end) (certificate_of f)
 first_wrong start old moves f count peak Fault is_moves none head gives so_far = tt
 first_wrong start old moves f count peak TooLarge is_moves none head gives so_far = tt
 first_wrong start old moves f count peak ends.OutOfMemory is_moves none head gives so_far = tt

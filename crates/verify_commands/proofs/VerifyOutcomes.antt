@@ -1,5 +1,5 @@
 -- `verify` in the words of the mesh.
-use Rattle.verify_commands.proofs.Common.{IsJudgedBy, judged_by, judgement_answered, mesh_valid, mesh_passes, held, meant_told, Answer, IsText, Refuse, Pass, Passes, IsTold, Holds, IsCertificateEnd, certificate_in, certificate_in_bytes, certificate_of, SpellsPair, SpellsCertificate, Outcome, AnswersTo, IsAnswerOf, certificate_line, Certificate, Status, Yes, IsVerdict, DenialHolds, DenialVerdict, accepted_exactly, verdict_of, Verdict, Accepted, Peak, AtMove, ◌≡◌, inr, ℕ, ◌≤◌, List, [], ◌∷◌, codes, refl, sym, ap, ◌∙◌, subst, ◌↔◌, Option, Files, FaceList, PeakedMoves, Leads, greatest_darts, verify, verdict_status, denial_status, denial_line, judgement, IsVerifyInput, IsVerified, IsDenialVerified, verdict_answer, denial_answer}
+use Rattle.verify_commands.proofs.Common.{IsJudgedBy, judged_by, judgement_answered, mesh_valid, mesh_passes, held, meant_told, Answer, IsText, Refuse, Pass, Passes, IsTold, Holds, IsCertificateEnd, certificate_in, certificate_in_bytes, certificate_of, SpellsPair, SpellsCertificate, Outcome, AnswersTo, IsAnswerOf, certificate_line, Certificate, Status, Yes, IsDenialVerdict, DenialHolds, DenialVerdict, accepted_exactly, verdict_of, Verdict, Accepted, Peak, AtMove, ◌≡◌, inr, ℕ, ◌≤◌, List, [], ◌∷◌, codes, refl, sym, ap, ◌∙◌, subst, ◌↔◌, Option, Files, FaceList, PeakedMoves, Leads, greatest_darts, verify, verdict_status, denial_status, denial_line, judgement, IsVerifyInput, IsVerified, IsDenialVerified, verdict_answer, denial_answer}
 use Rattle.labellings.proofs.WalkWordLemmas.{denial_excludes}
 use Rattle.labellings.specs.declared.denial.Denial.{Denial}
 use Rattle.move_checker.specs.declared.judge.Verdict.TheVariants.{End}
@@ -50,7 +50,7 @@ judged_input files words mesh first second shown input =
 -- a judgement on a denial is its verdict
 judged_end : (mesh : FaceList) (first second : List ℕ) (denial : Denial) (outcome : Outcome) (status : Status) (text : List ℕ)
     → (judgement mesh first second (certificates.Denial denial)).Ends outcome → IsAnswerOf outcome status text
-    → (verdict : DenialVerdict) × IsVerdict mesh first second denial verdict × (status ≡ denial_status verdict)
+    → (verdict : DenialVerdict) × IsDenialVerdict mesh first second denial verdict × (status ≡ denial_status verdict)
     × IsText (denial_line verdict) text
 judged_end mesh first second denial (Refuse texts) status text p answer = absurd p
 judged_end mesh first second denial (Pass x) status text p answer =
@@ -59,7 +59,7 @@ judged_end mesh first second denial (Pass x) status text p answer =
 
 -- where it is accepted, the denial holds
 holds_where_yes : (mesh : FaceList) (first second : List ℕ) (denial : Denial) (verdict : DenialVerdict)
-    → IsVerdict mesh first second denial verdict
+    → IsDenialVerdict mesh first second denial verdict
     → denial_status verdict ≡ Yes → DenialHolds mesh first second denial
 holds_where_yes mesh first second denial (verdicts.Label fault) is e = cc
 holds_where_yes mesh first second denial (verdicts.WordWrong walk) is e = cc
@@ -93,7 +93,7 @@ module _ (files : Option Files) (words : List (List ℕ)) (status : Status) (tex
   }
 
   judged_denial : (mesh : FaceList) (first second : List ℕ) (denial : Denial) (verdict : DenialVerdict)
-      → IsVerifyInput files words mesh first second (certificates.Denial denial) → IsVerdict mesh first second denial verdict
+      → IsVerifyInput files words mesh first second (certificates.Denial denial) → IsDenialVerdict mesh first second denial verdict
       → (status ≡ denial_status verdict) × IsText (denial_line verdict) text
   judged_denial mesh first second denial verdict input is =
       let a = (judged_so mesh first second (certificates.Denial denial) input).exact tt
@@ -102,7 +102,7 @@ module _ (files : Option Files) (words : List (List ℕ)) (status : Status) (tex
 
   denial_told : (mesh : FaceList) (first second : List ℕ) (denial : Denial)
       → IsVerifyInput files words mesh first second (certificates.Denial denial)
-      → (verdict : DenialVerdict) × IsVerdict mesh first second denial verdict × (status ≡ denial_status verdict)
+      → (verdict : DenialVerdict) × IsDenialVerdict mesh first second denial verdict × (status ≡ denial_status verdict)
       × IsText (denial_line verdict) text
   denial_told mesh first second denial input =
       let a = judged_so mesh first second (certificates.Denial denial) input in

@@ -1,5 +1,5 @@
 -- The certificate that `verify` looks at, and the command: the check of each has an end, and one where its files are told.
-use Rattle.verify_commands.proofs.Common.{mesh_valid, sound-mesh, sound-pair, IsSound, sound-then, sound-meant, sound-file, sound-where_told, Refuse, IsCertificateEnd, certificate_in, certificate_in_bytes, certificate_of, walk_at, certificate_line, too_large, inl, ℕ, List, refl, Option, Files, verify}
+use Rattle.verify_commands.proofs.Common.{mesh_valid, sound-mesh, sound-pair, IsSound, sound-then, sound-meant, sound-file, sound-where_told, Refuse, IsCertificateEnd, certificate_in, certificate_in_bytes, certificate_of, certificate_line, too_large, inl, ℕ, List, refl, Option, Files, walk_at, verify}
 use Rattle.commands.specs.declared.refusal.Input.TheVariants as inputs
 use Rattle.verify_commands.proofs.SomeVerdict.{sound-judgement}
 

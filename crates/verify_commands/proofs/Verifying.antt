@@ -1,5 +1,5 @@
 -- How the checks of `verify` end, by the place where the reading ends, and the verdicts on a denial.
-use Rattle.verify_commands.proofs.Common.{stops_next, stops_second, Answer, Check, Passes, ◌>>=◌, mesh_in, pair_in, certificate_in, walk_at, Concludes, IsReplyTo, Replies, Stops, Certificate, Moves, Denial, Stop, OutOfMemory, IsVerdict, DenialVerdict, verdict_of, Verdict, inr, ℕ, List, refl, sym, subst, MatchResult, ◌≡◌, Option, Files, FaceList, IsVerdictOnFile, denial_answer, judged_file, judgement, verdict_answer, verify}
+use Rattle.verify_commands.proofs.Common.{stops_next, stops_second, Answer, Check, Passes, ◌>>=◌, mesh_in, pair_in, certificate_in, Concludes, IsReplyTo, Replies, Stops, Certificate, Moves, Denial, Stop, OutOfMemory, IsDenialVerdict, DenialVerdict, verdict_of, Verdict, inr, ℕ, List, refl, sym, subst, MatchResult, ◌≡◌, Option, Files, FaceList, walk_at, IsVerdictOnFile, denial_answer, judged_file, judgement, verdict_answer, verify}
 use Rattle.commands.specs.declared.reply.Reply.{Reply}
 use Rattle.std.proofs.Common.{Ok, Err, Result}
 use Rattle.labellings.specs.declared.denial.Denial as denials
@@ -48,7 +48,7 @@ moves_judged held name mesh first second verdict reply is h =
 
 -- the reply to a verdict on a denial is one to the judgement
 pub denial_judged : (mesh : FaceList) (first second : List ℕ) (denial : denials.Denial) (verdict : DenialVerdict)
-    (result : Result Reply Stop) → IsVerdict mesh first second denial verdict
+    (result : Result Reply Stop) → IsDenialVerdict mesh first second denial verdict
     → MatchResult result (IsReplyTo (denial_answer verdict)) (λ stop. stop ≡ OutOfMemory)
     → MatchResult result (Replies (judgement mesh first second (Denial denial))) (λ stop. stop ≡ OutOfMemory)
 denial_judged mesh first second denial verdict (Ok reply) is h =

@@ -11,12 +11,13 @@ use Rattle.move_checker.specs.declared.judge.Verdict.TheVariants as verdicts
 use Rattle.labellings.specs.Denials.{DenialHolds}
 use Rattle.labellings.specs.declared.denial.Denial as denials
 use Rattle.labellings.specs.declared.fault.LabelFault.TheVariants.{Shape, Degree, PlaceTwice, EdgeRule, OutOfMemory}
-use Rattle.labellings.specs.DenialVerdicts.{IsVerdict}
+use Rattle.labellings.specs.DenialVerdicts.{IsDenialVerdict}
 use Rattle.labellings.specs.declared.verdict.DenialVerdict.{DenialVerdict}
 use Rattle.labellings.specs.declared.verdict.DenialVerdict.TheVariants.{Accepted, Label, WordWrong, Equal}
 use Rattle.commands.specs.Answers.{Answer, Texts, NoText, Exactly, IsText}
 use Rattle.commands.specs.Checks.{Check, End, Refuse, Pass, pass, without_files, ◌>>=◌}
-use Rattle.commands.specs.Inputs.{IsInputWith, mesh_in, pair_in, certificate_in, walk_at, SpellsCertificate}
+use Rattle.commands.specs.Inputs.{IsInputWith, mesh_in, pair_in, certificate_in, SpellsCertificate}
+use Rattle.surf_model.specs.Walks.{walk_at}
 use Rattle.commands.specs.Lines.{line}
 use Rattle.commands.specs.declared.certificate.Certificate.{Certificate}
 use Rattle.commands.specs.declared.certificate.Certificate.TheVariants.{Moves, Denial}
@@ -98,10 +99,10 @@ pub record IsDenialVerified (held : Option Files) (words : List (List ℕ)) (sta
       → IsVerifyInput held words mesh first second (Denial denial) → (status ≡ Yes) ↔ DenialHolds mesh first second denial
   pub judged : (mesh : FaceList) (first second : List ℕ) (denial : denials.Denial)
       → IsVerifyInput held words mesh first second (Denial denial)
-      → (verdict : DenialVerdict) × IsVerdict mesh first second denial verdict × (status ≡ denial_status verdict)
+      → (verdict : DenialVerdict) × IsDenialVerdict mesh first second denial verdict × (status ≡ denial_status verdict)
       × IsText (denial_line verdict) text
   pub exactly : (mesh : FaceList) (first second : List ℕ) (denial : denials.Denial) (verdict : DenialVerdict)
-      → IsVerifyInput held words mesh first second (Denial denial) → IsVerdict mesh first second denial verdict
+      → IsVerifyInput held words mesh first second (Denial denial) → IsDenialVerdict mesh first second denial verdict
       → (status ≡ denial_status verdict) × IsText (denial_line verdict) text
 
 -- ---- what is looked at, in order
@@ -114,7 +115,7 @@ judgement mesh first second (Denial denial) = without_files ends
     ends : End Answer → Type 0
     ends (Refuse texts) = ⊥
     ends (Pass answer) =
-        (verdict : DenialVerdict) × (answer ≡ denial_answer verdict) × IsVerdict mesh first second denial verdict
+        (verdict : DenialVerdict) × (answer ≡ denial_answer verdict) × IsDenialVerdict mesh first second denial verdict
 
 -- the judgement on the certificate in that file
 abbrev pub judged_file : Option Files → (certificate : List ℕ) → FaceList → (first second : List ℕ) → Check Answer

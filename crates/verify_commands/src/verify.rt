@@ -12,7 +12,7 @@ ghost use Rattle.commands.specs.Inputs.{certificate_in};
 ghost use Rattle.commands.specs.Lines.{line, phrase_text};
 ghost use Rattle.verify_commands.specs.Progress.{IsVerdictOnFile, outlook, peak_in};
 ghost use Rattle.commands.specs.Replies.{Concludes, IsReplyTo, Runs};
-ghost use Rattle.commands.specs.Stops.{Reads, Stops};
+ghost use Rattle.commands.specs.Stops.{EndsReading, Stops};
 ghost use Rattle.verify_commands.specs.Verify as of_verify;
 ghost use Rattle.verify_commands.specs.Verify.{denial_answer, fault_word, judged_file, verdict_answer};
 ghost use Rattle.commands.specs.declared.status.Status.{Status};
@@ -65,7 +65,7 @@ fn judge<S: Shelf>(
     requires table { IsTableOf pair.now.faces.now pair.now.sides.now }
     requires first { IsWalk pair.now.faces.now pair.now.first.now }
     requires second { IsWalk pair.now.faces.now pair.now.second.now }
-    ensures { Reads S.held S.faults shelf.old shelf.new (λ files. Concludes
+    ensures { EndsReading S.held S.faults shelf.old shelf.new (λ files. Concludes
         (judged_file files certificate.now pair.now.faces.now pair.now.first.now pair.now.second.now) result) result }
 {
     let mut stream = CertStream::start(alloc, shelf, certificate, MOST_BYTES)?;
@@ -106,7 +106,7 @@ fn judge_moves<S: Shelf>(
     requires start { (moves : List Move) → outlook pair.now.faces.now pair.now.second.now 0 progress moves
         ≡ verdict_of pair.now.faces.now pair.now.first.now pair.now.second.now
         (record { moves = moves; peak = peak_in stream.head }) }
-    ensures { Reads S.held S.faults shelf.old shelf.new (λ files. MatchResult result
+    ensures { EndsReading S.held S.faults shelf.old shelf.new (λ files. MatchResult result
         (IsVerdictOnFile files name.now pair.now.faces.now pair.now.first.now pair.now.second.now)
         (Stops (certificate_in files name.now))) result }
 {

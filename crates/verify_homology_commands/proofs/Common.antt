@@ -5,7 +5,7 @@ pub use Rattle.commands.proofs.Running.{judged_no_fault, only_then, reads_ended,
 pub use Rattle.commands.proofs.Sound.{IsSound, held, meant_told, one_made, sound-file, sound-meant, sound-then}
 pub use Rattle.commands.specs.Answers.{Answer}
 pub use Rattle.commands.specs.Checks.{Check, Pass, Passes, Refuse, file, meant, ◌>>=◌}
-pub use Rattle.commands.specs.Inputs.{SpellsPair, mesh_in, pair_in, walk_at}
+pub use Rattle.commands.specs.Inputs.{SpellsPair, mesh_in, pair_in}
 pub use Rattle.commands.specs.Stops.{Stops}
 pub use Rattle.homology.specs.Certificates.{edge_number, face_number}
 pub use Rattle.homology.specs.Verdicts.{HasEdge, HasFace, IsFirstAgainst, IsVerdict}
@@ -16,4 +16,5 @@ pub use Rattle.std.proofs.Common.{Err, List, MatchResult, Ok, Result, arith, cod
 pub use Rattle.std.specs.Prelude.{All, Option}
 pub use Rattle.surf_io.specs.Files.{Files}
 pub use Rattle.surf_model.specs.FaceLists.{FaceList, IsFaceList}
-pub use Rattle.verify_homology_commands.specs.VerifyHomology.{IsHomologyVerified, IsInput, ShownBy, certificate_in, fault_line, judgement, verdict_answer, verdict_line, verdict_status, verify_homology}
+pub use Rattle.surf_model.specs.Walks.{walk_at}
+pub use Rattle.verify_homology_commands.specs.VerifyHomology.{IsHomologyVerified, IsInput, ShownBy, fault_line, homology_certificate_in, homology_judgement, homology_verdict_answer, homology_verdict_line, homology_verdict_status, verify_homology}

@@ -1,5 +1,5 @@
 -- Each certificate of homology has a verdict, and one.
-use Rattle.verify_homology_commands.proofs.Common.{first_failing, one_made, IsSound, Pass, face_number, edge_number, HasEdge, HasFace, IsFirstAgainst, IsVerdict, HomologyCert, HomologyVerdict, ◌≡◌, ℕ, List, [], ◌∷◌, length, get_or, map, refl, subst, arith, ℤ, pos, ◌-ℤ◌, All, Option, Files, FaceList, IsFaceList, judgement, verdict_answer}
+use Rattle.verify_homology_commands.proofs.Common.{first_failing, one_made, IsSound, Pass, face_number, edge_number, HasEdge, HasFace, IsFirstAgainst, IsVerdict, HomologyCert, HomologyVerdict, ◌≡◌, ℕ, List, [], ◌∷◌, length, get_or, map, refl, subst, arith, ℤ, pos, ◌-ℤ◌, All, Option, Files, FaceList, IsFaceList, homology_judgement, homology_verdict_answer}
 use Rattle.homology.proofs.ChainVerdictLemmas.{chain_fails, chain_holds}
 use Rattle.homology.proofs.VerdictLemmas.{one_verdict}
 use Rattle.homology.specs.Chains.{boundary, count_difference}
@@ -76,10 +76,12 @@ some_verdict mesh first second (Chain lines) valid none = some_of_chain mesh fir
 some_verdict mesh first second (Cocycle lines) valid none = some_of_cocycle mesh first second lines none
 
 pub sound-judgement : (held : Option Files) (mesh : FaceList) (first second : List ℕ) (shown : HomologyCert) → IsFaceList mesh
-    → IsSound held (judgement mesh first second shown)
+    → IsSound held (homology_judgement mesh first second shown)
 sound-judgement held mesh first second shown valid = record {
-  some = λ none. some_verdict mesh first second shown valid (λ verdict is. none (Pass (verdict_answer verdict)) (verdict, refl, is));
+  some = λ none. some_verdict mesh first second shown valid
+      (λ verdict is. none (Pass (homology_verdict_answer verdict)) (verdict, refl, is));
   one = λ _ a b p q.
-      one_made (judgement mesh first second shown) verdict_answer (IsVerdict mesh first second shown) (λ _ h. h) (λ _ h. h)
+      one_made (homology_judgement mesh first second shown) homology_verdict_answer (IsVerdict mesh first second shown) (λ _ h. h)
+      (λ _ h. h)
       (one_verdict mesh first second shown) a b p q;
 }

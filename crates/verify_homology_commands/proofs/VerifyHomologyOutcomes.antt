@@ -1,5 +1,5 @@
 -- `verify-homology` in the words of the mesh.
-use Rattle.verify_homology_commands.proofs.Common.{IsJudgedBy, judged_by, judgement_answered, IsSound, sound-then, sound-meant, sound-file, held, meant_told, Answer, Refuse, Pass, walk_at, SpellsPair, face_number, edge_number, IsVerdict, HomologyCert, HomologyVerdict, cert_of_text, ◌≡◌, inr, ℕ, List, [], ◌∷◌, codes, refl, sym, ◌∙◌, subst, Option, Files, FaceList, verify_homology, verdict_status, verdict_line, verdict_answer, fault_line, judgement, certificate_in, ShownBy, IsInput, IsHomologyVerified}
+use Rattle.verify_homology_commands.proofs.Common.{IsJudgedBy, judged_by, judgement_answered, IsSound, sound-then, sound-meant, sound-file, held, meant_told, Answer, Refuse, Pass, SpellsPair, face_number, edge_number, IsVerdict, HomologyCert, HomologyVerdict, cert_of_text, ◌≡◌, inr, ℕ, List, [], ◌∷◌, codes, refl, sym, ◌∙◌, subst, Option, Files, FaceList, walk_at, verify_homology, homology_verdict_status, homology_verdict_line, homology_verdict_answer, fault_line, homology_judgement, homology_certificate_in, ShownBy, IsInput, IsHomologyVerified}
 use Rattle.commands.proofs.MeshTexts.{mesh_valid}
 use Rattle.commands.proofs.Rows.{sound-mesh, sound-pair}
 use Rattle.commands.specs.Outcomes.{Outcome, AnswersTo, IsAnswerOf}
@@ -12,7 +12,7 @@ use Rattle.homology.specs.declared.certificate.HomologyCert.TheVariants as certi
 use Rattle.commands.specs.declared.refusal.Input.TheVariants as inputs
 use Rattle.verify_homology_commands.proofs.SomeVerdicts.{sound-judgement}
 
-pub sound-certificate : (files : Option Files) (name : List ℕ) → IsSound files (certificate_in files name)
+pub sound-certificate : (files : Option Files) (name : List ℕ) → IsSound files (homology_certificate_in files name)
 sound-certificate files name =
     sound-then files _ _ (sound-file files name inputs.Certificate) (λ bytes _. sound-meant files fault_line (cert_of_text bytes))
 
@@ -31,9 +31,10 @@ Spells certificate bytes = cert_of_text bytes ≡ Ok certificate
 -- as the judgement ends, the command does
 judged_input : (files : Option Files) (words : List (List ℕ)) (mesh : FaceList) (first second : List ℕ) (shown : HomologyCert)
     (input : IsInput files words mesh first second shown)
-    → IsJudgedBy files (verify_homology files input.mesh_name input.walks_name input.certificate_name) (judgement mesh first second shown)
+    → IsJudgedBy files (verify_homology files input.mesh_name input.walks_name input.certificate_name)
+    (homology_judgement mesh first second shown)
 judged_input files words mesh first second shown input =
-    judged_by (codes "verify-homology") Spells files (certificate_in files) judgement (sound-certificate files)
+    judged_by (codes "verify-homology") Spells files (homology_certificate_in files) homology_judgement (sound-certificate files)
     (λ name told. (told, λ bytes _. meant_told files fault_line (cert_of_text bytes)))
     (λ name certificate h.
     let file = held files name (Spells certificate) h in inr (file.bytes, file.passes inputs.Certificate, rw file.holds refl))
@@ -41,16 +42,17 @@ judged_input files words mesh first second shown input =
 
 -- a judgement is its verdict
 judged_end : (mesh : FaceList) (first second : List ℕ) (shown : HomologyCert) (outcome : Outcome) (status : Status) (text : List ℕ)
-    → (judgement mesh first second shown).Ends outcome → IsAnswerOf outcome status text
-    → (verdict : HomologyVerdict) × IsVerdict mesh first second shown verdict × (status ≡ verdict_status verdict)
-    × (text ≡ verdict_line verdict)
+    → (homology_judgement mesh first second shown).Ends outcome → IsAnswerOf outcome status text
+    → (verdict : HomologyVerdict) × IsVerdict mesh first second shown verdict × (status ≡ homology_verdict_status verdict)
+    × (text ≡ homology_verdict_line verdict)
 judged_end mesh first second shown (Refuse texts) status text p answer = absurd p
 judged_end mesh first second shown (Pass x) status text p answer =
-    let here : IsAnswerOf (Pass (verdict_answer p.0)) status text = subst (λ (y : Answer). IsAnswerOf (Pass y) status text) p.1 answer in
+    let here : IsAnswerOf (Pass (homology_verdict_answer p.0)) status text =
+    subst (λ (y : Answer). IsAnswerOf (Pass y) status text) p.1 answer in
     (p.0, p.2, here.status_is, here.text_is)
 
 -- the status is yes only where the certificate is accepted
-yes_accepted : (verdict : HomologyVerdict) → verdict_status verdict ≡ Yes → verdict ≡ Accepted
+yes_accepted : (verdict : HomologyVerdict) → homology_verdict_status verdict ≡ Yes → verdict ≡ Accepted
 yes_accepted (Face face) e = cc
 yes_accepted (Edge low high) e = cc
 yes_accepted (Sum face) e = cc
@@ -69,15 +71,15 @@ module _ (files : Option Files) (words : List (List ℕ)) (status : Status) (tex
     → AnswersTo files (verify_homology files mesh walks certificate) status text) where
   -- such an input is answered by the judgement on it
   judged_so : (mesh : FaceList) (first second : List ℕ) (shown : HomologyCert) → IsInput files words mesh first second shown
-      → AnswersTo files (judgement mesh first second shown) status text
+      → AnswersTo files (homology_judgement mesh first second shown) status text
   judged_so mesh first second shown input =
       judgement_answered files (verify_homology files input.mesh_name input.walks_name input.certificate_name)
-      (judgement mesh first second shown) status text (judged_input files words mesh first second shown input)
+      (homology_judgement mesh first second shown) status text (judged_input files words mesh first second shown input)
       (answered input.mesh_name input.walks_name input.certificate_name input.words_are)
 
   verdict_so : (mesh : FaceList) (first second : List ℕ) (shown : HomologyCert) → IsInput files words mesh first second shown
-      → (verdict : HomologyVerdict) × IsVerdict mesh first second shown verdict × (status ≡ verdict_status verdict)
-      × (text ≡ verdict_line verdict)
+      → (verdict : HomologyVerdict) × IsVerdict mesh first second shown verdict × (status ≡ homology_verdict_status verdict)
+      × (text ≡ homology_verdict_line verdict)
   verdict_so mesh first second shown input =
       let a = judged_so mesh first second shown input in
       judged_end mesh first second shown a.outcome status text a.is_outcome a.is_answer
@@ -86,7 +88,7 @@ module _ (files : Option Files) (words : List (List ℕ)) (status : Status) (tex
   pub homology_verified : IsHomologyVerified files words status text
   homology_verified = record {
     exactly = λ mesh first second shown verdict input is.
-        let a = (judged_so mesh first second shown input).exact tt (Pass (verdict_answer verdict)) (verdict, refl, is) in
+        let a = (judged_so mesh first second shown input).exact tt (Pass (homology_verdict_answer verdict)) (verdict, refl, is) in
         (a.status_is, a.text_is);
     judged = verdict_so;
     homologous = λ mesh first second shown input yes.

@@ -13,7 +13,8 @@ use Rattle.homology_files.specs.declared.fault.HomologyFault.{HomologyFault}
 use Rattle.homology_files.specs.declared.fault.HomologyFault.TheVariants as faults
 use Rattle.commands.specs.Answers.{Answer, Texts, NoText, Exactly}
 use Rattle.commands.specs.Checks.{Check, End, Refuse, Pass, file, meant, without_files, ◌>>=◌}
-use Rattle.commands.specs.Inputs.{IsInputWith, mesh_in, pair_in, walk_at}
+use Rattle.commands.specs.Inputs.{IsInputWith, mesh_in, pair_in}
+use Rattle.surf_model.specs.Walks.{walk_at}
 use Rattle.commands.specs.Lines.{line}
 use Rattle.commands.specs.Refusals.{told, told_at}
 use Rattle.commands.specs.declared.refusal.Input.TheVariants as inputs
@@ -23,24 +24,24 @@ use Rattle.commands.specs.declared.status.Status.TheVariants.{Yes, No}
 -- ---- what is answered of a verdict
 
 -- the line of a verdict
-abbrev pub verdict_line : HomologyVerdict → List ℕ
-verdict_line (Face face) = line (codes "rejected: face") (decimal face.0 ∷ [])
-verdict_line (Edge low high) = line (codes "rejected: edge") (decimal low.0 ∷ decimal high.0 ∷ [])
-verdict_line (Sum face) = line (codes "rejected: face") (decimal face.0 ∷ [])
-verdict_line Zero = line (codes "rejected: zero") []
-verdict_line Accepted = line (codes "accepted") []
+abbrev pub homology_verdict_line : HomologyVerdict → List ℕ
+homology_verdict_line (Face face) = line (codes "rejected: face") (decimal face.0 ∷ [])
+homology_verdict_line (Edge low high) = line (codes "rejected: edge") (decimal low.0 ∷ decimal high.0 ∷ [])
+homology_verdict_line (Sum face) = line (codes "rejected: face") (decimal face.0 ∷ [])
+homology_verdict_line Zero = line (codes "rejected: zero") []
+homology_verdict_line Accepted = line (codes "accepted") []
 
 -- yes where the certificate is accepted
-abbrev pub verdict_status : HomologyVerdict → Status
-verdict_status (Face face) = No
-verdict_status (Edge low high) = No
-verdict_status (Sum face) = No
-verdict_status Zero = No
-verdict_status Accepted = Yes
+abbrev pub homology_verdict_status : HomologyVerdict → Status
+homology_verdict_status (Face face) = No
+homology_verdict_status (Edge low high) = No
+homology_verdict_status (Sum face) = No
+homology_verdict_status Zero = No
+homology_verdict_status Accepted = Yes
 
 -- the answer that a verdict is
-abbrev pub verdict_answer : HomologyVerdict → Answer
-verdict_answer verdict = record { status = verdict_status verdict; texts = Exactly (verdict_line verdict) }
+abbrev pub homology_verdict_answer : HomologyVerdict → Answer
+homology_verdict_answer verdict = record { status = homology_verdict_status verdict; texts = Exactly (homology_verdict_line verdict) }
 
 -- the fault of a certificate
 abbrev pub fault_line : HomologyFault → Texts
@@ -68,33 +69,33 @@ ShownBy mesh first second (Cocycle lines) = AreHomologous mesh first second → 
 pub record IsHomologyVerified (held : Option Files) (words : List (List ℕ)) (status : Status) (text : List ℕ) : Type 0 where
   pub exactly : (mesh : FaceList) (first second : List ℕ) (certificate : HomologyCert) (verdict : HomologyVerdict)
       → IsInput held words mesh first second certificate → IsVerdict mesh first second certificate verdict
-      → (status ≡ verdict_status verdict) × (text ≡ verdict_line verdict)
+      → (status ≡ homology_verdict_status verdict) × (text ≡ homology_verdict_line verdict)
   pub judged : (mesh : FaceList) (first second : List ℕ) (certificate : HomologyCert) → IsInput held words mesh first second certificate
-      → (verdict : HomologyVerdict) × IsVerdict mesh first second certificate verdict × (status ≡ verdict_status verdict)
-      × (text ≡ verdict_line verdict)
+      → (verdict : HomologyVerdict) × IsVerdict mesh first second certificate verdict × (status ≡ homology_verdict_status verdict)
+      × (text ≡ homology_verdict_line verdict)
   pub homologous : (mesh : FaceList) (first second : List ℕ) (certificate : HomologyCert)
       → IsInput held words mesh first second certificate → status ≡ Yes → ShownBy mesh first second certificate
 
 -- ---- what is looked at, in order
 
 -- the certificate that the file spells
-abbrev pub certificate_in : Option Files → List ℕ → Check HomologyCert
-certificate_in held name = do
+abbrev pub homology_certificate_in : Option Files → List ℕ → Check HomologyCert
+homology_certificate_in held name = do
   bytes ← file held name inputs.Certificate
   meant fault_line (cert_of_text bytes)
 
 -- the judgement on a certificate: the verdict that it has
-abbrev pub judgement : FaceList → List ℕ → List ℕ → HomologyCert → Check Answer
-judgement mesh first second certificate = without_files ends
+abbrev pub homology_judgement : FaceList → List ℕ → List ℕ → HomologyCert → Check Answer
+homology_judgement mesh first second certificate = without_files ends
   where
     ends : End Answer → Type 0
     ends (Refuse texts) = ⊥
     ends (Pass answer) =
-        (verdict : HomologyVerdict) × (answer ≡ verdict_answer verdict) × IsVerdict mesh first second certificate verdict
+        (verdict : HomologyVerdict) × (answer ≡ homology_verdict_answer verdict) × IsVerdict mesh first second certificate verdict
 
 abbrev pub verify_homology : Option Files → (mesh walks certificate : List ℕ) → Check Answer
 verify_homology held mesh walks certificate = do
   faces ← mesh_in held mesh
   pair ← pair_in held walks faces
-  shown ← certificate_in held certificate
-  judgement faces (walk_at pair 0) (walk_at pair 1) shown
+  shown ← homology_certificate_in held certificate
+  homology_judgement faces (walk_at pair 0) (walk_at pair 1) shown

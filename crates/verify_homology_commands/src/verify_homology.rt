@@ -6,13 +6,13 @@ ghost use Rattle.homology_files.specs.HomologyTexts.{cert_of_text};
 ghost use Rattle.homology.specs.declared.verdict.HomologyVerdict.{HomologyVerdict};
 ghost use Rattle.commands.specs.Answers.{Exactly};
 ghost use Rattle.commands.specs.Checks.{meant};
-ghost use Rattle.commands.specs.Inputs.{walk_at};
+ghost use Rattle.surf_model.specs.Walks.{walk_at};
 ghost use Rattle.commands.specs.Lines.{line, phrase_text};
 ghost use Rattle.commands.specs.Replies.{IsReplyTo, Replies, Runs};
-ghost use Rattle.commands.specs.Stops.{Ends, Reads, Tells};
+ghost use Rattle.commands.specs.Stops.{Ends, EndsReading, Tells};
 ghost use Rattle.commands.specs.declared.status.Status.{Status};
 ghost use Rattle.commands.specs.declared.stop.Stop.{Stop};
-ghost use Rattle.verify_homology_commands.specs.VerifyHomology.{certificate_in, fault_line, judgement, verdict_answer};
+ghost use Rattle.verify_homology_commands.specs.VerifyHomology.{homology_certificate_in, fault_line, homology_judgement, homology_verdict_answer};
 ghost use Rattle.verify_homology_commands.specs.VerifyHomology as of_verify;
 
 use commands::{
@@ -47,7 +47,7 @@ pub fn verify_homology<S: Shelf>(
 
 /// Reads the certificate. The bytes of its file are given back.
 fn read_shown<S: Shelf>(alloc: Global, shelf: &mut S, name: &str) -> Result<HomologyCert, Stop>
-    ensures { Reads S.held S.faults shelf.old shelf.new (λ files. Ends (certificate_in files name.now) result) result }
+    ensures { EndsReading S.held S.faults shelf.old shelf.new (λ files. Ends (homology_certificate_in files name.now) result) result }
 {
     let bytes = read_file(alloc, shelf, name, Input::Certificate)?;
     certificate_of_bytes(alloc, &bytes)
@@ -87,7 +87,8 @@ fn judge(
 ) -> Result<Reply, Stop>
     requires table { IsTableOf faces.now sides.now }
     requires pair { IsPair faces.now pair.now.walks }
-    ensures { MatchResult result (Replies (judgement faces.now (walk_at pair.now.walks 0) (walk_at pair.now.walks 1) certificate.now))
+    ensures { MatchResult result
+        (Replies (homology_judgement faces.now (walk_at pair.now.walks 0) (walk_at pair.now.walks 1) certificate.now))
         (λ stop. stop ≡ Stop.OutOfMemory) }
 {
     let verdict = check_homology(alloc, faces, sides, pair.at(0), pair.at(1), certificate)?;
@@ -96,7 +97,7 @@ fn judge(
 
 /// The reply that a verdict is.
 fn reply_on(verdict: HomologyVerdict) -> Reply
-    ensures { IsReplyTo (verdict_answer verdict) result }
+    ensures { IsReplyTo (homology_verdict_answer verdict) result }
 {
     match verdict {
         HomologyVerdict::Face(face) => {

@@ -12,7 +12,7 @@ use Rattle.surf_model.proofs.EdgeLemmas.{step_edge, step_within}
 use Rattle.surf_model.proofs.RoundLemmas.{corner_after, meet}
 use Rattle.surf_model.proofs.ReplacementLemmas.{by_replacing}
 use Rattle.surf_model.proofs.ContextLemmas.{first_answer, stays_walk}
-use Rattle.walk_actions.specs.Actions.{run, walked, beyond, EachDart, EachDartOf, ActsAlong, Acts, IsEdge, AreDarts, RoundIsNothing, FacesActAsNothing, CrossesOnly}
+use Rattle.walk_actions.specs.Actions.{run, walked, vertices_beyond, EachDart, EachDartOf, ActsAlong, Acts, IsEdge, AreDarts, RoundIsNothing, FacesActAsNothing, CrossesOnly}
 use Rattle.walk_actions.proofs.Corners.{next_back, next_forth, after_more, once_round, steps_to, corners_beyond}
 use Rattle.walk_actions.proofs.Runs.{end_from, end_from-append, end_beyond, each_front, each_behind, each_on, each_round, edges_of, edges_are_darts, run-append, run-more, walked-round}
 
@@ -58,7 +58,7 @@ pub record GoAlike {State : Type 0} (IsDart : ℕ → ℕ → Type 0) (Same : St
 
 -- what k steps round a ring make of a state
 abbrev pub round : {State : Type 0} → (State → ℕ → ℕ → State) → List ℕ → Bool → State → ℕ → ℕ → State
-round act ring rising s t k = run act s (get_or ring t 0) (beyond ring rising t k)
+round act ring rising s t k = run act s (get_or ring t 0) (vertices_beyond ring rising t k)
 
 -- k steps in a direction and l steps in the other one act alike from corner t
 abbrev TwoWays : {State : Type 0} → (State → State → Type 0) → (State → ℕ → ℕ → State) → (ℕ → State → Type 0) → List ℕ → Bool → ℕ → ℕ → ℕ
@@ -342,8 +342,8 @@ module _ {State : Type 0} (IsDart : ℕ → ℕ → Type 0) (Same : State → St
           let steps = λ (rising : Bool) (t : ℕ) (within : t < m). dart.edges _ _ (step_edge mesh face.0 rising t h.0 within) in
           record {
             start = get_or ring corner 0;
-            rest = beyond ring forward corner taken;
-            others = beyond ring (not forward) corner (m - taken);
+            rest = vertices_beyond ring forward corner taken;
+            others = vertices_beyond ring (not forward) corner (m - taken);
             walk_is = h.3 ∙ corners_beyond ring forward corner taken;
             other_is = h.4 ∙ corners_beyond ring (not forward) corner (m - taken);
             ways = record {

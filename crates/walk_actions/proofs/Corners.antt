@@ -5,7 +5,7 @@ use Rattle.std.proofs.lemmas.Bool.Decides.{nat_tests}
 use Rattle.surf_model.specs.FaceLists.{next_corner, corners_from}
 use Rattle.surf_model.proofs.EdgeLemmas.{step_within}
 use Rattle.surf_model.proofs.RoundLemmas.{corner_after, rises, rises_past, falls, falls_past, meet}
-use Rattle.walk_actions.specs.Actions.{beyond}
+use Rattle.walk_actions.specs.Actions.{vertices_beyond}
 
 pub next_back : (rising : Bool) (m t : ℕ) → t < m → next_corner (not rising) m (next_corner rising m t) ≡ t
 next_back true m t l = grind (arith, nat_tests)
@@ -74,13 +74,15 @@ corners_apart false m t p q l less few most same =
     rising_apart m t (m - q) (m - p) l (omega arith) (omega arith) (omega arith)
     (sym (sym (meet false m t p l (omega arith)) ∙ same ∙ meet false m t q l most))
 
-pub corners_beyond : (ring : List ℕ) (rising : Bool) (t k : ℕ) → corners_from ring rising t k ≡ get_or ring t 0 ∷ beyond ring rising t k
+pub corners_beyond : (ring : List ℕ) (rising : Bool) (t k : ℕ)
+    → corners_from ring rising t k ≡ get_or ring t 0 ∷ vertices_beyond ring rising t k
 corners_beyond ring rising t zero = refl
 corners_beyond ring rising t (suc k) =
     ap (λ (l : List ℕ). get_or ring t 0 ∷ l) (corners_beyond ring rising (next_corner rising (length ring) t) k)
 
 pub beyond_more : (ring : List ℕ) (rising : Bool) (t k : ℕ)
-    → beyond ring rising t (suc k) ≡ beyond ring rising t k ++ get_or ring (corner_after rising (length ring) t (suc k)) 0 ∷ []
+    → vertices_beyond ring rising t (suc k)
+    ≡ vertices_beyond ring rising t k ++ get_or ring (corner_after rising (length ring) t (suc k)) 0 ∷ []
 beyond_more ring rising t zero = refl
 beyond_more ring rising t (suc k) =
     let next : ℕ = next_corner rising (length ring) t in

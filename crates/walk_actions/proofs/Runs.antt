@@ -5,7 +5,7 @@ use Rattle.surf_model.specs.Walks.{IsWalk}
 use Rattle.surf_model.proofs.EdgeLemmas.{edge_swap, step_within}
 use Rattle.surf_model.proofs.RoundLemmas.{corner_after}
 use Rattle.surf_model.proofs.LinkLemmas.{Linked, links}
-use Rattle.walk_actions.specs.Actions.{run, walked, beyond, EachDart, EachDartOf, IsEdge, AreDarts}
+use Rattle.walk_actions.specs.Actions.{run, walked, vertices_beyond, EachDart, EachDartOf, IsEdge, AreDarts}
 use Rattle.walk_actions.proofs.Corners.{corners_beyond}
 
 -- the last of the vertices from u on
@@ -18,7 +18,7 @@ end_from-append u [] ys = refl
 end_from-append u (x ∷ xs) ys = end_from-append x xs ys
 
 pub end_beyond : (ring : List ℕ) (rising : Bool) (t k : ℕ)
-    → end_from (get_or ring t 0) (beyond ring rising t k) ≡ get_or ring (corner_after rising (length ring) t k) 0
+    → end_from (get_or ring t 0) (vertices_beyond ring rising t k) ≡ get_or ring (corner_after rising (length ring) t k) 0
 end_beyond ring rising t zero = refl
 end_beyond ring rising t (suc k) = end_beyond ring rising (next_corner rising (length ring) t) k
 
@@ -37,7 +37,7 @@ module _ (P : ℕ → ℕ → Type 0) where
 
   pub each_round : (ring : List ℕ) → ((rising : Bool) (t : ℕ) → t < length ring
       → P (get_or ring t 0) (get_or ring (next_corner rising (length ring) t) 0))
-      → (rising : Bool) (t k : ℕ) → t < length ring → EachDart P (get_or ring t 0) (beyond ring rising t k)
+      → (rising : Bool) (t k : ℕ) → t < length ring → EachDart P (get_or ring t 0) (vertices_beyond ring rising t k)
   each_round ring step rising t zero l = tt
   each_round ring step rising t (suc k) l =
       (step rising t l, each_round ring step rising (next_corner rising (length ring) t) k (step_within rising (length ring) t l))
@@ -79,13 +79,13 @@ module _ {State : Type 0} (act : State → ℕ → ℕ → State) where
   run-append s u (x ∷ xs) ys = run-append (act s u x) x xs ys
 
   pub walked-round : (s : State) (ring : List ℕ) (rising : Bool) (t k : ℕ)
-      → walked act s (corners_from ring rising t k) ≡ run act s (get_or ring t 0) (beyond ring rising t k)
+      → walked act s (corners_from ring rising t k) ≡ run act s (get_or ring t 0) (vertices_beyond ring rising t k)
   walked-round s ring rising t k = ap (walked act s) (corners_beyond ring rising t k)
 
   -- round a face one step more
   pub run-more : (s : State) (ring : List ℕ) (rising : Bool) (t k : ℕ)
-      → run act s (get_or ring t 0) (beyond ring rising t (suc k))
-      ≡ act (run act s (get_or ring t 0) (beyond ring rising t k)) (get_or ring (corner_after rising (length ring) t k) 0)
+      → run act s (get_or ring t 0) (vertices_beyond ring rising t (suc k))
+      ≡ act (run act s (get_or ring t 0) (vertices_beyond ring rising t k)) (get_or ring (corner_after rising (length ring) t k) 0)
       (get_or ring (corner_after rising (length ring) t (suc k)) 0)
   run-more s ring rising t zero = refl
   run-more s ring rising t (suc k) =

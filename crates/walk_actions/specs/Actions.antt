@@ -25,10 +25,10 @@ EachDartOf P [] = Unit {0}
 EachDartOf P (u ∷ us) = EachDart P u us
 
 -- the vertices that k steps round a face from corner t lead to
-abbrev pub beyond : List ℕ → Bool → ℕ → ℕ → List ℕ
-beyond ring rising t zero = []
-beyond ring rising t (suc k) =
-    slice_index ring (next_corner rising (length ring) t) ∷ beyond ring rising (next_corner rising (length ring) t) k
+abbrev pub vertices_beyond : List ℕ → Bool → ℕ → ℕ → List ℕ
+vertices_beyond ring rising t zero = []
+vertices_beyond ring rising t (suc k) =
+    slice_index ring (next_corner rising (length ring) t) ∷ vertices_beyond ring rising (next_corner rising (length ring) t) k
 
 -- An action on states, each of which is at a vertex, up to states that are the same, an equivalence of those at one vertex: a dart leads
 -- states at its first vertex to states at its second, and the same to the same; and there and back changes nothing.

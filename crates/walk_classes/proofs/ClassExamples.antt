@@ -1,5 +1,5 @@
 -- The definitions at work, on the tetrahedron: of four walks the first, the second and the fourth are in one class.
-use Rattle.walk_classes.proofs.Common.{◌≡◌, ℕ, zero, suc, ◌+◌, ◌<◌, true, List, [], ◌∷◌, get_or, refl, arith, all_sides, is_edge, is_used, IsWalk, AreInOneClass, IsLeastInClass, AreClasses, walk_at}
+use Rattle.walk_classes.proofs.Common.{◌≡◌, ℕ, zero, suc, ◌+◌, ◌<◌, true, List, [], ◌∷◌, get_or, refl, arith, all_sides, is_edge, is_used, IsWalk, walk_at, AreInOneClass, IsLeastInClass, AreClasses}
 use Rattle.surf_model.specs.Meshes.{tetrahedron}
 use Rattle.surf_model.specs.Moves.{apply}
 use Rattle.surf_model.specs.declared.moves.Move.TheVariants.{Across}

@@ -1,5 +1,5 @@
 -- To be in one class is an equivalence, so the least places tell classes apart.
-use Rattle.walk_classes.proofs.Common.{◌≡◌, ◌↔◌, inl, inr, ℕ, ◌<◌, List, [], length, get_or, refl, sym, ◌∙◌, ◌++◌, subst, arith, same_lists, get_or_default, FaceList, IsWalk, AreInOneClass, IsLeastInClass, AreClasses, walk_at}
+use Rattle.walk_classes.proofs.Common.{◌≡◌, ◌↔◌, inl, inr, ℕ, ◌<◌, List, [], length, get_or, refl, sym, ◌∙◌, ◌++◌, subst, arith, same_lists, get_or_default, FaceList, IsWalk, walk_at, AreInOneClass, IsLeastInClass, AreClasses}
 use Rattle.std.proofs.lemmas.Bool.{cases_lt}
 use Rattle.surf_model.proofs.ContextLemmas.{one_after_another}
 use Rattle.surf_model.proofs.WayBackLemmas.{list_undone}

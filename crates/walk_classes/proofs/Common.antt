@@ -10,8 +10,8 @@ pub use Rattle.std.specs.declared.cmp.Ordering.{Ordering}
 pub use Rattle.std.specs.declared.cmp.Ordering.TheVariants.{Equal, Greater, Less}
 pub use Rattle.surf_model.specs.FaceLists.{FaceList}
 unfoldable pub use Rattle.surf_model.specs.FaceLists.{all_sides, is_edge, is_used}
-pub use Rattle.surf_model.specs.Walks.{AreWalkPair, HaveCommonEnds, IsWalk}
+pub use Rattle.surf_model.specs.Walks.{AreWalkPair, HaveCommonEnds, IsWalk, walk_at}
 pub use Rattle.walk_classes.specs.Keys.{AreSameKeys, key_order, word_of_key}
-pub use Rattle.walk_classes.specs.WalkClasses.{AreClasses, AreInOneClass, IsLeastInClass, walk_at}
+pub use Rattle.walk_classes.specs.WalkClasses.{AreClasses, AreInOneClass, IsLeastInClass}
 pub use Rattle.walk_classes.specs.WalkKeys.{HasKept, IsKeyOf}
 pub use Rattle.walk_classes.specs.declared.key.Key.{Key}

@@ -1,5 +1,5 @@
 -- Keys of walks that come one after another, with the first place of each: one walk more.
-use Rattle.walk_classes.proofs.Common.{◌≡◌, ◌↔◌, ◌⊎◌, inl, inr, ℕ, ◌+◌, ◌<◌, List, length, refl, ap, sym, ◌∙◌, subst, arith, BTreeMap, get, IsUnchanged, lookup, is_eq, cond, MatchOption, Option, Some, None, Ordering, Less, Equal, Greater, FaceList, key_order, AreSameKeys, AreInOneClass, IsLeastInClass, walk_at, Key}
+use Rattle.walk_classes.proofs.Common.{◌≡◌, ◌↔◌, ◌⊎◌, inl, inr, ℕ, ◌+◌, ◌<◌, List, length, refl, ap, sym, ◌∙◌, subst, arith, BTreeMap, get, IsUnchanged, lookup, is_eq, cond, MatchOption, Option, Some, None, Ordering, Less, Equal, Greater, FaceList, walk_at, key_order, AreSameKeys, AreInOneClass, IsLeastInClass, Key}
 use Rattle.walk_classes.proofs.ClassLemmas.{alike_itself}
 use Rattle.walk_classes.proofs.KeyLemmas.{told_same, told_equal, same_back}
 

@@ -1,5 +1,5 @@
 -- Keys of walks tell their classes, and number them as they come.
-use Rattle.walk_classes.proofs.Common.{IsWordIn, mesh_of_finder, ◌≡◌, inl, inr, ℕ, ◌+◌, ◌<◌, List, [], length, get_or, set, get_or-set_same, get_or-set_other, length-set, sym, ap, ◌∙◌, subst, arith, BTreeMap, lookup, is_eq, MatchOption, Option, FaceList, AreWalkPair, HaveCommonEnds, IsWalk, AreSameKeys, key_order, word_of_key, AreClasses, IsLeastInClass, walk_at, HasKept, IsKeyOf, Key}
+use Rattle.walk_classes.proofs.Common.{IsWordIn, mesh_of_finder, ◌≡◌, inl, inr, ℕ, ◌+◌, ◌<◌, List, [], length, get_or, set, get_or-set_same, get_or-set_other, length-set, sym, ap, ◌∙◌, subst, arith, BTreeMap, lookup, is_eq, MatchOption, Option, FaceList, AreWalkPair, HaveCommonEnds, IsWalk, walk_at, AreSameKeys, key_order, word_of_key, AreClasses, IsLeastInClass, HasKept, IsKeyOf, Key}
 use Rattle.component_deciding.specs.declared.word_finder.WordFinder.{WordFinder}
 use Rattle.walk_translate.specs.Found.{DoDecide}
 use Rattle.walk_classes.proofs.SeenLemmas.{AreSeen, IsFirstWith, IsPut, KeysTell, before_or_at, first_is_least, put_one, seen_kept}

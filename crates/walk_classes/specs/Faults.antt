@@ -1,8 +1,7 @@
 -- Why lists of vertices have no classes.
 use Rattle.std.specs.Prelude.{ℕ, ◌<◌, ⊤, List, length}
 use Rattle.surf_model.specs.FaceLists.{FaceList}
-use Rattle.surf_model.specs.Walks.{IsWalk}
-use Rattle.walk_classes.specs.WalkClasses.{walk_at}
+use Rattle.surf_model.specs.Walks.{IsWalk, walk_at}
 use Rattle.walk_classes.specs.declared.fault.ClassFault.{ClassFault}
 use Rattle.walk_classes.specs.declared.fault.ClassFault.TheVariants.{NoWalk, OutOfMemory}
 

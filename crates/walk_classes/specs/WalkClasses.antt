@@ -1,17 +1,13 @@
 -- Classes of walks: two walks are in one where they have common ends and are homotopic. A class is told by the least place of its walks.
-use Rattle.std.specs.Prelude.{◌≡◌, ℕ, ◌<◌, List, [], length, slice_index, slice_index_or}
+use Rattle.std.specs.Prelude.{◌≡◌, ℕ, ◌<◌, List, length, slice_index}
 use Rattle.surf_model.specs.FaceLists.{FaceList}
 use Rattle.surf_model.specs.Moves.{Homotopic}
-use Rattle.surf_model.specs.Walks.{IsWalk, HaveCommonEnds}
+use Rattle.surf_model.specs.Walks.{IsWalk, HaveCommonEnds, walk_at}
 
 -- two walks that start together and end together, and of which some list of moves leads from the first to the second
 pub record AreInOneClass (mesh : FaceList) (first second : List ℕ) : Type 0 where
   pub ends : HaveCommonEnds first second
   pub homotopic : Homotopic mesh first second
-
--- the walk at a place, counted from 0
-abbrev pub walk_at : List (List ℕ) → ℕ → List ℕ
-walk_at walks place = slice_index_or walks place []
 
 -- the least place of a walk that is in one class with this one
 pub record IsLeastInClass (mesh : FaceList) (walks : List (List ℕ)) (walk : List ℕ) (place : ℕ) : Type 0 where

@@ -1,8 +1,8 @@
 //! What holds of classes of walks, said of the definitions. A call of one of these functions does nothing; its contract is the law.
 ghost use Rattle.std.specs.Prelude.{◌≡◌, ◌↔◌, ◌<◌, ℕ, List, length, slice_index};
 ghost use Rattle.surf_model.specs.FaceLists.{FaceList};
-ghost use Rattle.surf_model.specs.Walks.{IsWalk};
-ghost use Rattle.walk_classes.specs.WalkClasses.{AreClasses, AreInOneClass, walk_at};
+ghost use Rattle.surf_model.specs.Walks.{IsWalk, walk_at};
+ghost use Rattle.walk_classes.specs.WalkClasses.{AreClasses, AreInOneClass};
 
 /// Two numbers are equal exactly where their walks are in one class.
 pub fn numbers_tell_classes()

@@ -1,6 +1,6 @@
 -- What proofs of this crate cite of its definitions and of other crates, passed on from one place (by tools/imports). Declares nothing.
 pub use Rattle.file_pieces.specs.FileLines.{IsOneLine, LinesReading, ReadsLine}
-pub use Rattle.file_pieces.specs.Reading.{Reads, left_of}
+pub use Rattle.file_pieces.specs.Reading.{Reads, bytes_left}
 pub use Rattle.file_pieces.specs.SameLines.{SameLine, SameWord, SameWords}
 pub use Rattle.labellings.specs.Labellings.{FaceLabels, LabellingView, labels_at, signs_of}
 pub use Rattle.labellings.specs.declared.denial.Denial.{Denial}
@@ -19,7 +19,7 @@ pub use Rattle.std.specs.Result.{result_err}
 pub use Rattle.std.specs.Str.{bytes_eq}
 pub use Rattle.surf_io.proofs.Gathering.{EachPut, all-written, each-all, each-fails, each-more, each-none, each-stops, gathers-none, gathers-put, line_of-numbers, on_ok, only-none, part-written, puts-fails, puts-same, puts-then}
 pub use Rattle.surf_io.specs.Files.{Files, file_of}
-pub use Rattle.surf_io.specs.Gathered.{spaced}
+pub use Rattle.surf_io.specs.Gathered.{spaced_number}
 pub use Rattle.surf_model.specs.Edges.{IsTableOf}
 pub use Rattle.surf_model.specs.FaceLists.{FaceList, is_edge, is_used}
 pub use Rattle.surf_model.specs.Surfaces.{is_flipped}
@@ -33,7 +33,7 @@ pub use Rattle.text_scan.proofs.PlaceLemmas.{behind-line_feed, cut_first, lines_
 pub use Rattle.text_scan.proofs.WrittenLemmas.{AreWritable, IsLine, IsWritable, all_writable, decimal-writable, decimal_is, decimals-writable, digits_inside, integer-read, integer-writable, lines_from-written, number-read, number-writable, number_below-decimal, numbered, numbers-read}
 pub use Rattle.text_scan.specs.Each.{each_ok, each_some, ok_first, some_first}
 pub use Rattle.text_scan.specs.Lines.{Line, end_line, full_lines, is_blank, is_filled, uncommented}
-unfoldable pub use Rattle.text_scan.specs.Lines.{cut, lines_from, unmarked, words}
+unfoldable pub use Rattle.text_scan.specs.Lines.{cut_lines, lines_from, unmarked, words}
 pub use Rattle.text_scan.specs.Numbers.{is_digit, number_below, number_of}
 unfoldable pub use Rattle.text_scan.specs.Numbers.{is_natural, value_of}
 pub use Rattle.text_scan.specs.Plain.{line_of}
@@ -41,20 +41,20 @@ pub use Rattle.text_scan.specs.Unread.{LinesLeft, Unread, are_words, at_line, be
 unfoldable pub use Rattle.text_scan.specs.Unread.{words_here}
 pub use Rattle.turn_words.specs.declared.word.Word.{Word}
 pub use Rattle.turn_words.specs.declared.word.Word.TheVariants.{Flat, Turns}
-pub use Rattle.walk_files.specs.Certificates.{across_of, answer_of, behind_head, direction_of, first_head, fitting_head, head_among, head_in, head_of, head_of_text, list_behind, list_of_text, move_of, moves_in, moves_of_text, spur_of, with_peak}
+pub use Rattle.walk_files.specs.Certificates.{across_of, answer_alone, behind_head, cert_head_of, direction_of, first_head, fitting_head, head_among, head_in, head_of_text, list_behind, list_of_text, move_of, moves_in, moves_of_text, spur_of, with_peak}
 pub use Rattle.walk_files.specs.ClosedPairs.{IsClosedPair, loops_fault, of_entry, open_fault}
 pub use Rattle.walk_files.specs.DenialTexts.{AreNumbers, AreWordNumbers, FitsDegree, HasForm, HasForms, HasNumbers, ReadsBack, denial_lines, denial_text, entry_words, face_words, labelling_text, labels_head_words, lines_behind_faces, places_words, sign_word, word_words}
-pub use Rattle.walk_files.specs.Denials.{AreFew, denial_behind, denial_in, denial_of_text, face_of, is_places, sign_of, unlabelled, word_of, words_in}
+pub use Rattle.walk_files.specs.Denials.{AreFew, denial_behind, denial_in, denial_of_text, face_labels_of, is_places, sign_of, unlabelled, word_of, words_in}
 pub use Rattle.walk_files.specs.Entries.{edge_fault, first_fault, vertex_fault, walks_fault}
 pub use Rattle.walk_files.specs.LineReads.{IsCountedTo, capped, put_before, rest_of, walk_on}
 pub use Rattle.walk_files.specs.MoveTexts.{FitsFormat, MoveFits, direction_word, head_words, list_lines, list_text, move_words}
 pub use Rattle.walk_files.specs.NumberLists.{AreWithin, NumberLine, PendingLists, list_at, stored_lists}
 pub use Rattle.walk_files.specs.NumberTexts.{entries_of, line_of_numbers, plain_walks_of, walk_of, words_of}
-pub use Rattle.walk_files.specs.PairLists.{ArePairs, WalkPair, are_paired, in_pairs, pairs_ends_fault, pairs_fault}
+pub use Rattle.walk_files.specs.PairLists.{ArePairs, WalkPair, are_paired, pairs_ends_fault, pairs_fault, walks_in_pairs}
 pub use Rattle.walk_files.specs.Pairs.{IsPair, ends_fault, pair_fault}
-pub use Rattle.walk_files.specs.Readers.{Certificate, after_answer, answer_first, count_in, lines_to_come, moves_left, next_answer, next_of, next_on}
+pub use Rattle.walk_files.specs.Readers.{Certificate, after_answer, answer_first, count_in, lines_to_come, moves_left, next_answer, next_move_of, next_on}
 pub use Rattle.walk_files.specs.StreamEnds.{end_of_text}
-pub use Rattle.walk_files.specs.Streams.{Belongs, IsAnswer, IsIn, Streamed, after_move, end_behind, reader_at, streams_list}
+pub use Rattle.walk_files.specs.Streams.{Belongs, IsIn, IsStreamAnswer, Streamed, after_move, end_behind, reader_at, streams_list}
 pub use Rattle.walk_files.specs.WalkLists.{WalkText}
 pub use Rattle.walk_files.specs.WalkTexts.{behind_vertex, ends_at, has_header, in_version, read_tokens, times, token_of, walk_of_line, walk_text_of, walks_behind, within_limits, written_out}
 pub use Rattle.walk_files.specs.declared.certificate.Answer.{Answer}

@@ -1,5 +1,5 @@
 -- The parts of a denial that are written one after another.
-use Rattle.walk_files.proofs.Common.{FaceLabels, LabellingView, labels_at, signs_of, Denial, ◌≡◌, ℕ, zero, suc, ◌+◌, ◌-◌, ◌^◌, ◌<◌, ◌≤◌, false, get_or, List, [], ◌∷◌, ◌++◌, length, drop, refl, sym, ap, ◌∙◌, append_assoc, inl, inr, arith, eq-or-lt_of_le, append-nil, All-cons, All-nil, flat_map-map, slice_get-get_or, Some, flat_map, slice_get, slice_index, decimal, line_of-numbers, spaced, is_flipped, line_of, Word, Turns, Flat, entry_words, face_words, places_words, word_words, labels_head_words, lines_behind_faces, labelling_text, denial_text, AreNumbers, HasNumbers, AreWordNumbers, HasForm, HasForms, FitsDegree, ReadsBack}
+use Rattle.walk_files.proofs.Common.{FaceLabels, LabellingView, labels_at, signs_of, Denial, ◌≡◌, ℕ, zero, suc, ◌+◌, ◌-◌, ◌^◌, ◌<◌, ◌≤◌, false, get_or, List, [], ◌∷◌, ◌++◌, length, drop, refl, sym, ap, ◌∙◌, append_assoc, inl, inr, arith, eq-or-lt_of_le, append-nil, All-cons, All-nil, flat_map-map, slice_get-get_or, Some, flat_map, slice_get, slice_index, decimal, line_of-numbers, spaced_number, is_flipped, line_of, Word, Turns, Flat, entry_words, face_words, places_words, word_words, labels_head_words, lines_behind_faces, labelling_text, denial_text, AreNumbers, HasNumbers, AreWordNumbers, HasForm, HasForms, FitsDegree, ReadsBack}
 use Rattle.std.proofs.lemmas.List.Concat.{flat_map-append}
 use Rattle.std.specs.Prelude.{map}
 
@@ -13,7 +13,7 @@ later_entry (x ∷ word) k later within = at word (k - 1) k (omega (arith, later
 
 -- a word that has entries, as they are written: the first, and then the others
 pub first_and_later : (word : List ℕ) → (word ≡ [] → ⊥)
-    → decimal (slice_index word 0) ++ (flat_map spaced (drop 1 word) ++ 10 ∷ []) ≡ line_of (entry_words word)
+    → decimal (slice_index word 0) ++ (flat_map spaced_number (drop 1 word) ++ 10 ∷ []) ≡ line_of (entry_words word)
 first_and_later [] some = absurd (some refl)
 first_and_later (entry ∷ entries) some = line_of-numbers (decimal entry) entries
 

@@ -1,5 +1,5 @@
 -- A denial that was written is read again.
-use Rattle.walk_files.proofs.Common.{FaceLabels, Denial, ◌≡◌, ℕ, ◌+◌, ◌^◌, ◌<◌, ◌==◌, Bool, true, false, List, [], ◌∷◌, ◌++◌, map, refl, ap, sym, subst, ◌∙◌, arith, append_assoc, and_parts, ne_eqb, append-nil, All-head, All-tail, All-cons, All-nil, All-append, All-map, All-weaker, list_all, Some, None, Ok, Result, decimal, codes, cond, All, bytes_eq, IsWritable, IsLine, decimal_is, numbered, lines_from-written, number-writable, number-read, decimals-writable, numbers-read, integer-writable, integer-read, each_some, unmarked, lines_from, full_lines, end_line, is_digit, number_of, line_of, Word, Turns, Flat, head_of, head_among, behind_head, head_of_text, fitting_head, sign_word, face_words, places_words, entry_words, word_words, labels_head_words, lines_behind_faces, denial_lines, denial_text, AreNumbers, FitsDegree, ReadsBack, sign_of, face_of, is_places, word_of, denial_in, unlabelled, denial_behind, denial_of_text, entries_of, Different, Labels, CertFault}
+use Rattle.walk_files.proofs.Common.{FaceLabels, Denial, ◌≡◌, ℕ, ◌+◌, ◌^◌, ◌<◌, ◌==◌, Bool, true, false, List, [], ◌∷◌, ◌++◌, map, refl, ap, sym, subst, ◌∙◌, arith, append_assoc, and_parts, ne_eqb, append-nil, All-head, All-tail, All-cons, All-nil, All-append, All-map, All-weaker, list_all, Some, None, Ok, Result, decimal, codes, cond, All, bytes_eq, IsWritable, IsLine, decimal_is, numbered, lines_from-written, number-writable, number-read, decimals-writable, numbers-read, integer-writable, integer-read, each_some, unmarked, lines_from, full_lines, end_line, is_digit, number_of, line_of, Word, Turns, Flat, cert_head_of, head_among, behind_head, head_of_text, fitting_head, sign_word, face_words, places_words, entry_words, word_words, labels_head_words, lines_behind_faces, denial_lines, denial_text, AreNumbers, FitsDegree, ReadsBack, sign_of, face_labels_of, is_places, word_of, denial_in, unlabelled, denial_behind, denial_of_text, entries_of, Different, Labels, CertFault}
 use Rattle.std.specs.Fmt.{signed_decimal}
 
 -- ---- the words that are written
@@ -42,7 +42,7 @@ sign-read : (flipped : Bool) → sign_of (sign_word flipped) ≡ Some flipped
 sign-read true = refl
 sign-read false = refl
 
-face-read : (face : FaceLabels) → AreNumbers face.labels → face_of (face_words face) ≡ Some face
+face-read : (face : FaceLabels) → AreNumbers face.labels → face_labels_of (face_words face) ≡ Some face
 face-read face small = rw (sign-read face.flipped, numbers-read face.labels small) refl
 
 no_places : (face : FaceLabels) → is_places (face_words face) ≡ false
@@ -123,7 +123,7 @@ head-line degree fits = record {
       (All-cons IsWritable (decimal degree) [] (number-writable degree fits) (All-nil IsWritable));
 }
 
-head-read : (degree : ℕ) → degree < 2 ^ 32 → head_of (labels_head_words degree) ≡ Some (Labels degree)
+head-read : (degree : ℕ) → degree < 2 ^ 32 → cert_head_of (labels_head_words degree) ≡ Some (Labels degree)
 head-read degree fits = rw (number-read degree fits) refl
 
 unmarked-denial_text : (denial : Denial) → unmarked (denial_text denial) ≡ denial_text denial

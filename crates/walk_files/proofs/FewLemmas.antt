@@ -1,5 +1,5 @@
 -- A short text has few lines, each with few words.
-use Rattle.walk_files.proofs.Common.{◌≡◌, inl, inr, ℕ, zero, suc, ◌==◌, ◌+◌, ◌<◌, ◌≤◌, ◌^◌, Bool, true, false, List, [], ◌∷◌, length, drop, refl, sym, subst, arith, cases_Bool, All-head, All-tail, All-cons, All-nil, enumerate_from, slice_split, onto_first, before_first, All, filter, cond, is_some, before_first-yes, before_first-no, Line, is_filled, is_blank, unmarked, uncommented, cut, words, lines_from, full_lines, Unread, lines_left, at_line, behind_head, answer_of, AreFew}
+use Rattle.walk_files.proofs.Common.{◌≡◌, inl, inr, ℕ, zero, suc, ◌==◌, ◌+◌, ◌<◌, ◌≤◌, ◌^◌, Bool, true, false, List, [], ◌∷◌, length, drop, refl, sym, subst, arith, cases_Bool, All-head, All-tail, All-cons, All-nil, enumerate_from, slice_split, onto_first, before_first, All, filter, cond, is_some, before_first-yes, before_first-no, Line, is_filled, is_blank, unmarked, uncommented, cut_lines, words, lines_from, full_lines, Unread, lines_left, at_line, behind_head, answer_alone, AreFew}
 use Rattle.std.proofs.lemmas.List.Splits.{slice_split-cons_yes, slice_split-cons_no}
 use Rattle.std.specs.Prelude.{map}
 use Rattle.text_scan.proofs.StepLemmas.{few_lines}
@@ -20,10 +20,10 @@ onto_first-short n byte (piece ∷ pieces) short =
     All-cons (λ piece. length piece ≤ n + 1) (byte ∷ piece) pieces (omega (arith, head))
     (short-more n (n + 1) pieces (omega arith) (All-tail (λ piece. length piece ≤ n) piece pieces short))
 
-cut-short : (text : List ℕ) → All (λ piece. length piece ≤ length text) (cut text)
-unfolding cut
+cut-short : (text : List ℕ) → All (λ piece. length piece ≤ length text) (cut_lines text)
+unfolding cut_lines
 cut-short [] = All-nil (λ (piece : List ℕ). length piece ≤ 0)
-cut-short (byte ∷ text) = by_test (byte == 10) (cut text) (cut-short text)
+cut-short (byte ∷ text) = by_test (byte == 10) (cut_lines text) (cut-short text)
   where
     by_test : (b : Bool) (pieces : List (List ℕ)) → All (λ piece. length piece ≤ length text) pieces
         → All (λ piece. length piece ≤ length (byte ∷ text)) (cond b ([] ∷ pieces) (onto_first byte pieces))
@@ -99,7 +99,8 @@ unmarked-short text = grind arith
 lines_from-few : (n : ℕ) (text : List ℕ) → AreAtMost (length text) (length text) (lines_from n text)
 unfolding lines_from
 lines_from-few n text =
-    let few : AreAtMost (length (cut text)) (length text) (lines_from n text) = numbered-few n (length text) (cut text) (cut-short text) in
+    let few : AreAtMost (length (cut_lines text)) (length text) (lines_from n text) =
+    numbered-few n (length text) (cut_lines text) (cut-short text) in
     record { count = omega (arith, few.count, few_lines text); words = few.words }
 
 below : (m n : ℕ) (lines : List Line) → m < n → All (λ line. length line.words ≤ m) lines → All (λ line. length line.words < n) lines
@@ -133,7 +134,7 @@ few-drop (suc n) (line ∷ lines) few = few-drop n lines (few-tail line lines fe
 
 pub few-behind_head : (lines : List Line) → AreFew lines → AreFew (behind_head lines)
 few-behind_head [] few = few
-few-behind_head (line ∷ lines) few = by_test (is_some (answer_of line.words)) (few-tail line lines few)
+few-behind_head (line ∷ lines) few = by_test (is_some (answer_alone line.words)) (few-tail line lines few)
   where
     by_test : (b : Bool) → AreFew lines → AreFew (cond b (drop 1 lines) lines)
     by_test true rest = few-drop 1 lines rest

@@ -1,5 +1,5 @@
 -- What is first wrong with walks that should come in pairs.
-use Rattle.walk_files.proofs.Common.{◌≡◌, ℕ, zero, suc, ◌+◌, ◌*◌, ◌<◌, ◌≤◌, List, [], ◌∷◌, length, drop, Bool, true, false, refl, sym, ap, ◌∙◌, eq-eqb, arith, eqb-true, All-head, All-tail, All-cons, All-nil, option_or, Option, Some, None, Result, IsOk, All, option_map, slice_index, slice_get, if◌then◌else◌, result_err, FaceList, darts, IsWalk, HaveCommonEnds, vertex_fault, edge_fault, first_fault, walks_fault, WalkPair, in_pairs, are_paired, ArePairs, pairs_ends_fault, pairs_fault, WalkText, EntryFault}
+use Rattle.walk_files.proofs.Common.{◌≡◌, ℕ, zero, suc, ◌+◌, ◌*◌, ◌<◌, ◌≤◌, List, [], ◌∷◌, length, drop, Bool, true, false, refl, sym, ap, ◌∙◌, eq-eqb, arith, eqb-true, All-head, All-tail, All-cons, All-nil, option_or, Option, Some, None, Result, IsOk, All, option_map, slice_index, slice_get, if◌then◌else◌, result_err, FaceList, darts, IsWalk, HaveCommonEnds, vertex_fault, edge_fault, first_fault, walks_fault, WalkPair, walks_in_pairs, are_paired, ArePairs, pairs_ends_fault, pairs_fault, WalkText, EntryFault}
 use Rattle.std.specs.Prelude.{◌==◌}
 use Rattle.walk_files.specs.PairLists.{of_entry, ends_fault}
 use Rattle.walk_files.specs.declared.pairs.PairsFault.{PairsFault}
@@ -10,36 +10,36 @@ use Rattle.walk_files.proofs.EntryLemmas.{both_none, none_or, some_or, walk_of_n
 -- ---- one pair more
 
 pair_step : (walks : List (List ℕ)) (n : ℕ) (a b : List ℕ) → slice_get walks n ≡ Some a → slice_get walks (suc n) ≡ Some b
-    → in_pairs (drop n walks) ≡ record { first = a; second = b } ∷ in_pairs (drop (suc (suc n)) walks)
+    → walks_in_pairs (drop n walks) ≡ record { first = a; second = b } ∷ walks_in_pairs (drop (suc (suc n)) walks)
 pair_step [] zero a b e f = cc
 pair_step [] (suc n) a b e f = cc
 pair_step (x ∷ []) zero a b e f = cc
 pair_step (x ∷ y ∷ walks) zero a b e f =
     let same : x ≡ a = cc in
     let other : y ≡ b = cc in
-    ap (λ (w : List ℕ). record { first = w; second = y } ∷ in_pairs walks) same
-    ∙ ap (λ (w : List ℕ). record { first = a; second = w } ∷ in_pairs walks) other
+    ap (λ (w : List ℕ). record { first = w; second = y } ∷ walks_in_pairs walks) same
+    ∙ ap (λ (w : List ℕ). record { first = a; second = w } ∷ walks_in_pairs walks) other
 pair_step (x ∷ walks) (suc n) a b e f = pair_step walks n a b e f
 
 next_pair : (walks : List (List ℕ)) (k : ℕ) (a b : List ℕ) → slice_get walks (2 * k) ≡ Some a → slice_get walks (2 * k + 1) ≡ Some b
-    → in_pairs (drop (2 * k) walks) ≡ record { first = a; second = b } ∷ in_pairs (drop (2 * (k + 1)) walks)
+    → walks_in_pairs (drop (2 * k) walks) ≡ record { first = a; second = b } ∷ walks_in_pairs (drop (2 * (k + 1)) walks)
 next_pair walks k a b e f =
     let one : 2 * k + 1 ≡ suc (2 * k) = omega arith in
     let two : suc (suc (2 * k)) ≡ 2 * (k + 1) = omega arith in
     pair_step walks (2 * k) a b e (ap (slice_get walks) (sym one) ∙ f)
-    ∙ ap (λ n. record { first = a; second = b } ∷ in_pairs (drop n walks)) two
+    ∙ ap (λ n. record { first = a; second = b } ∷ walks_in_pairs (drop n walks)) two
 
 -- what the first pairs gave, and no fault in the next, or one
 pub pair_passed : (whole : Option PairsFault) (walks : List (List ℕ)) (k : ℕ) (a b : List ℕ)
-    → whole ≡ pairs_ends_fault (k + 1) (in_pairs (drop (2 * k) walks)) → slice_get walks (2 * k) ≡ Some a
+    → whole ≡ pairs_ends_fault (k + 1) (walks_in_pairs (drop (2 * k) walks)) → slice_get walks (2 * k) ≡ Some a
     → slice_get walks (2 * k + 1) ≡ Some b → None ≡ ends_fault (k + 1) (record { first = a; second = b })
-    → whole ≡ pairs_ends_fault (k + 1 + 1) (in_pairs (drop (2 * (k + 1)) walks))
+    → whole ≡ pairs_ends_fault (k + 1 + 1) (walks_in_pairs (drop (2 * (k + 1)) walks))
 pair_passed whole walks k a b so_far e f passed =
     so_far ∙ ap (pairs_ends_fault (k + 1)) (next_pair walks k a b e f)
     ∙ none_or (ends_fault (k + 1) (record { first = a; second = b })) _ (sym passed)
 
 pub pair_failed : (whole : Option PairsFault) (walks : List (List ℕ)) (k : ℕ) (a b : List ℕ) (fault : PairsFault)
-    → whole ≡ pairs_ends_fault (k + 1) (in_pairs (drop (2 * k) walks)) → slice_get walks (2 * k) ≡ Some a
+    → whole ≡ pairs_ends_fault (k + 1) (walks_in_pairs (drop (2 * k) walks)) → slice_get walks (2 * k) ≡ Some a
     → slice_get walks (2 * k + 1) ≡ Some b → Some fault ≡ ends_fault (k + 1) (record { first = a; second = b })
     → whole ≡ Some fault
 pair_failed whole walks k a b fault so_far e f failed =
@@ -47,7 +47,7 @@ pair_failed whole walks k a b fault so_far e f failed =
     ∙ some_or (ends_fault (k + 1) (record { first = a; second = b })) fault _ (sym failed)
 
 -- behind the last pair one walk at most is left
-pairs_end : (walks : List (List ℕ)) (n : ℕ) → length walks ≤ n + 1 → in_pairs (drop n walks) ≡ []
+pairs_end : (walks : List (List ℕ)) (n : ℕ) → length walks ≤ n + 1 → walks_in_pairs (drop n walks) ≡ []
 pairs_end [] zero all = refl
 pairs_end [] (suc n) all = refl
 pairs_end (x ∷ []) zero all = refl
@@ -55,8 +55,8 @@ pairs_end (x ∷ y ∷ walks) zero all = absurd (omega (arith, all))
 pairs_end (x ∷ walks) (suc n) all = pairs_end walks n (omega (arith, all))
 
 pub pairs_left : (walks : List (List ℕ)) (k : ℕ)
-    → pairs_ends_fault 1 (in_pairs walks) ≡ pairs_ends_fault (k + 1) (in_pairs (drop (2 * k) walks)) → length walks ≤ 2 * k + 1
-    → pairs_ends_fault 1 (in_pairs walks) ≡ None
+    → pairs_ends_fault 1 (walks_in_pairs walks) ≡ pairs_ends_fault (k + 1) (walks_in_pairs (drop (2 * k) walks)) → length walks ≤ 2 * k + 1
+    → pairs_ends_fault 1 (walks_in_pairs walks) ≡ None
 pairs_left walks k so_far all = so_far ∙ ap (pairs_ends_fault (k + 1)) (pairs_end walks (2 * k) all)
 
 -- ---- nothing is wrong exactly with pairs
@@ -124,25 +124,25 @@ pub pairs_of_none : (mesh : FaceList) (text : WalkText) → All (λ walk. 0 < le
 pairs_of_none mesh text some none = by_count (are_paired text.version (length text.walks)) refl none
   where
     by_count : (b : Bool) → are_paired text.version (length text.walks) ≡ b
-        → (if b then option_or (option_map of_entry (walks_fault mesh text.walks)) (pairs_ends_fault 1 (in_pairs text.walks))
+        → (if b then option_or (option_map of_entry (walks_fault mesh text.walks)) (pairs_ends_fault 1 (walks_in_pairs text.walks))
         else Some (NotPairs (length text.walks))) ≡ None
         → ArePairs mesh text
     by_count false e h = cc
     by_count true e h =
-        let parts = both_none (option_map of_entry (walks_fault mesh text.walks)) (pairs_ends_fault 1 (in_pairs text.walks)) h in
+        let parts = both_none (option_map of_entry (walks_fault mesh text.walks)) (pairs_ends_fault 1 (walks_in_pairs text.walks)) h in
         let entries = both_none (first_fault (vertex_fault mesh) 1 text.walks) (first_fault (edge_fault mesh) 1 text.walks)
         (no_entry (walks_fault mesh text.walks) parts.0) in
         record {
           paired = e;
           walks = walks_all mesh 1 text.walks some entries.0 entries.1;
-          ends = ends_all 1 (in_pairs text.walks) parts.1;
+          ends = ends_all 1 (walks_in_pairs text.walks) parts.1;
         }
 
 pub none_of_pairs : (mesh : FaceList) (text : WalkText) → ArePairs mesh text → pairs_fault mesh text ≡ None
 none_of_pairs mesh text pairs =
     let paired : are_paired text.version (length text.walks) ≡ true = pairs.paired in
     let entries : walks_fault mesh text.walks ≡ None = no_walks_fault mesh text.walks pairs.walks in
-    rw (paired, entries) (no_pairs_fault 1 (in_pairs text.walks) pairs.ends)
+    rw (paired, entries) (no_pairs_fault 1 (walks_in_pairs text.walks) pairs.ends)
 
 -- a result that says what is wrong says whether the walks come in pairs
 pub says_pairs : (mesh : FaceList) (text : WalkText) (r : Result (Unit {0}) PairsFault) → All (λ walk. 0 < length walk) text.walks
@@ -157,5 +157,5 @@ pub entry_fails : (mesh : FaceList) (text : WalkText) (fault : EntryFault) → a
 entry_fails mesh text fault paired is = rw (paired, ← is) refl
 
 pub ends_fail : (mesh : FaceList) (text : WalkText) (found : Option PairsFault) → are_paired text.version (length text.walks) ≡ true
-    → None ≡ walks_fault mesh text.walks → pairs_ends_fault 1 (in_pairs text.walks) ≡ found → found ≡ pairs_fault mesh text
+    → None ≡ walks_fault mesh text.walks → pairs_ends_fault 1 (walks_in_pairs text.walks) ≡ found → found ≡ pairs_fault mesh text
 ends_fail mesh text found paired is ends = rw (paired, ← is) (sym ends)

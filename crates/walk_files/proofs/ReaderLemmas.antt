@@ -1,5 +1,5 @@
 -- A reader gives the moves of its text one by one.
-use Rattle.walk_files.proofs.Common.{◌≡◌, ℕ, ◌+◌, ◌-◌, ◌==◌, Bool, true, false, List, [], ◌∷◌, drop, refl, sym, ap, ◌∙◌, drop-drop, arith, ok_or, Option, Some, None, Result, Ok, Err, cond, option_map, Move, ok_first, Line, full_lines, end_line, behind_head, move_of, moves_in, moves_of_text, Certificate, count_in, next_of, next_answer, after_answer, moves_left, answer_first, CertHead, Moves, CertFault, Bad, Ended, Extra}
+use Rattle.walk_files.proofs.Common.{◌≡◌, ℕ, ◌+◌, ◌-◌, ◌==◌, Bool, true, false, List, [], ◌∷◌, drop, refl, sym, ap, ◌∙◌, drop-drop, arith, ok_or, Option, Some, None, Result, Ok, Err, cond, option_map, Move, ok_first, Line, full_lines, end_line, behind_head, move_of, moves_in, moves_of_text, Certificate, count_in, next_move_of, next_answer, after_answer, moves_left, answer_first, CertHead, Moves, CertFault, Bad, Ended, Extra}
 
 -- the state behind a move, or the same state
 abbrev state : List ℕ → CertHead → ℕ → Bool → Option CertFault → Certificate
@@ -9,8 +9,8 @@ state text head given denied refusal = record { text = text; head = head; given 
 step : (text : List ℕ) (head : CertHead) (given : ℕ) (denied : Bool) (lines : List Line) → drop given (behind_head (full_lines text))
     ≡ lines
     → moves_in (end_line text) (count_in head - given) lines
-    ≡ answer_first (next_of (end_line text) (count_in head - given) lines)
-    (moves_left (after_answer (state text head given denied None) (next_of (end_line text) (count_in head - given) lines)))
+    ≡ answer_first (next_move_of (end_line text) (count_in head - given) lines)
+    (moves_left (after_answer (state text head given denied None) (next_move_of (end_line text) (count_in head - given) lines)))
 step text head given denied [] at = by_test (count_in head - given == 0)
   where
     by_test : (b : Bool) → cond b (Ok []) (Err (Ended (end_line text)))

@@ -1,5 +1,5 @@
 -- A list of moves that was written is read again.
-use Rattle.walk_files.proofs.Common.{◌≡◌, ℕ, ◌+◌, ◌-◌, ◌^◌, ◌<◌, eqb, Bool, true, false, List, [], ◌∷◌, ◌++◌, length, map, refl, ap, ◌∙◌, arith, le-ltb, ne_eqb, All-head, All-tail, All-cons, All-map, All-weaker, Some, None, Ok, decimal, codes, All, Move, Insert, Remove, Across, IsWritable, IsLine, numbered, lines_from-written, AreWritable, all_writable, decimal-writable, number-writable, number_below-decimal, number-read, unmarked, lines_from, full_lines, end_line, line_of, head_of, head_among, behind_head, direction_of, move_of, moves_in, head_of_text, fitting_head, moves_of_text, list_behind, list_of_text, with_peak, direction_word, move_words, head_words, list_lines, list_text, FitsFormat, MoveFits, Homotopic, Moves, MOST_PEAK}
+use Rattle.walk_files.proofs.Common.{◌≡◌, ℕ, ◌+◌, ◌-◌, ◌^◌, ◌<◌, eqb, Bool, true, false, List, [], ◌∷◌, ◌++◌, length, map, refl, ap, ◌∙◌, arith, le-ltb, ne_eqb, All-head, All-tail, All-cons, All-map, All-weaker, Some, None, Ok, decimal, codes, All, Move, Insert, Remove, Across, IsWritable, IsLine, numbered, lines_from-written, AreWritable, all_writable, decimal-writable, number-writable, number_below-decimal, number-read, unmarked, lines_from, full_lines, end_line, line_of, cert_head_of, head_among, behind_head, direction_of, move_of, moves_in, head_of_text, fitting_head, moves_of_text, list_behind, list_of_text, with_peak, direction_word, move_words, head_words, list_lines, list_text, FitsFormat, MoveFits, Homotopic, Moves, MOST_PEAK}
 use Rattle.surf_model.specs.Moves.{PeakedMoves}
 
 -- ---- the words that are written
@@ -59,7 +59,7 @@ move_of-move_words (Remove at via) fits = rw (number-read at fits.0, number-read
 move_of-move_words (Across at face corner forward taken) fits =
     rw (number-read at fits.0, number-read face.0 fits.1, number-read corner fits.2, direction forward, number-read taken fits.3) refl
 
-head_of-head_words : (list : PeakedMoves) → FitsFormat list → head_of (head_words list) ≡ Some (Moves (length list.moves) list.peak)
+head_of-head_words : (list : PeakedMoves) → FitsFormat list → cert_head_of (head_words list) ≡ Some (Moves (length list.moves) list.peak)
 head_of-head_words list fits =
     rw (number_below-decimal (2 ^ 64) (length list.moves) fits.count fits.count, number-read list.peak (omega (arith, fits.peak))) refl
 

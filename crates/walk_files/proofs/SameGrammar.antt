@@ -1,5 +1,5 @@
 -- Lines that say the same mean the same in a certificate.
-use Rattle.walk_files.proofs.Common.{SameWord, SameWords, SameLine, ◌≡◌, ℕ, ◌^◌, Bool, true, false, List, [], ◌∷◌, take, refl, sym, ◌∙◌, lit≤, codes, None, bytes_eq, number_of, number_below, head_of, direction_of, spur_of, across_of, move_of}
+use Rattle.walk_files.proofs.Common.{SameWord, SameWords, SameLine, ◌≡◌, ℕ, ◌^◌, Bool, true, false, List, [], ◌∷◌, take, refl, sym, ◌∙◌, lit≤, codes, None, bytes_eq, number_of, number_below, cert_head_of, direction_of, spur_of, across_of, move_of}
 
 number_same : (a b : List ℕ) → SameWord a b → number_of a ≡ number_of b
 number_same a b same = same.number (2 ^ 32) (lit≤ tt)
@@ -65,7 +65,7 @@ move_words (x ∷ a) (y ∷ b) same =
       across_same a b same.1,
     ) refl
 
-head_words : (a b : List (List ℕ)) → SameWords a b → head_of a ≡ head_of b
+head_words : (a b : List (List ℕ)) → SameWords a b → cert_head_of a ≡ cert_head_of b
 head_words [] [] same = refl
 head_words [] (y ∷ b) same = absurd same
 head_words (x ∷ a) [] same = absurd same
@@ -111,7 +111,7 @@ pub move_same : (a b : List (List ℕ)) → SameLine a b → move_of a ≡ move_
 move_same a b same =
     seven move_of None long_move a ∙ move_words (take 7 a) (take 7 b) same ∙ sym (seven move_of None long_move b)
 
-pub head_same : (a b : List (List ℕ)) → SameLine a b → head_of a ≡ head_of b
+pub head_same : (a b : List (List ℕ)) → SameLine a b → cert_head_of a ≡ cert_head_of b
 head_same a b same =
-    seven head_of None (λ x x2 x3 x4 x5 x6 x7 others. refl) a ∙ head_words (take 7 a) (take 7 b) same
-    ∙ sym (seven head_of None (λ x x2 x3 x4 x5 x6 x7 others. refl) b)
+    seven cert_head_of None (λ x x2 x3 x4 x5 x6 x7 others. refl) a ∙ head_words (take 7 a) (take 7 b) same
+    ∙ sym (seven cert_head_of None (λ x x2 x3 x4 x5 x6 x7 others. refl) b)

@@ -1,5 +1,5 @@
 -- The lines of a certificate that is read in pieces.
-use Rattle.walk_files.proofs.Common.{ReadsLine, LinesReading, Reads, left_of, SameLine, ◌≡◌, ◌⊎◌, ℕ, ◌+◌, ◌-◌, ◌<◌, ◌≤◌, ◌==◌, Bool, true, false, List, [], ◌∷◌, length, drop, inl, inr, refl, sym, ap, subst, ◌∙◌, arith, drop-drop, ok_or, Option, Some, None, Result, Ok, Err, OnOk, IfNone, IfSome, MatchOption, option_map, Move, Line, is_filled, cut, unmarked, lines_from, full_lines, end_line, Unread, lines_left, at_line, move_of, answer_of, fitting_head, head_in, first_head, head_among, head_of_text, behind_head, count_in, next_of, next_on, next_answer, lines_to_come, Streamed, reader_at, streams_list, IsIn, Belongs, IsAnswer, end_behind, after_move, Answer, CertHead, CertFault, NoHead, Bad, Ended, Extra, StreamEnd, Fault, TooLarge, Cert}
+use Rattle.walk_files.proofs.Common.{ReadsLine, LinesReading, Reads, bytes_left, SameLine, ◌≡◌, ◌⊎◌, ℕ, ◌+◌, ◌-◌, ◌<◌, ◌≤◌, ◌==◌, Bool, true, false, List, [], ◌∷◌, length, drop, inl, inr, refl, sym, ap, subst, ◌∙◌, arith, drop-drop, ok_or, Option, Some, None, Result, Ok, Err, OnOk, IfNone, IfSome, MatchOption, option_map, Move, Line, is_filled, cut_lines, unmarked, lines_from, full_lines, end_line, Unread, lines_left, at_line, move_of, answer_alone, fitting_head, head_in, first_head, head_among, head_of_text, behind_head, count_in, next_move_of, next_on, next_answer, lines_to_come, Streamed, reader_at, streams_list, IsIn, Belongs, IsStreamAnswer, end_behind, after_move, Answer, CertHead, CertFault, NoHead, Bad, Ended, Extra, StreamEnd, Fault, TooLarge, Cert}
 use Rattle.file_pieces.proofs.ShortLemmas.{no_lines}
 use Rattle.std.proofs.Common.{cond}
 use Rattle.walk_files.specs.declared.stream_end.StreamEnd.TheVariants.{OutOfMemory}
@@ -23,22 +23,22 @@ next_on-same left number a b same =
 
 -- ---- a line of the file
 
-none_cut : length (cut []) ≡ 0
-unfolding cut
+none_cut : length (cut_lines []) ≡ 0
+unfolding cut_lines
 none_cut = refl
 
 -- what was read of the next line is what it gives
 pub next_read : (number : ℕ) (bytes : List ℕ) (found : Option ℕ) (short : List (List ℕ)) (next : ℕ) (left : List ℕ) (to_come : ℕ)
     (read : Result (Option Move) CertFault) → ReadsLine number bytes found short next left → IfNone found (left ≡ [])
-    → MatchOption found (read ≡ next_of next to_come [])
+    → MatchOption found (read ≡ next_move_of next to_come [])
     (λ n. (words : List (List ℕ)) → SameLine short words → read ≡ next_on to_come (record { number = n; words = words }))
-    → read ≡ next_of (end_behind number bytes) to_come (lines_from number bytes)
+    → read ≡ next_move_of (end_behind number bytes) to_come (lines_from number bytes)
 next_read number bytes None short next left to_come read reads none is =
     let lines : lines_from number bytes ≡ [] = reads.lines ∙ ap (lines_from next) none ∙ no_lines next in
-    let last : next ≡ end_behind number bytes = omega (arith, reads.count, ap (λ t. length (cut t)) none, none_cut) in
-    is ∙ ap (λ n. next_of n to_come []) last ∙ ap (next_of (end_behind number bytes) to_come) (sym lines)
+    let last : next ≡ end_behind number bytes = omega (arith, reads.count, ap (λ t. length (cut_lines t)) none, none_cut) in
+    is ∙ ap (λ n. next_move_of n to_come []) last ∙ ap (next_move_of (end_behind number bytes) to_come) (sym lines)
 next_read number bytes (Some n) short next left to_come read reads none is =
-    is reads.lines.words reads.lines.same ∙ ap (next_of (end_behind number bytes) to_come) (sym reads.lines.first)
+    is reads.lines.words reads.lines.same ∙ ap (next_move_of (end_behind number bytes) to_come) (sym reads.lines.first)
 
 -- the lines behind it are left
 pub next_left : (number : ℕ) (bytes : List ℕ) (found : Option ℕ) (short : List (List ℕ)) (next : ℕ) (left : List ℕ)
@@ -53,10 +53,10 @@ next_left number bytes (Some n) short next left reads none =
 -- ---- answers
 
 pub answers_refused : {A : Type 0} (end : StreamEnd) (fault : CertFault) (read whole : Result A CertFault)
-    → (end ≡ Cert fault) ⊎ (end ≡ Fault) ⊎ (end ≡ TooLarge) → read ≡ Err fault → read ≡ whole → IsAnswer (Err end) whole
+    → (end ≡ Cert fault) ⊎ (end ≡ Fault) ⊎ (end ≡ TooLarge) → read ≡ Err fault → read ≡ whole → IsStreamAnswer (Err end) whole
 answers_refused end fault read whole which is same = by_end end which
   where
-    by_end : (e : StreamEnd) → (e ≡ Cert fault) ⊎ (e ≡ Fault) ⊎ (e ≡ TooLarge) → IsAnswer (Err e) whole
+    by_end : (e : StreamEnd) → (e ≡ Cert fault) ⊎ (e ≡ Fault) ⊎ (e ≡ TooLarge) → IsStreamAnswer (Err e) whole
     by_end Fault which = tt
     by_end TooLarge which = tt
     by_end OutOfMemory which = tt
@@ -73,15 +73,15 @@ answers_refused end fault read whole which is same = by_end end which
 -- what the next line is, where the file is told
 abbrev pub FindsLine : LinesReading → LinesReading → Option ℕ → List (List ℕ) → List ℕ → Type 0
 FindsLine old next found short file = Reads old.reading file →
-    ReadsLine old.number (left_of old.reading file) found short next.number (left_of next.reading file)
-    × IfNone found (left_of next.reading file ≡ [])
+    ReadsLine old.number (bytes_left old.reading file) found short next.number (bytes_left next.reading file)
+    × IfNone found (bytes_left next.reading file ≡ [])
 
 -- ---- a stream behind an answer
 
 -- a move more was given
 is_in-more : (old : Streamed) (file : List ℕ) (next : LinesReading) → IsIn old file → streams_list old ≡ true → Reads next.reading file
-    → lines_from next.number (left_of next.reading file) ≡ drop 1 (lines_from old.lines.number (left_of old.lines.reading file))
-    → end_behind next.number (left_of next.reading file) ≡ end_behind old.lines.number (left_of old.lines.reading file)
+    → lines_from next.number (bytes_left next.reading file) ≡ drop 1 (lines_from old.lines.number (bytes_left old.lines.reading file))
+    → end_behind next.number (bytes_left next.reading file) ≡ end_behind old.lines.number (bytes_left old.lines.reading file)
     → old.lines.number ≤ next.number
     → IsIn (record old { lines = next; given = old.given + 1 }) file
 is_in-more old file next is moves reads lines end later = record {
@@ -95,7 +95,7 @@ is_in-more old file next is moves reads lines end later = record {
 }
 
 -- no line was left
-none_left : (end left : ℕ) (lines : List Line) → next_of end left lines ≡ Ok None → drop 1 lines ≡ lines
+none_left : (end left : ℕ) (lines : List Line) → next_move_of end left lines ≡ Ok None → drop 1 lines ≡ lines
 none_left end left [] e = refl
 none_left end left (line ∷ lines) e = by_test (left == 0) (move_of line.words) e
   where
@@ -106,10 +106,10 @@ none_left end left (line ∷ lines) e = by_test (left == 0) (move_of line.words)
     by_test false (Some mv) e = cc
 
 is_in-same : (old : Streamed) (file : List ℕ) (next : LinesReading) → IsIn old file → streams_list old ≡ true → Reads next.reading file
-    → lines_from next.number (left_of next.reading file) ≡ drop 1 (lines_from old.lines.number (left_of old.lines.reading file))
-    → end_behind next.number (left_of next.reading file) ≡ end_behind old.lines.number (left_of old.lines.reading file)
+    → lines_from next.number (bytes_left next.reading file) ≡ drop 1 (lines_from old.lines.number (bytes_left old.lines.reading file))
+    → end_behind next.number (bytes_left next.reading file) ≡ end_behind old.lines.number (bytes_left old.lines.reading file)
     → old.lines.number ≤ next.number
-    → next_of (end_line file) (count_in old.head - old.given) (lines_to_come (reader_at old file)) ≡ Ok None
+    → next_move_of (end_line file) (count_in old.head - old.given) (lines_to_come (reader_at old file)) ≡ Ok None
     → IsIn (record old { lines = next }) file
 is_in-same old file next is moves reads lines end later none = record {
   reads = reads;
@@ -124,28 +124,28 @@ is_in-same old file next is moves reads lines end later none = record {
 
 -- what the lines left give is what the reader gives
 gives : (old : Streamed) (file : List ℕ) (to_come : ℕ) → IsIn old file → streams_list old ≡ true → to_come ≡ count_in old.head - old.given
-    → next_of (end_behind old.lines.number (left_of old.lines.reading file)) to_come
-    (lines_from old.lines.number (left_of old.lines.reading file)) ≡ next_answer (reader_at old file)
+    → next_move_of (end_behind old.lines.number (bytes_left old.lines.reading file)) to_come
+    (lines_from old.lines.number (bytes_left old.lines.reading file)) ≡ next_answer (reader_at old file)
 gives old file to_come is moves count =
-    ap (λ n. next_of n to_come (lines_from old.lines.number (left_of old.lines.reading file))) (is.end (is.denial moves))
-    ∙ ap (next_of (end_line file) to_come) (is.lines (is.denial moves))
-    ∙ ap (λ n. next_of (end_line file) n (lines_to_come (reader_at old file))) count
+    ap (λ n. next_move_of n to_come (lines_from old.lines.number (bytes_left old.lines.reading file))) (is.end (is.denial moves))
+    ∙ ap (next_move_of (end_line file) to_come) (is.lines (is.denial moves))
+    ∙ ap (λ n. next_move_of (end_line file) n (lines_to_come (reader_at old file))) count
 
 -- what a read of the next line says, at a file
 abbrev pub ReadsNext : Streamed → LinesReading → ℕ → Result (Option Move) StreamEnd → List ℕ → Type 0
 ReadsNext old next to_come result file = Reads old.lines.reading file →
-    IsAnswer result (next_of (end_behind old.lines.number (left_of old.lines.reading file)) to_come
-    (lines_from old.lines.number (left_of old.lines.reading file)))
+    IsStreamAnswer result (next_move_of (end_behind old.lines.number (bytes_left old.lines.reading file)) to_come
+    (lines_from old.lines.number (bytes_left old.lines.reading file)))
 
 abbrev pub LeavesLines : LinesReading → LinesReading → List ℕ → Type 0
 LeavesLines old next file = Reads old.reading file →
-    (lines_from next.number (left_of next.reading file) ≡ drop 1 (lines_from old.number (left_of old.reading file)))
-    × (end_behind next.number (left_of next.reading file) ≡ end_behind old.number (left_of old.reading file))
+    (lines_from next.number (bytes_left next.reading file) ≡ drop 1 (lines_from old.number (bytes_left old.reading file)))
+    × (end_behind next.number (bytes_left next.reading file) ≡ end_behind old.number (bytes_left old.reading file))
     × (old.number ≤ next.number)
 
 -- what a stream says of its answer, at a file
 abbrev pub Answers : Streamed → Streamed → Result (Option Move) StreamEnd → List ℕ → Type 0
-Answers old new result file = IsIn old file → IsAnswer result (next_answer (reader_at old file)) × Belongs new file
+Answers old new result file = IsIn old file → IsStreamAnswer result (next_answer (reader_at old file)) × Belongs new file
 
 -- it is that of the reader, and the stream behind it belongs to the file
 pub gives_answer : (file : Option (List ℕ)) (old : Streamed) (next : LinesReading) (to_come : ℕ) (result : Result (Option Move) StreamEnd)
@@ -164,7 +164,7 @@ gives_answer (Some f) old next to_come (Ok None) moves count reads on leaves = �
       λ none. is_in-same old f next is moves (on is.reads) (leaves is.reads).0 (leaves is.reads).1 (leaves is.reads).2 answer,
     )
 gives_answer (Some f) old next to_come (Err end) moves count reads on leaves = λ is. (
-  subst (IsAnswer (Err end)) (gives old f to_come is moves count) (reads is.reads),
+  subst (IsStreamAnswer (Err end)) (gives old f to_come is moves count) (reads is.reads),
   λ none. cc,
 )
 
@@ -183,7 +183,7 @@ pub head_first : (file : List ℕ) (found : Option ℕ) (short : List (List ℕ)
     → MatchOption found (read ≡ Err NoHead)
     (λ n. (words : List (List ℕ)) → SameLine short words → read ≡ head_in None (record { number = n; words = words }))
     → (answer : Option Answer) → answer ≡ None
-    → MatchOption found (answer ≡ None) (λ n. (words : List (List ℕ)) → SameLine short words → answer ≡ answer_of words)
+    → MatchOption found (answer ≡ None) (λ n. (words : List (List ℕ)) → SameLine short words → answer ≡ answer_alone words)
     → IsHeadRead file read next left
 head_first file None short next left read reads none is answer other answers =
     let lines : full_lines file ≡ [] = reads.lines ∙ ap (lines_from next) none ∙ no_lines next in
@@ -195,7 +195,7 @@ head_first file None short next left read reads none is answer other answers =
     }
 head_first file (Some n) short next left read reads none is answer no_answer answers =
     let line : Line = record { number = n; words = reads.lines.words } in
-    let other : answer_of reads.lines.words ≡ None = sym (answers reads.lines.words reads.lines.same) ∙ no_answer in
+    let other : answer_alone reads.lines.words ≡ None = sym (answers reads.lines.words reads.lines.same) ∙ no_answer in
     let head : head_among (end_line file) (line ∷ lines_from next left) ≡ head_in None line = rw other refl in
     let behind : behind_head (line ∷ lines_from next left) ≡ lines_from next left = rw other refl in
     record {
@@ -209,7 +209,7 @@ head_first file (Some n) short next left read reads none is answer no_answer ans
 pub head_second : (file : List ℕ) (first found : Option ℕ) (short other : List (List ℕ)) (middle next : ℕ) (between left : List ℕ)
     (answer : Answer) (read : Result CertHead CertFault)
     → ReadsLine 1 (unmarked file) first short middle between
-    → MatchOption first (Some answer ≡ None) (λ n. (words : List (List ℕ)) → SameLine short words → Some answer ≡ answer_of words)
+    → MatchOption first (Some answer ≡ None) (λ n. (words : List (List ℕ)) → SameLine short words → Some answer ≡ answer_alone words)
     → ReadsLine middle between found other next left → IfNone found (left ≡ [])
     → MatchOption found (read ≡ Err (Ended next))
     (λ n. (words : List (List ℕ)) → SameLine other words → read ≡ head_in (Some answer) (record { number = n; words = words }))
@@ -221,7 +221,7 @@ head_second file (Some n) found short other middle next between left answer read
     line : Line
     line = record { number = n; words = one.lines.words }
 
-    answers : answer_of one.lines.words ≡ Some answer
+    answers : answer_alone one.lines.words ≡ Some answer
     answers = sym (is one.lines.words one.lines.same)
 
     head : head_among (end_line file) (line ∷ lines_from middle between) ≡ first_head (Some answer) (end_line file)
@@ -238,7 +238,7 @@ head_second file (Some n) found short other middle next between left answer read
     by_found None two none reads =
         let rest : lines_from next left ≡ [] = ap (lines_from next) none ∙ no_lines next in
         let ls : lines_from middle between ≡ [] = two.lines ∙ rest in
-        let last : next ≡ end_line file = omega (arith, one.count, two.count, ap (λ t. length (cut t)) none, none_cut) in
+        let last : next ≡ end_line file = omega (arith, one.count, two.count, ap (λ t. length (cut_lines t)) none, none_cut) in
         record {
           head = reads ∙ ap (λ e. let r : Result CertHead CertFault = Err (Ended e) in r) last
               ∙ ap (first_head (Some answer) (end_line file)) (sym ls) ∙ sym head
@@ -259,19 +259,19 @@ head_second file (Some n) found short other middle next between left answer read
 
 pub next_answered : (file : Option (List ℕ)) (old next : LinesReading) (found : Option ℕ) (short : List (List ℕ)) (to_come : ℕ)
     (read : Result (Option Move) CertFault) (result : Result (Option Move) StreamEnd) (ended : ℕ) → ended ≡ next.number
-    → IfSome file (FindsLine old next found short) → MatchOption found (read ≡ next_of ended to_come [])
+    → IfSome file (FindsLine old next found short) → MatchOption found (read ≡ next_move_of ended to_come [])
     (λ n. (words : List (List ℕ)) → SameLine short words → read ≡ next_on to_come (record { number = n; words = words }))
-    → IsAnswer result read
-    → IfSome file (λ f. Reads old.reading f → IsAnswer result (next_of (end_behind old.number (left_of old.reading f)) to_come
-    (lines_from old.number (left_of old.reading f))))
+    → IsStreamAnswer result read
+    → IfSome file (λ f. Reads old.reading f → IsStreamAnswer result (next_move_of (end_behind old.number (bytes_left old.reading f)) to_come
+    (lines_from old.number (bytes_left old.reading f))))
 next_answered None old next found short to_come read result ended end finds is answer = tt
 next_answered (Some f) old next found short to_come read result ended end finds is answer = λ reads.
-    let at_end : MatchOption found (read ≡ next_of next.number to_come [])
+    let at_end : MatchOption found (read ≡ next_move_of next.number to_come [])
     (λ n. (words : List (List ℕ)) → SameLine short words → read ≡ next_on to_come (record { number = n; words = words })) =
-    subst (λ e. MatchOption found (read ≡ next_of e to_come [])
+    subst (λ e. MatchOption found (read ≡ next_move_of e to_come [])
     (λ n. (words : List (List ℕ)) → SameLine short words → read ≡ next_on to_come (record { number = n; words = words }))) end is in
-    subst (IsAnswer result)
-    (next_read old.number (left_of old.reading f) found short next.number (left_of next.reading f) to_come read (finds reads).0
+    subst (IsStreamAnswer result)
+    (next_read old.number (bytes_left old.reading f) found short next.number (bytes_left next.reading f) to_come read (finds reads).0
     (finds reads).1
     at_end) answer
 
@@ -279,7 +279,7 @@ pub next_leaves : (file : Option (List ℕ)) (old next : LinesReading) (found : 
     → IfSome file (FindsLine old next found short) → IfSome file (LeavesLines old next)
 next_leaves None old next found short finds = tt
 next_leaves (Some f) old next found short finds = λ reads.
-    next_left old.number (left_of old.reading f) found short next.number (left_of next.reading f) (finds reads).0 (finds reads).1
+    next_left old.number (bytes_left old.reading f) found short next.number (bytes_left next.reading f) (finds reads).0 (finds reads).1
 
 pub head_in-same : (answer : Option Answer) (number : ℕ) (a b : List (List ℕ)) → SameLine a b
     → head_in answer (record { number = number; words = a }) ≡ head_in answer (record { number = number; words = b })
@@ -289,37 +289,38 @@ head_in-same answer number a b same = ap (fitting_head answer number) (head_same
 
 pub first_answered : (file : Option (List ℕ)) (old next : LinesReading) (found : Option ℕ) (short : List (List ℕ))
     (read : Result CertHead CertFault) (result : Result CertHead StreamEnd) (answer : Option Answer)
-    → IfSome file (λ f. Reads old.reading f → ReadsLine 1 (unmarked f) found short next.number (left_of next.reading f)
-    × IfNone found (left_of next.reading f ≡ []))
+    → IfSome file (λ f. Reads old.reading f → ReadsLine 1 (unmarked f) found short next.number (bytes_left next.reading f)
+    × IfNone found (bytes_left next.reading f ≡ []))
     → MatchOption found (read ≡ Err NoHead)
     (λ n. (words : List (List ℕ)) → SameLine short words → read ≡ head_in None (record { number = n; words = words }))
     → answer ≡ None
-    → MatchOption found (answer ≡ None) (λ n. (words : List (List ℕ)) → SameLine short words → answer ≡ answer_of words)
-    → IsAnswer result read → IfSome file (λ f. Reads old.reading f → IsAnswer result (head_of_text f))
+    → MatchOption found (answer ≡ None) (λ n. (words : List (List ℕ)) → SameLine short words → answer ≡ answer_alone words)
+    → IsStreamAnswer result read → IfSome file (λ f. Reads old.reading f → IsStreamAnswer result (head_of_text f))
 first_answered None old next found short read result answer finds is none answers holds = tt
 first_answered (Some f) old next found short read result answer finds is none answers holds = λ reads.
-    subst (IsAnswer result)
-    (head_first f found short next.number (left_of next.reading f) read (finds reads).0 (finds reads).1 is answer none answers).head holds
+    subst (IsStreamAnswer result)
+    (head_first f found short next.number (bytes_left next.reading f) read (finds reads).0 (finds reads).1 is answer none answers).head
+    holds
 
 pub second_answered : (file now : Option (List ℕ)) (old middle next : LinesReading) (first found : Option ℕ) (short other : List (List ℕ))
     (read : Result CertHead CertFault) (result : Result CertHead StreamEnd) (answer : Answer) (answered : Option Answer) (ended : ℕ)
     → now ≡ file → ended ≡ next.number → answered ≡ Some answer
-    → IfSome file (λ f. Reads old.reading f → ReadsLine 1 (unmarked f) first short middle.number (left_of middle.reading f)
-    × IfNone first (left_of middle.reading f ≡ []))
+    → IfSome file (λ f. Reads old.reading f → ReadsLine 1 (unmarked f) first short middle.number (bytes_left middle.reading f)
+    × IfNone first (bytes_left middle.reading f ≡ []))
     → IfSome file (λ f. Reads old.reading f → Reads middle.reading f)
-    → MatchOption first (answered ≡ None) (λ n. (words : List (List ℕ)) → SameLine short words → answered ≡ answer_of words)
+    → MatchOption first (answered ≡ None) (λ n. (words : List (List ℕ)) → SameLine short words → answered ≡ answer_alone words)
     → IfSome now (FindsLine middle next found other)
     → MatchOption found (read ≡ Err (Ended ended))
     (λ n. (words : List (List ℕ)) → SameLine other words → read ≡ head_in (Some answer) (record { number = n; words = words }))
-    → IsAnswer result read → IfSome file (λ f. Reads old.reading f → IsAnswer result (head_of_text f))
+    → IsStreamAnswer result read → IfSome file (λ f. Reads old.reading f → IsStreamAnswer result (head_of_text f))
 second_answered None now old middle next first found short other read result answer answered ended told end some one on is two reads
     holds = tt
 second_answered (Some f) now old middle next first found short other read result answer answered ended told end some one on is two reads
     holds =
     let finds : FindsLine middle next found other f = subst (λ o. IfSome o (FindsLine middle next found other)) told two in
     let answers : MatchOption first (Some answer ≡ None) (λ n. (words : List (List ℕ)) → SameLine short words
-    → Some answer ≡ answer_of words) =
-    subst (λ a. MatchOption first (a ≡ None) (λ n. (words : List (List ℕ)) → SameLine short words → a ≡ answer_of words)) some is in
+    → Some answer ≡ answer_alone words) =
+    subst (λ a. MatchOption first (a ≡ None) (λ n. (words : List (List ℕ)) → SameLine short words → a ≡ answer_alone words)) some is in
     let head : MatchOption found (read ≡ Err (Ended next.number))
     (λ n. (words : List (List ℕ)) → SameLine other words → read ≡ head_in (Some answer) (record { number = n; words = words })) =
     subst (λ e. MatchOption found (read ≡ Err (Ended e))
@@ -327,7 +328,7 @@ second_answered (Some f) now old middle next first found short other read result
     reads in
     λ r.
     let now_reads : Reads middle.reading f = on r in
-    subst (IsAnswer result)
-    (head_second f first found short other middle.number next.number (left_of middle.reading f) (left_of next.reading f) answer read
+    subst (IsStreamAnswer result)
+    (head_second f first found short other middle.number next.number (bytes_left middle.reading f) (bytes_left next.reading f) answer read
     (one r).0
     answers (finds now_reads).0 (finds now_reads).1 head).head holds

@@ -1,5 +1,5 @@
 -- Each walk of a text has a vertex.
-use Rattle.walk_files.proofs.Common.{◌≡◌, ℕ, ◌+◌, ◌<◌, List, [], ◌∷◌, ◌++◌, length, drop, Bool, true, false, refl, sym, ap, subst, ◌∙◌, arith, All-head, All-tail, All-cons, All-nil, All-push, filter_passes, enumerate_from, sum_by, ok_or, Option, Some, None, Result, Ok, Err, All, if◌then◌else◌, ◌||◌, nat_le, nat_lt, option_map, darts, each_some, each_ok, some_first, ok_first, Line, cut, full_lines, is_filled, lines_from, unmarked, words, number_of, line_of_numbers, plain_walks_of, walk_of, WalkText, behind_vertex, has_header, in_version, read_tokens, token_of, walk_of_line, walk_text_of, walks_behind, within_limits, written_out, WalkFault, TooLong, TooMany, BadGroup, MOST_LINES, MOST_WALK_VERTICES, MOST_WALK_DARTS, MOST_DARTS, Token, Open, Close, Number}
+use Rattle.walk_files.proofs.Common.{◌≡◌, ℕ, ◌+◌, ◌<◌, List, [], ◌∷◌, ◌++◌, length, drop, Bool, true, false, refl, sym, ap, subst, ◌∙◌, arith, All-head, All-tail, All-cons, All-nil, All-push, filter_passes, enumerate_from, sum_by, ok_or, Option, Some, None, Result, Ok, Err, All, if◌then◌else◌, ◌||◌, nat_le, nat_lt, option_map, darts, each_some, each_ok, some_first, ok_first, Line, cut_lines, full_lines, is_filled, lines_from, unmarked, words, number_of, line_of_numbers, plain_walks_of, walk_of, WalkText, behind_vertex, has_header, in_version, read_tokens, token_of, walk_of_line, walk_text_of, walks_behind, within_limits, written_out, WalkFault, TooLong, TooMany, BadGroup, MOST_LINES, MOST_WALK_VERTICES, MOST_WALK_DARTS, MOST_DARTS, Token, Open, Close, Number}
 use Rattle.std.specs.Prelude.{map}
 
 abbrev pub HasVertex : List ℕ → Type 0
@@ -108,7 +108,7 @@ lines_filled : (bytes : List ℕ) → All (λ line. is_filled line.words ≡ tru
 unfolding lines_from
 lines_filled bytes =
     filter_passes (λ (line : Line). is_filled line.words)
-    (map (λ p. record { number = p.0; words = words p.1 }) (enumerate_from 1 (cut (unmarked bytes))))
+    (map (λ p. record { number = p.0; words = words p.1 }) (enumerate_from 1 (cut_lines (unmarked bytes))))
 
 -- each walk that a text stands for has a vertex
 pub text_walks : (bytes : List ℕ) (text : WalkText) → walk_text_of bytes ≡ Ok text → All HasVertex text.walks

@@ -1,5 +1,5 @@
 -- Moves whose lines lie whole in the bytes that are at hand.
-use Rattle.walk_files.proofs.Common.{LinesReading, IsOneLine, ReadsLine, Reads, left_of, ◌≡◌, ◌≢◌, ℕ, ◌+◌, ◌-◌, ◌*◌, ◌^◌, ◌<◌, ◌≤◌, Bool, true, false, List, [], ◌∷◌, ◌++◌, length, take, drop, get_or, append_assoc, length-append, refl, subst, sym, ap, ◌∙◌, arith, and_parts, and_from, lt-ltb, ne_eqb, take_all, All-head, All-tail, All-cons, All-nil, list_all-append, before_first, list_all, Option, Some, None, Ok, IfSome, All, Move, Across, before_first-append, before_first-yes, from_first-append, from_first-yes, words_here-nil, words_here-blank, words_here-word, digits_inside, is_filled, lines_from, is_digit, is_natural, value_of, number_of, is_line_feed, words_here, direction_of, spur_of, across_of, move_of, next_of, next_on, end_behind}
+use Rattle.walk_files.proofs.Common.{LinesReading, IsOneLine, ReadsLine, Reads, bytes_left, ◌≡◌, ◌≢◌, ℕ, ◌+◌, ◌-◌, ◌*◌, ◌^◌, ◌<◌, ◌≤◌, Bool, true, false, List, [], ◌∷◌, ◌++◌, length, take, drop, get_or, append_assoc, length-append, refl, subst, sym, ap, ◌∙◌, arith, and_parts, and_from, lt-ltb, ne_eqb, take_all, All-head, All-tail, All-cons, All-nil, list_all-append, before_first, list_all, Option, Some, None, Ok, IfSome, All, Move, Across, before_first-append, before_first-yes, from_first-append, from_first-yes, words_here-nil, words_here-blank, words_here-word, digits_inside, is_filled, lines_from, is_digit, is_natural, value_of, number_of, is_line_feed, words_here, direction_of, spur_of, across_of, move_of, next_move_of, next_on, end_behind}
 use Rattle.std.proofs.Common.{not, append-nil}
 use Rattle.std.proofs.lemmas.List.Sums.{fold-append}
 use Rattle.text_scan.specs.Steps.{ends_word, from_first, begins_word}
@@ -265,14 +265,14 @@ gives to_come number words mv some is = rw (ne_eqb to_come 0 (λ none. omega (ar
 
 pub move_answered : (file : Option (List ℕ)) (old next : LinesReading) (kept : List ℕ) (len : ℕ) (mv : Move) (to_come : ℕ)
     → 0 < to_come → IsMoveLine kept len mv → kept ≡ old.reading.kept
-    → ((f : List ℕ) → Reads old.reading f → ReadsLine old.number (left_of old.reading f) (Some old.number)
-    (words_here (take len old.reading.kept)) next.number (left_of next.reading f))
-    → IfSome file (λ f. Reads old.reading f → next_of (end_behind old.number (left_of old.reading f)) to_come
-    (lines_from old.number (left_of old.reading f)) ≡ Ok (Some mv))
+    → ((f : List ℕ) → Reads old.reading f → ReadsLine old.number (bytes_left old.reading f) (Some old.number)
+    (words_here (take len old.reading.kept)) next.number (bytes_left next.reading f))
+    → IfSome file (λ f. Reads old.reading f → next_move_of (end_behind old.number (bytes_left old.reading f)) to_come
+    (lines_from old.number (bytes_left old.reading f)) ≡ Ok (Some mv))
 move_answered None old next kept len mv to_come some is same reads = tt
 move_answered (Some f) old next kept len mv to_come some is same reads = λ begun.
     let short : List (List ℕ) = words_here (take len old.reading.kept) in
     let mv_is : move_of short ≡ Some mv = ap (λ t. move_of (words_here (take len t))) (sym same) ∙ is.move in
-    sym (next_read old.number (left_of old.reading f) (Some old.number) short next.number (left_of next.reading f) to_come
+    sym (next_read old.number (bytes_left old.reading f) (Some old.number) short next.number (bytes_left next.reading f) to_come
     (Ok (Some mv)) (reads f begun) tt (λ words alike.
     sym (gives to_come old.number short mv some mv_is) ∙ next_on-same to_come old.number short words alike))

@@ -22,13 +22,13 @@ abbrev pub where_word : {A : Type 0} → List ℕ → List ℕ → Option A → 
 where_word wanted word read = if bytes_eq word wanted then read else None
 
 -- the head that the words of a line are
-abbrev pub head_of : List (List ℕ) → Option CertHead
-head_of (keyword ∷ count ∷ peak ∷ []) = where_word (codes "MOVES") keyword (do
+abbrev pub cert_head_of : List (List ℕ) → Option CertHead
+cert_head_of (keyword ∷ count ∷ peak ∷ []) = where_word (codes "MOVES") keyword (do
   n ← number_below (2 ^ 64) count
   p ← number_of peak
   Some (Moves n p))
-head_of (keyword ∷ degree ∷ []) = where_word (codes "LABELS") keyword (option_map Labels (number_of degree))
-head_of words = None
+cert_head_of (keyword ∷ degree ∷ []) = where_word (codes "LABELS") keyword (option_map Labels (number_of degree))
+cert_head_of words = None
 
 -- the answer that a word is
 abbrev pub answer_word : List ℕ → Option Answer
@@ -36,9 +36,9 @@ answer_word word =
     if bytes_eq word (codes "homotopic") then Some Homotopic else if bytes_eq word (codes "different") then Some Different else None
 
 -- the answer that a line is, which is one word alone
-abbrev pub answer_of : List (List ℕ) → Option Answer
-answer_of (word ∷ []) = answer_word word
-answer_of words = None
+abbrev pub answer_alone : List (List ℕ) → Option Answer
+answer_alone (word ∷ []) = answer_word word
+answer_alone words = None
 
 -- whether a head may stand behind an answer, if there is one: a list of moves behind `homotopic`, labels behind `different`
 abbrev pub fits : Option Answer → CertHead → Bool
@@ -65,7 +65,7 @@ fitting_head answer line (Some head) = if fits answer head then within_peak line
 
 -- the head that a line is, behind an answer or not
 abbrev pub head_in : Option Answer → Line → Result CertHead CertFault
-head_in answer line = fitting_head answer line.number (head_of line.words)
+head_in answer line = fitting_head answer line.number (cert_head_of line.words)
 
 -- the head on the first of these lines; `end` is the line where the text ends
 abbrev pub first_head : Option Answer → ℕ → List Line → Result CertHead CertFault
@@ -75,12 +75,13 @@ first_head answer end (line ∷ lines) = head_in answer line
 -- the head of a text of these lines: it stands first, or behind a line that is an answer
 abbrev pub head_among : ℕ → List Line → Result CertHead CertFault
 head_among end [] = Err NoHead
-head_among end (line ∷ lines) = if is_some (answer_of line.words) then first_head (answer_of line.words) end lines else head_in None line
+head_among end (line ∷ lines) =
+    if is_some (answer_alone line.words) then first_head (answer_alone line.words) end lines else head_in None line
 
 -- the lines behind the head
 abbrev pub behind_head : List Line → List Line
 behind_head [] = []
-behind_head (line ∷ lines) = if is_some (answer_of line.words) then drop 1 lines else lines
+behind_head (line ∷ lines) = if is_some (answer_alone line.words) then drop 1 lines else lines
 
 -- the head of a text
 abbrev pub head_of_text : List ℕ → Result CertHead CertFault

@@ -1,7 +1,8 @@
 -- Denials at work. Each line is proved by computing.
-use Rattle.std.specs.Prelude.{◌≡◌, ℕ, true, false, List, [], ◌∷◌, map, Option, Some, None, Result, Ok, Err, codes, refl, pos, negsuc}
+use Rattle.std.specs.Prelude.{◌≡◌, ℕ, true, List, [], ◌∷◌, map, Option, Some, None, Result, Ok, Err, codes, refl, pos, negsuc}
 use Rattle.std.specs.Fmt.{digits}
-use Rattle.text_scan.specs.Lines.{unmarked, cut, words, lines_from}
+use Rattle.labellings.specs.Examples.{kept}
+use Rattle.text_scan.specs.Lines.{unmarked, cut_lines, words, lines_from}
 use Rattle.text_scan.specs.Numbers.{is_natural, value_of}
 use Rattle.turn_words.specs.declared.word.Word.{Word}
 use Rattle.turn_words.specs.declared.word.Word.TheVariants.{Turns, Flat}
@@ -17,12 +18,9 @@ use Rattle.walk_files.specs.declared.fault.CertFault.TheVariants.{Bad, Ended, Ex
 abbrev read : List (List ℕ) → Option (Result Denial CertFault)
 read lines = denial_of_text (text lines)
 
--- faces with these labels
-abbrev pub kept : List ℕ → FaceLabels
-kept labels = record { flipped = false; labels = labels }
-
-abbrev pub flipped : List ℕ → FaceLabels
-flipped labels = record { flipped = true; labels = labels }
+-- a flipped face with these labels
+abbrev pub flipped_face : List ℕ → FaceLabels
+flipped_face labels = record { flipped = true; labels = labels }
 
 -- a denial of these parts
 abbrev denial : ℕ → List FaceLabels → List ℕ → Word → Word → Denial
@@ -46,7 +44,7 @@ torus_lines =
     ∷ codes "+ 1 1 1" ∷ codes "+ 2 2 2" ∷ codes "+ 0 0 3" ∷ codes "places 0 1 2 3" ∷ codes "-1 -1" ∷ codes "0 0" ∷ []
 
 torus_read : read torus_lines ≡ Some (Ok torus)
-unfolding unmarked cut words lines_from is_natural value_of
+unfolding unmarked cut_lines words lines_from is_natural value_of
 torus_read = refl
 
 torus_written : denial_text torus ≡ text torus_lines
@@ -75,7 +73,7 @@ double_read :
     ∷ codes "+ 4 6 7" ∷ codes "+ 7 7 7" ∷ codes "+ 6 6 6" ∷ codes "+ 4 5 4" ∷ codes "places 0 5 6 7 4 1 2 3" ∷ codes "0 1"
     ∷ codes "4 5" ∷ [])
     ≡ Some (Ok double)
-unfolding unmarked cut words lines_from is_natural value_of
+unfolding unmarked cut_lines words lines_from is_natural value_of
 double_read = refl
 
 -- A minus zero is a zero, and a point ends at 64 bits. No faces, a face with no labels, no places and no degree: nothing is asked of
@@ -91,7 +89,7 @@ good = (
     )
     ∷ (
       codes "LABELS 0" ∷ codes "-" ∷ codes "places" ∷ codes "empty" ∷ codes "7" ∷ [],
-      denial 0 (flipped [] ∷ []) [] (Turns []) (Turns (7 ∷ [])),
+      denial 0 (flipped_face [] ∷ []) [] (Turns []) (Turns (7 ∷ [])),
     )
     ∷ (
       codes "LABELS 9" ∷ codes "places 8" ∷ codes "0" ∷ codes "empty" ∷ [],
@@ -99,7 +97,7 @@ good = (
     ) ∷ []
 
 good_read : map (λ p. read p.0) good ≡ map (λ p. Some (Ok p.1)) good
-unfolding unmarked cut words lines_from is_natural value_of
+unfolding unmarked cut_lines words lines_from is_natural value_of
 good_read = refl
 
 -- What is wrong with a line of a word, of places or of a face, or with the head; and texts that end too early, or go on. The line of the
@@ -124,9 +122,9 @@ faulty =
     ∷ (codes "LABELS 8" ∷ codes "places" ∷ codes "empty" ∷ codes "empty 0" ∷ codes "x" ∷ [], Bad 4) ∷ []
 
 faulty_read : map (λ p. read p.0) faulty ≡ map (λ p. Some (Err p.1)) faulty
-unfolding unmarked cut words lines_from is_natural value_of
+unfolding unmarked cut_lines words lines_from is_natural value_of
 faulty_read = refl
 
 list_of_moves : read (codes "MOVES 0 2" ∷ []) ≡ None
-unfolding unmarked cut words lines_from is_natural value_of
+unfolding unmarked cut_lines words lines_from is_natural value_of
 list_of_moves = refl

@@ -21,9 +21,9 @@ abbrev pub sign_of : List ℕ → Option Bool
 sign_of word = if bytes_eq word (codes "+") then Some false else if bytes_eq word (codes "-") then Some true else None
 
 -- the face that the words of a line are: its sign, and then a label for each corner, of which there may be any number
-abbrev pub face_of : List (List ℕ) → Option FaceLabels
-face_of [] = None
-face_of (word ∷ words) = do
+abbrev pub face_labels_of : List (List ℕ) → Option FaceLabels
+face_labels_of [] = None
+face_labels_of (word ∷ words) = do
   flipped ← sign_of word
   labels ← each_some number_of words
   Some (record { flipped = flipped; labels = labels })
@@ -79,7 +79,7 @@ denial_in end labelling [] = Err (Ended end)
 denial_in end labelling (line ∷ lines) =
     if is_places line.words
     then ok_then (ok_or (places_of line.words) (Bad line.number)) (λ places. words_in end (record labelling { places = places }) lines)
-    else ok_then (ok_or (face_of line.words) (Bad line.number))
+    else ok_then (ok_or (face_labels_of line.words) (Bad line.number))
     (λ face. denial_in end (record labelling { faces = labelling.faces ++ face ∷ [] }) lines)
 
 -- a labelling of no faces

@@ -1,7 +1,7 @@
 -- The definitions at work. Each line is proved by computing.
 use Rattle.std.specs.Prelude.{◌≡◌, ℕ, true, false, List, [], ◌∷◌, ◌++◌, flat_map, map, Some, None, Result, Ok, Err, codes, refl}
 use Rattle.std.specs.Fmt.{digits}
-use Rattle.text_scan.specs.Lines.{unmarked, cut, words, lines_from}
+use Rattle.text_scan.specs.Lines.{unmarked, cut_lines, words, lines_from}
 use Rattle.text_scan.specs.Numbers.{is_natural, value_of}
 use Rattle.surf_model.specs.declared.moves.Move.TheVariants.{Insert, Remove, Across}
 use Rattle.surf_model.specs.FaceLists.{FaceList, all_sides, is_edge, is_used}
@@ -31,18 +31,18 @@ spellings :
     ∷ (239 ∷ 187 ∷ 191 ∷ text ((codes "# two walks" ++ 13 ∷ []) ∷ (13 ∷ []) ∷ (codes "0" ++ 9 ∷ codes "01  2") ∷ codes "000 2" ∷ []))
     ∷ text ([] ∷ (12 ∷ codes "0 1 2") ∷ (11 ∷ codes "0 2#") ∷ codes "#" ∷ []) ∷ [])
     ≡ two_walks ∷ two_walks ∷ two_walks ∷ []
-unfolding unmarked cut words lines_from is_natural value_of
+unfolding unmarked cut_lines words lines_from is_natural value_of
 spellings = refl
 
 no_walks : walks_of [] ≡ Ok []
-unfolding unmarked cut words lines_from
+unfolding unmarked cut_lines words lines_from
 no_walks = refl
 
 -- What is wrong with a text of walks.
 faulty_walks :
     map walks_of (text (codes "0 1" ∷ [] ∷ codes "0 x" ∷ codes "y" ∷ []) ∷ codes "4294967295 4294967296" ∷ codes "empty" ∷ [])
     ≡ Err (BadNumber 3) ∷ Err (BadNumber 1) ∷ Err (BadNumber 1) ∷ []
-unfolding unmarked cut words lines_from is_natural value_of
+unfolding unmarked cut_lines words lines_from is_natural value_of
 faulty_walks = refl
 
 -- The word `empty` stands for no entries, where it stands alone.
@@ -51,28 +51,28 @@ turn_words :
     ≡ Ok
     (record { line = 2; numbers = 7 ∷ 1 ∷ [] } ∷ record { line = 3; numbers = [] }
     ∷ record { line = 4; numbers = 4294967295 ∷ [] } ∷ [])
-unfolding unmarked cut words lines_from is_natural value_of
+unfolding unmarked cut_lines words lines_from is_natural value_of
 turn_words = refl
 
 faulty_words : map words_of (codes "empty empty" ∷ codes "0 empty" ∷ text ([] ∷ codes "4294967296" ∷ []) ∷ [])
     ≡ Err (BadNumber 1) ∷ Err (BadNumber 1) ∷ Err (BadNumber 2) ∷ []
-unfolding unmarked cut words lines_from is_natural value_of
+unfolding unmarked cut_lines words lines_from is_natural value_of
 faulty_words = refl
 
 one_move :
     list_of_text (text (codes "homotopic" ∷ codes "MOVES 1 2" ∷ codes "f 0 0 0 - 2" ∷ []))
     ≡ Some (Ok (record { moves = Across 0 (record { 0 = 0 }) 0 false 2 ∷ []; peak = 2 }))
-unfolding unmarked cut words lines_from is_natural value_of
+unfolding unmarked cut_lines words lines_from is_natural value_of
 one_move = refl
 
 no_moves : list_of_text (codes "MOVES 0 2") ≡ Some (Ok (record { moves = []; peak = 2 }))
-unfolding unmarked cut words lines_from is_natural value_of
+unfolding unmarked cut_lines words lines_from is_natural value_of
 no_moves = refl
 
 two_spurs :
     list_of_text (text (codes "MOVES 2 9" ∷ codes "+ 0 1" ∷ codes "- 0 1" ∷ []))
     ≡ Some (Ok (record { moves = Insert 0 (record { 0 = 1 }) ∷ Remove 0 (record { 0 = 1 }) ∷ []; peak = 9 }))
-unfolding unmarked cut words lines_from is_natural value_of
+unfolding unmarked cut_lines words lines_from is_natural value_of
 two_spurs = refl
 
 -- What is wrong with a certificate. A lone answer ends too early; a count has 64 bits, and that lines are missing is seen at the end; the
@@ -95,11 +95,11 @@ faulty =
     ∷ []
 
 faulty_read : map (λ p. list_of_text (text p.0)) faulty ≡ map (λ p. Some (Err p.1)) faulty
-unfolding unmarked cut words lines_from is_natural value_of
+unfolding unmarked cut_lines words lines_from is_natural value_of
 faulty_read = refl
 
 labels : list_of_text (text (codes "different" ∷ codes "LABELS 8" ∷ codes "x" ∷ [])) ≡ None
-unfolding unmarked cut words lines_from is_natural value_of
+unfolding unmarked cut_lines words lines_from is_natural value_of
 labels = refl
 
 -- What is written.

@@ -16,9 +16,9 @@ pub record WalkPair : Type 0 where
   pub second : List ℕ
 
 -- the walks in twos, in order; a last one alone is left out
-abbrev pub in_pairs : List (List ℕ) → List WalkPair
-in_pairs (first ∷ second ∷ walks) = record { first = first; second = second } ∷ in_pairs walks
-in_pairs walks = []
+abbrev pub walks_in_pairs : List (List ℕ) → List WalkPair
+walks_in_pairs (first ∷ second ∷ walks) = record { first = first; second = second } ∷ walks_in_pairs walks
+walks_in_pairs walks = []
 
 -- a text of version 1 has one pair, and one of version 2 one or more
 abbrev pub are_paired : ℕ → ℕ → Bool
@@ -28,7 +28,7 @@ are_paired version count = if version == 2 then nat_lt 0 count && count % 2 == 0
 pub record ArePairs (mesh : FaceList) (text : WalkText) : Type 0 where
   pub paired : IsTrue (are_paired text.version (length text.walks))
   pub walks : All (IsWalk mesh) text.walks
-  pub ends : All (λ pair. HaveCommonEnds pair.first pair.second) (in_pairs text.walks)
+  pub ends : All (λ pair. HaveCommonEnds pair.first pair.second) (walks_in_pairs text.walks)
 
 -- the same fault, as one of pairs
 abbrev pub of_entry : EntryFault → PairsFault
@@ -52,5 +52,5 @@ pairs_ends_fault number (pair ∷ pairs) = option_or (ends_fault number pair) (p
 abbrev pub pairs_fault : FaceList → WalkText → Option PairsFault
 pairs_fault mesh text =
     if are_paired text.version (length text.walks)
-    then option_or (option_map of_entry (walks_fault mesh text.walks)) (pairs_ends_fault 1 (in_pairs text.walks))
+    then option_or (option_map of_entry (walks_fault mesh text.walks)) (pairs_ends_fault 1 (walks_in_pairs text.walks))
     else Some (NotPairs (length text.walks))

@@ -52,9 +52,9 @@ abbrev pub next_on : ℕ → Line → Result (Option Move) CertFault
 next_on left line = if left == 0 then Err (Extra line.number) else ok_or (option_map Some (move_of line.words)) (Bad line.number)
 
 -- what the first of these lines gives, where `left` moves are still to come; `end` is the line where the text ends
-abbrev pub next_of : ℕ → ℕ → List Line → Result (Option Move) CertFault
-next_of end left [] = if left == 0 then Ok None else Err (Ended end)
-next_of end left (line ∷ lines) = next_on left line
+abbrev pub next_move_of : ℕ → ℕ → List Line → Result (Option Move) CertFault
+next_move_of end left [] = if left == 0 then Ok None else Err (Ended end)
+next_move_of end left (line ∷ lines) = next_on left line
 
 -- what is read, unless the reader keeps a refusal
 abbrev pub unless_refused : {A : Type 0} → Option CertFault → Result A CertFault → Result A CertFault
@@ -63,7 +63,7 @@ unless_refused None read = read
 
 -- what the reader gives next
 abbrev pub next_answer : Certificate → Result (Option Move) CertFault
-next_answer reader = unless_refused reader.refusal (next_of (end_line reader.text) (moves_to_come reader) (lines_to_come reader))
+next_answer reader = unless_refused reader.refusal (next_move_of (end_line reader.text) (moves_to_come reader) (lines_to_come reader))
 
 -- all moves that the reader has still to give, or the first fault among the lines left
 abbrev pub moves_left : Certificate → Result (List Move) CertFault

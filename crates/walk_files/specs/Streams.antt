@@ -1,7 +1,7 @@
 -- A certificate that is read from a shelf in pieces.
 use Rattle.std.specs.Prelude.{◌≡◌, ℕ, ◌+◌, ◌<◌, ◌≤◌, Bool, true, false, List, [], length, Option, Some, None, Result, Ok, Err}
-use Rattle.text_scan.specs.Lines.{cut, lines_from, end_line}
-use Rattle.file_pieces.specs.Reading.{Reads, left_of}
+use Rattle.text_scan.specs.Lines.{cut_lines, lines_from, end_line}
+use Rattle.file_pieces.specs.Reading.{Reads, bytes_left}
 use Rattle.file_pieces.specs.FileLines.{LinesReading}
 use Rattle.surf_model.specs.declared.moves.Move.{Move}
 use Rattle.labellings.specs.declared.denial.Denial.{Denial}
@@ -35,7 +35,7 @@ streams_denial stream = is_denial (reader_at stream [])
 
 -- the line where a text ends whose bytes `left` are left, the first of them in line `number`
 abbrev pub end_behind : ℕ → List ℕ → ℕ
-end_behind number left = number + length (cut left)
+end_behind number left = number + length (cut_lines left)
 
 -- The stream has read a first part of this file, its head, which is behind no line 1, and as many moves as were given. What is left are
 -- the file's other lines; behind a denial none are told.
@@ -43,8 +43,8 @@ pub record IsIn (stream : Streamed) (file : List ℕ) : Type 0 where
   pub reads : Reads stream.lines.reading file
   pub head : head_of_text file ≡ Ok stream.head
   pub lines : stream.denied ≡ false
-      → lines_from stream.lines.number (left_of stream.lines.reading file) ≡ lines_to_come (reader_at stream file)
-  pub end : stream.denied ≡ false → end_behind stream.lines.number (left_of stream.lines.reading file) ≡ end_line file
+      → lines_from stream.lines.number (bytes_left stream.lines.reading file) ≡ lines_to_come (reader_at stream file)
+  pub end : stream.denied ≡ false → end_behind stream.lines.number (bytes_left stream.lines.reading file) ≡ end_line file
   pub behind : 1 < stream.lines.number
   pub denial : streams_list stream ≡ true → stream.denied ≡ false
 
@@ -54,12 +54,12 @@ Belongs stream file = stream.refusal ≡ None → IsIn stream file
 
 -- What a stream answers where a reader of the whole text answers so: the same, or that a read failed, that the file is too large, or that
 -- memory was wanted.
-abbrev pub IsAnswer : {A : Type 0} → Result A StreamEnd → Result A CertFault → Type 0
-IsAnswer (Ok answer) read = read ≡ Ok answer
-IsAnswer (Err (Cert fault)) read = read ≡ Err fault
-IsAnswer (Err Fault) read = Unit {0}
-IsAnswer (Err TooLarge) read = Unit {0}
-IsAnswer (Err OutOfMemory) read = Unit {0}
+abbrev pub IsStreamAnswer : {A : Type 0} → Result A StreamEnd → Result A CertFault → Type 0
+IsStreamAnswer (Ok answer) read = read ≡ Ok answer
+IsStreamAnswer (Err (Cert fault)) read = read ≡ Err fault
+IsStreamAnswer (Err Fault) read = Unit {0}
+IsStreamAnswer (Err TooLarge) read = Unit {0}
+IsStreamAnswer (Err OutOfMemory) read = Unit {0}
 
 -- a fault of the certificate is answered only where the file was read to its end
 abbrev pub IsReadOut : StreamEnd → LinesReading → Type 0

@@ -1,6 +1,6 @@
 -- Walk texts of version 2, and pairs. Each line is proved by computing.
 use Rattle.std.specs.Prelude.{◌≡◌, ℕ, true, false, List, [], ◌∷◌, ◌++◌, flat_map, map, Some, None, Ok, Err, codes, refl}
-use Rattle.text_scan.specs.Lines.{Line, unmarked, cut, words, lines_from}
+use Rattle.text_scan.specs.Lines.{Line, unmarked, cut_lines, words, lines_from}
 use Rattle.text_scan.specs.Numbers.{is_natural, value_of}
 use Rattle.surf_model.specs.FaceLists.{FaceList, all_sides, is_edge, is_used}
 use Rattle.walk_files.specs.PairLists.{pairs_fault}
@@ -19,15 +19,15 @@ text = flat_map (λ line. line ++ 10 ∷ [])
 groups :
     walk_text_of (text (codes "# pairs" ∷ codes " WALKS  2" ∷ codes "0 ( 1 2 0 ) 2 3" ∷ [] ∷ codes "0 ( 1 0 ) 0 ( 0 ) 1 4" ∷ []))
     ≡ Ok (record { version = 2; walks = (0 ∷ 1 ∷ 2 ∷ 0 ∷ 1 ∷ 2 ∷ 0 ∷ 3 ∷ []) ∷ (0 ∷ 0 ∷ 4 ∷ []) ∷ [] })
-unfolding unmarked cut words lines_from is_natural value_of
+unfolding unmarked cut_lines words lines_from is_natural value_of
 groups = refl
 
 header_alone : walk_text_of (codes "WALKS 2") ≡ Ok (record { version = 2; walks = [] })
-unfolding unmarked cut words lines_from is_natural value_of
+unfolding unmarked cut_lines words lines_from is_natural value_of
 header_alone = refl
 
 plain_walks : walk_text_of (text (codes "0 1" ∷ codes "2" ∷ [])) ≡ Ok (record { version = 1; walks = (0 ∷ 1 ∷ []) ∷ (2 ∷ []) ∷ [] })
-unfolding unmarked cut words lines_from is_natural value_of
+unfolding unmarked cut_lines words lines_from is_natural value_of
 plain_walks = refl
 
 -- No other line is the header, and none but the first.
@@ -35,7 +35,7 @@ other_headers :
     map (λ line. walk_text_of (text (line ∷ codes "0" ∷ [])))
     (codes "WALKS 3" ∷ codes "WALKS 02" ∷ codes "WALKS 2 x" ∷ codes "walks 2" ∷ codes "WALKS" ∷ [])
     ≡ Err (BadNumber 1) ∷ Err (BadNumber 1) ∷ Err (BadNumber 1) ∷ Err (BadNumber 1) ∷ Err (BadNumber 1) ∷ []
-unfolding unmarked cut words lines_from is_natural value_of
+unfolding unmarked cut_lines words lines_from is_natural value_of
 other_headers = refl
 
 -- What is wrong with a line behind the header. A word that is no token comes before all else, wherever it stands.
@@ -57,7 +57,7 @@ faulty =
     ∷ []
 
 faulty_lines : map (λ p. walk_text_of (text (codes "WALKS 2" ∷ p.0 ∷ []))) faulty ≡ map (λ p. Err p.1) faulty
-unfolding unmarked cut words lines_from is_natural value_of
+unfolding unmarked cut_lines words lines_from is_natural value_of
 faulty_lines = refl
 
 -- a line of two darts

@@ -3,7 +3,7 @@ ghost use Rattle.std.specs.Prelude.{◌≡◌, ◌≢◌, ◌^◌, [], drop, Err
 ghost use Rattle.text_scan.specs.Lines.{is_filled};
 ghost use Rattle.text_scan.specs.Unread.{lines_left};
 ghost use Rattle.walk_files.specs.declared.certificate.CertHead.{CertHead};
-ghost use Rattle.walk_files.specs.Certificates.{fits, answer_of, head_of, head_in, head_among, behind_head, first_head, IsWithinPeak};
+ghost use Rattle.walk_files.specs.Certificates.{fits, answer_alone, cert_head_of, head_in, head_among, behind_head, first_head, IsWithinPeak};
 
 use crate::fault::CertFault;
 use crate::limits::MOST_PEAK;
@@ -77,7 +77,7 @@ pub(crate) fn read_head(cursor: &mut Cursor<'_>) -> Result<CertHead, CertFault>
 /// The answer that stands alone on the present line, and goes past it. Where there is none, nothing changes.
 pub(crate) fn pass_answer(cursor: &mut Cursor<'_>) -> Option<Answer>
     requires { IsTrue (is_filled cursor.old.words) }
-    ensures answer { result ≡ answer_of cursor.old.words }
+    ensures answer { result ≡ answer_alone cursor.old.words }
     ensures place { cursor.new ≡ (if is_some result then record cursor.old { words = [] } else cursor.old) }
 {
     if cursor.pass_words(b"homotopic") {
@@ -142,7 +142,7 @@ fn head_fits(answer: Option<Answer>, head: CertHead) -> bool
 
 /// The head that the words of the present line are.
 fn read_head_words(cursor: &mut Cursor<'_>) -> Option<CertHead>
-    ensures head { result ≡ head_of cursor.old.words }
+    ensures head { result ≡ cert_head_of cursor.old.words }
     ensures place { cursor.new ≡ record cursor.old { words = cursor.new.words } }
     ensures ended { OnSome result (cursor.new.words ≡ []) }
 {

@@ -5,7 +5,7 @@ ghost use Rattle.walk_files.specs.Denials.{denial_of_text};
 ghost use Rattle.std.specs.Fmt.{signed_decimal};
 ghost use Rattle.text_scan.specs.Plain.{line_of};
 ghost use Rattle.surf_io.specs.Calls.{OnlyWrites, WroteAll, WrotePart};
-ghost use Rattle.surf_io.specs.Gathered.{Puts, spaced};
+ghost use Rattle.surf_io.specs.Gathered.{Puts, spaced_number};
 ghost use Rattle.walk_files.specs.DenialTexts.{sign_word, face_words, entry_words, word_words, labelling_text, denial_text, AreNumbers, HasNumbers, AreWordNumbers, HasForms};
 
 use labellings::{Denial, Labelling};
@@ -124,7 +124,8 @@ fn put_later_entries<K: Sink>(
     piece: &mut Piece,
     sink: &mut K,
 ) -> Result<(), Failed>
-    ensures puts { Puts K.written K.settled K.faults result sink.old sink.new piece.old piece.new (flat_map spaced (drop 1 word.now)) }
+    ensures puts { Puts K.written K.settled K.faults result sink.old sink.new piece.old piece.new
+        (flat_map spaced_number (drop 1 word.now)) }
     // What holds of every value, told as far as it was gone over.
     ensures numbers { OnOk result ((j : ℕ) → 0 < j → j < length word.now → slice_index word.now j < 2 ^ 32) }
 {

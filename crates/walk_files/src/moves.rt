@@ -2,7 +2,7 @@
 ghost use Rattle.std.specs.Prelude.{◌≡◌, List, [], ◌∷◌, ◌<◌, drop, None, IfOk, IsSome, OnOk, OnSome};
 ghost use Rattle.text_scan.specs.Unread.{lines_left};
 ghost use Rattle.walk_files.specs.Certificates.{direction_of, spur_of, across_of, move_of};
-ghost use Rattle.walk_files.specs.Readers.{next_of, next_on};
+ghost use Rattle.walk_files.specs.Readers.{next_move_of, next_on};
 
 use crate::fault::CertFault;
 use surf_model::{FaceName, Move, VertexName};
@@ -10,7 +10,7 @@ use text_scan::Cursor;
 
 /// Reads the next line, which holds a move where some are still to come.
 pub(crate) fn read_next(cursor: &mut Cursor<'_>, to_come: u64) -> Result<Option<Move>, CertFault>
-    ensures answer { result ≡ next_of cursor.old.end_line to_come (lines_left cursor.old) }
+    ensures answer { result ≡ next_move_of cursor.old.end_line to_come (lines_left cursor.old) }
     ensures place { OnOk result (lines_left cursor.new ≡ drop 1 (lines_left cursor.old)) }
     ensures end { cursor.new.end_line ≡ cursor.old.end_line }
     ensures some { IfOk result (λ mv. IsSome mv → 0 < to_come) }
@@ -24,7 +24,7 @@ pub(crate) fn read_next(cursor: &mut Cursor<'_>, to_come: u64) -> Result<Option<
 
 /// What is given where no line is left, and the text ends at this one.
 pub(crate) fn read_no_line(end_line: u64, to_come: u64) -> Result<Option<Move>, CertFault>
-    ensures answer { result ≡ next_of end_line to_come [] }
+    ensures answer { result ≡ next_move_of end_line to_come [] }
     ensures none { IfOk result (λ mv. mv ≡ None) }
 {
     if to_come == 0 {

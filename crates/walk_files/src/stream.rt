@@ -45,7 +45,7 @@ impl CertStream {
     ghost use Rattle.walk_files.specs.Certificates.{head_of_text, IsWithinPeak};
     ghost use Rattle.walk_files.specs.declared.certificate.CertHead.{CertHead};
     ghost use Rattle.walk_files.specs.Readers.{count_in, next_answer, denial_left};
-    ghost use Rattle.walk_files.specs.Streams.{Streamed, reader_at, streams_list, streams_denial, IsIn, Belongs, IsAnswer, IsReadOut, IsWithin, after_move, behind_denial};
+    ghost use Rattle.walk_files.specs.Streams.{Streamed, reader_at, streams_list, streams_denial, IsIn, Belongs, IsStreamAnswer, IsReadOut, IsWithin, after_move, behind_denial};
 
     /// Reads the lines up to the head of the file `name`, which may have at most `limit` bytes. Takes a piece of 65,536 bytes.
     pub fn start<S: Shelf>(
@@ -56,7 +56,7 @@ impl CertStream {
     ) -> Result<CertStream, StreamEnd>
         requires { limit < 2 ^ 32 - 1 }
         ensures answer { IfSome (file_of (S.held shelf.old) name.now) (λ file. MatchResult result (λ stream. IsIn stream file)
-            (λ end. IsAnswer {A = CertHead} (Err end) (head_of_text file))) }
+            (λ end. IsStreamAnswer {A = CertHead} (Err end) (head_of_text file))) }
         ensures peak { IfOk result (λ stream. IsWithinPeak stream.head) }
         ensures fresh { IfOk result (λ stream. (stream.given ≡ 0) × (stream.denied ≡ false) × (stream.refusal ≡ None)
             × (stream.lines.reading.limit ≡ limit)) }
@@ -94,7 +94,7 @@ impl CertStream {
         // A refusal that is kept is given again.
         ensures kept { IfSome self.old.refusal (λ end. (result ≡ Err end) × (self.new ≡ self.old) × (shelf.new ≡ shelf.old)) }
         ensures answer { self.old.refusal ≡ None → IfSome (file_of (S.held shelf.old) name.now) (λ file. IsIn self.old file →
-            IsAnswer result (next_answer (reader_at self.old file)) × Belongs self.new file) }
+            IsStreamAnswer result (next_answer (reader_at self.old file)) × Belongs self.new file) }
         ensures after { self.old.refusal ≡ None → self.new ≡ record (after_move self.old result) { lines = self.new.lines } }
         ensures no_memory { self.old.refusal ≡ None → result ≢ Err StreamEnd.OutOfMemory }
         ensures fault { self.old.refusal ≡ None → result ≡ Err StreamEnd.Fault → Rose (S.faults shelf.old) (S.faults shelf.new) }
@@ -144,7 +144,7 @@ impl CertStream {
         // A refusal that is kept is given again.
         ensures kept { IfSome self.old.refusal (λ end. (result ≡ Err end) × (self.new ≡ self.old) × (shelf.new ≡ shelf.old)) }
         ensures answer { self.old.refusal ≡ None → IfSome (file_of (S.held shelf.old) name.now) (λ file. IsIn self.old file →
-            IsAnswer result (denial_left (reader_at self.old file)) × Belongs self.new file) }
+            IsStreamAnswer result (denial_left (reader_at self.old file)) × Belongs self.new file) }
         ensures after { self.old.refusal ≡ None → self.new ≡ record (behind_denial self.old result) { lines = self.new.lines } }
         ensures fault { self.old.refusal ≡ None → result ≡ Err StreamEnd.Fault → Rose (S.faults shelf.old) (S.faults shelf.new) }
         ensures too_large { self.old.refusal ≡ None → result ≡ Err StreamEnd.TooLarge → IfSome (file_of (S.held shelf.old) name.now)

@@ -4,9 +4,9 @@ ghost use Rattle.surf_io.specs.Calls.{OnlyReads};
 ghost use Rattle.surf_io.specs.Faults.{Rose};
 ghost use Rattle.surf_io.specs.Files.{file_of};
 ghost use Rattle.text_scan.specs.Lines.{lines_from};
-ghost use Rattle.file_pieces.specs.Reading.{Reads, left_of};
+ghost use Rattle.file_pieces.specs.Reading.{Reads, bytes_left};
 ghost use Rattle.walk_files.specs.Denials.{denial_in, unlabelled};
-ghost use Rattle.walk_files.specs.Streams.{IsAnswer, IsReadOut, IsWithin, end_behind};
+ghost use Rattle.walk_files.specs.Streams.{IsStreamAnswer, IsReadOut, IsWithin, end_behind};
 
 use crate::denial::read_denial;
 use crate::fault::CertFault;
@@ -26,8 +26,8 @@ pub(crate) fn read_stream_denial<S: Shelf>(
     name: &str,
 ) -> Result<Denial, StreamEnd>
     ensures answer { IfSome (file_of (S.held shelf.old) name.now) (λ file. Reads lines.old.reading file → 1 < lines.old.number →
-        IsAnswer result (denial_in (end_behind lines.old.number (left_of lines.old.reading file)) (unlabelled degree)
-        (lines_from lines.old.number (left_of lines.old.reading file)))) }
+        IsStreamAnswer result (denial_in (end_behind lines.old.number (bytes_left lines.old.reading file)) (unlabelled degree)
+        (lines_from lines.old.number (bytes_left lines.old.reading file)))) }
     ensures reads { OnOk result (IfSome (file_of (S.held shelf.old) name.now)
         (λ file. Reads lines.old.reading file → Reads lines.new.reading file)) }
     ensures fault { result ≡ Err StreamEnd.Fault → Rose (S.faults shelf.old) (S.faults shelf.new) }
@@ -54,7 +54,7 @@ fn gather_lines<S: Shelf>(
     name: &str,
 ) -> Result<Vec<u8>, StreamEnd>
     ensures text { IfOk result (λ text. IfSome (file_of (S.held shelf.old) name.now) (λ file. Reads lines.old.reading file →
-        Reads lines.new.reading file × (text.items ≡ replicate (lines.old.number - 1) 10 ++ left_of lines.old.reading file))) }
+        Reads lines.new.reading file × (text.items ≡ replicate (lines.old.number - 1) 10 ++ bytes_left lines.old.reading file))) }
     ensures short { IfOk result (λ text. length text.items < 2 ^ 32) }
     ensures ended { OnOk result ((lines.new.reading.ended ≡ true) × (lines.new.reading.kept ≡ [])) }
     ensures within { OnOk result (lines.new.reading.place ≤ lines.new.reading.limit) }

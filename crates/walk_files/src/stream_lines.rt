@@ -5,11 +5,11 @@ ghost use Rattle.surf_io.specs.Faults.{Rose};
 ghost use Rattle.surf_io.specs.Files.{file_of};
 ghost use Rattle.text_scan.specs.Lines.{is_filled, lines_from, full_lines, end_line};
 ghost use Rattle.text_scan.specs.Unread.{words_here};
-ghost use Rattle.file_pieces.specs.Reading.{Reads, left_of, read_so_far};
+ghost use Rattle.file_pieces.specs.Reading.{Reads, bytes_left, read_so_far};
 ghost use Rattle.file_pieces.specs.SameLines.{SameLine};
-ghost use Rattle.walk_files.specs.Certificates.{answer_of, head_in, head_of_text, behind_head, IsWithinPeak};
-ghost use Rattle.walk_files.specs.Readers.{next_of, next_on};
-ghost use Rattle.walk_files.specs.Streams.{IsAnswer, IsReadOut, IsWithin, end_behind};
+ghost use Rattle.walk_files.specs.Certificates.{answer_alone, head_in, head_of_text, behind_head, IsWithinPeak};
+ghost use Rattle.walk_files.specs.Readers.{next_move_of, next_on};
+ghost use Rattle.walk_files.specs.Streams.{IsStreamAnswer, IsReadOut, IsWithin, end_behind};
 
 use crate::certificate::{Answer, CertHead, pass_answer, read_head_line};
 use crate::fault::CertFault;
@@ -29,14 +29,15 @@ pub(crate) fn read_next_move<S: Shelf>(
     name: &str,
 ) -> Result<Option<Move>, StreamEnd>
     ensures answer { IfSome (file_of (S.held shelf.old) name.now) (λ file. Reads lines.old.reading file →
-        IsAnswer result (next_of (end_behind lines.old.number (left_of lines.old.reading file)) to_come
-        (lines_from lines.old.number (left_of lines.old.reading file)))) }
+        IsStreamAnswer result (next_move_of (end_behind lines.old.number (bytes_left lines.old.reading file)) to_come
+        (lines_from lines.old.number (bytes_left lines.old.reading file)))) }
     ensures reads { OnOk result (IfSome (file_of (S.held shelf.old) name.now)
         (λ file. Reads lines.old.reading file → Reads lines.new.reading file)) }
     ensures left { OnOk result (IfSome (file_of (S.held shelf.old) name.now) (λ file. Reads lines.old.reading file →
-        (lines_from lines.new.number (left_of lines.new.reading file)
-        ≡ drop 1 (lines_from lines.old.number (left_of lines.old.reading file)))
-        × (end_behind lines.new.number (left_of lines.new.reading file) ≡ end_behind lines.old.number (left_of lines.old.reading file))
+        (lines_from lines.new.number (bytes_left lines.new.reading file)
+        ≡ drop 1 (lines_from lines.old.number (bytes_left lines.old.reading file)))
+        × (end_behind lines.new.number (bytes_left lines.new.reading file)
+        ≡ end_behind lines.old.number (bytes_left lines.old.reading file))
         × (lines.old.number ≤ lines.new.number))) }
     ensures some { IfOk result (λ mv. IsSome mv → 0 < to_come) }
     ensures no_memory { result ≢ Err StreamEnd.OutOfMemory }
@@ -75,7 +76,7 @@ fn read_found(
     to_come: u64,
 ) -> Result<Option<Move>, CertFault>
     requires { OnSome found (is_filled (words_here line.now.done) ≡ true) }
-    ensures answer { MatchOption found (result ≡ next_of end_line to_come [])
+    ensures answer { MatchOption found (result ≡ next_move_of end_line to_come [])
         (λ number. (words : List (List ℕ)) → SameLine (words_here line.now.done) words
         → result ≡ next_on to_come (record { number = number; words = words })) }
     ensures some { IfOk result (λ mv. IsSome mv → 0 < to_come) }
@@ -131,12 +132,12 @@ pub(crate) fn read_stream_head<S: Shelf>(
     requires place { lines.old.reading.place ≡ 0 }
     requires number { lines.old.number ≡ 1 }
     ensures answer { IfSome (file_of (S.held shelf.old) name.now) (λ file. Reads lines.old.reading file →
-        IsAnswer result (head_of_text file)) }
+        IsStreamAnswer result (head_of_text file)) }
     ensures reads { OnOk result (IfSome (file_of (S.held shelf.old) name.now)
         (λ file. Reads lines.old.reading file → Reads lines.new.reading file)) }
     ensures left { OnOk result (IfSome (file_of (S.held shelf.old) name.now) (λ file. Reads lines.old.reading file →
-        (lines_from lines.new.number (left_of lines.new.reading file) ≡ behind_head (full_lines file))
-        × (end_behind lines.new.number (left_of lines.new.reading file) ≡ end_line file)
+        (lines_from lines.new.number (bytes_left lines.new.reading file) ≡ behind_head (full_lines file))
+        × (end_behind lines.new.number (bytes_left lines.new.reading file) ≡ end_line file)
         × (1 < lines.new.number))) }
     ensures peak { IfOk result IsWithinPeak }
     ensures no_memory { result ≢ Err StreamEnd.OutOfMemory }
@@ -172,7 +173,7 @@ pub(crate) fn read_stream_head<S: Shelf>(
 fn answer_found(line: &ShortLine, found: Option<u64>) -> Option<Answer>
     requires { OnSome found (is_filled (words_here line.now.done) ≡ true) }
     ensures { MatchOption found (result ≡ None) (λ number. (words : List (List ℕ)) → SameLine (words_here line.now.done) words
-        → result ≡ answer_of words) }
+        → result ≡ answer_alone words) }
 {
     found?;
     pass_answer(&mut at_words(line))

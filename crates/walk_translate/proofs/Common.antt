@@ -26,7 +26,7 @@ pub use Rattle.tree_cotree.specs.Splits.{IsSplit, SplitView}
 pub use Rattle.turn_words.specs.FormLaws.{led}
 pub use Rattle.turn_words.specs.HyperStates.{BelongsTo, HyperState, IsEven, IsHyperWheel, empty_state, hyper_next}
 pub use Rattle.turn_words.specs.declared.word.Word.TheVariants.{Flat, Turns}
-pub use Rattle.walk_translate.specs.DartSpokes.{AreSpokesBelow, AreSpokesOf, kept_at}
+pub use Rattle.walk_translate.specs.DartSpokes.{AreSpokesBelow, AreSpokesOf, spokes_kept_at}
 pub use Rattle.walk_translate.specs.Found.{DoDecide}
 pub use Rattle.walk_translate.specs.LabelledSurfaces.{IsLabelledSurface, IsWordUnder, LabelledView}
 pub use Rattle.walk_translate.specs.SurfaceLabels.{HasSphereSplit, IsLabelledByCut, IsSurfaceLabelling}

@@ -1,5 +1,5 @@
 -- Walks whose darts are looked up once: the spokes of their darts, and the states to which they lead.
-use Rattle.walk_translate.proofs.Common.{flat_next, origin, OrientedMesh, IsOrientedSurface, quad_path_below, hyper_wheel_of_good, IsGood, LabellingView, spokes, quad_path, spoke_list, IsWordOf, one_sum, ◌≡◌, ◌⊎◌, inl, inr, ℕ, zero, suc, ◌+◌, ◌*◌, ◌<◌, ◌≤◌, true, false, List, [], ◌∷◌, ◌++◌, length, get_or, refl, ap, sym, ◌∙◌, subst, arith, add-one, append-nil, get_or_append_left, get_or_default, length-append, ◌↔◌, All, IsTrue, Option, Some, None, IfSome, edge_swap, head_used, table_pair, Edge, IsTableOf, HasEnds, edge_in, FaceList, is_edge, is_used, Homotopic, darts, IsWalk, AreWalkPair, led, HyperState, IsHyperWheel, BelongsTo, IsEven, empty_state, hyper_next, Turns, AreSpokesBelow, AreSpokesOf, kept_at, IsLabelledByCut}
+use Rattle.walk_translate.proofs.Common.{flat_next, origin, OrientedMesh, IsOrientedSurface, quad_path_below, hyper_wheel_of_good, IsGood, LabellingView, spokes, quad_path, spoke_list, IsWordOf, one_sum, ◌≡◌, ◌⊎◌, inl, inr, ℕ, zero, suc, ◌+◌, ◌*◌, ◌<◌, ◌≤◌, true, false, List, [], ◌∷◌, ◌++◌, length, get_or, refl, ap, sym, ◌∙◌, subst, arith, add-one, append-nil, get_or_append_left, get_or_default, length-append, ◌↔◌, All, IsTrue, Option, Some, None, IfSome, edge_swap, head_used, table_pair, Edge, IsTableOf, HasEnds, edge_in, FaceList, is_edge, is_used, Homotopic, darts, IsWalk, AreWalkPair, led, HyperState, IsHyperWheel, BelongsTo, IsEven, empty_state, hyper_next, Turns, AreSpokesBelow, AreSpokesOf, spokes_kept_at, IsLabelledByCut}
 use Rattle.labellings.proofs.FoldLemmas.{PutLaws}
 use Rattle.labellings.proofs.KeepingLemmas.{moves_keep}
 use Rattle.std.proofs.Math.Seq.{get_or-append_seam}
@@ -32,14 +32,14 @@ pub spokes_more : (mesh : FaceList) (labelling : LabellingView) (table : List Ed
 spokes_more mesh labelling table n kept there back is up down =
     let one : List (Option (Spoke × Spoke)) = kept ++ there ∷ [] in
     let more : length one ≡ length kept + 1 = length-append kept (there ∷ []) in
-    let early : (i : ℕ) → i < 2 * n → kept_at (one ++ back ∷ []) i ≡ kept_at kept i =
+    let early : (i : ℕ) → i < 2 * n → spokes_kept_at (one ++ back ∷ []) i ≡ spokes_kept_at kept i =
     λ i l.
     get_or_append_left one (back ∷ []) None i (omega (arith, more, is.two_each))
     ∙ get_or_append_left kept (there ∷ []) None i (omega (arith, is.two_each)) in
-    let first : kept_at (one ++ back ∷ []) (2 * n) ≡ there =
+    let first : spokes_kept_at (one ++ back ∷ []) (2 * n) ≡ there =
     get_or_append_left one (back ∷ []) None (2 * n) (omega (arith, more, is.two_each))
     ∙ ap (λ i. get_or one i None) (sym is.two_each) ∙ get_or-append_seam kept there [] None in
-    let second : kept_at (one ++ back ∷ []) (2 * n + 1) ≡ back =
+    let second : spokes_kept_at (one ++ back ∷ []) (2 * n + 1) ≡ back =
     ap (λ i. get_or (one ++ back ∷ []) i None) (omega (arith, more, is.two_each)) ∙ get_or-append_seam one back [] None in
     record {
       two_each = omega (arith, length-append one (back ∷ []), more, is.two_each);
@@ -47,21 +47,22 @@ spokes_more mesh labelling table n kept there back is up down =
         | inl before ↦ is.there k before ∙ ap spoke_list (sym (early (2 * k) (omega (arith, before))))
         | inr last ↦
             subst (λ i.
-            spokes mesh labelling (edge_in table i).low (edge_in table i).high ≡ spoke_list (kept_at (one ++ back ∷ []) (2 * i)))
+            spokes mesh labelling (edge_in table i).low (edge_in table i).high ≡ spoke_list (spokes_kept_at (one ++ back ∷ []) (2 * i)))
             (sym last) (up ∙ ap spoke_list (sym first))
       ];
       back = λ k l. elim (before_or_last k n l) [
         | inl before ↦ is.back k before ∙ ap spoke_list (sym (early (2 * k + 1) (omega (arith, before))))
         | inr last ↦
             subst (λ i. spokes mesh labelling (edge_in table i).high (edge_in table i).low
-            ≡ spoke_list (kept_at (one ++ back ∷ []) (2 * i + 1))) (sym last) (down ∙ ap spoke_list (sym second))
+            ≡ spoke_list (spokes_kept_at (one ++ back ∷ []) (2 * i + 1))) (sym last) (down ∙ ap spoke_list (sym second))
       ];
     }
 
 -- the spokes that are kept of a dart
 pub kept_spokes : (mesh : FaceList) (labelling : LabellingView) (table : List Edge) (kept : List (Option (Spoke × Spoke))) (edge u v : ℕ)
     (found : Option (Spoke × Spoke)) → IsTableOf mesh table → AreSpokesOf mesh labelling table kept → edge < length table
-    → HasEnds u v (edge_in table edge) → (u < v → found ≡ kept_at kept (2 * edge)) → (v ≤ u → found ≡ kept_at kept (2 * edge + 1))
+    → HasEnds u v (edge_in table edge) → (u < v → found ≡ spokes_kept_at kept (2 * edge))
+    → (v ≤ u → found ≡ spokes_kept_at kept (2 * edge + 1))
     → spokes mesh labelling u v ≡ spoke_list found
 kept_spokes mesh labelling table kept edge u v found h is l (inl ends) up down =
     let rises : (edge_in table edge).low < (edge_in table edge).high =

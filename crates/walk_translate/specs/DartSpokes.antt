@@ -8,8 +8,8 @@ use Rattle.labellings.specs.QuadPaths.{spokes}
 use Rattle.labellings.specs.Spokes.{spoke_list}
 
 -- the spokes that are kept under a number
-abbrev pub kept_at : List (Option (Spoke × Spoke)) → ℕ → Option (Spoke × Spoke)
-kept_at kept number = slice_index_or kept number None
+abbrev pub spokes_kept_at : List (Option (Spoke × Spoke)) → ℕ → Option (Spoke × Spoke)
+spokes_kept_at kept number = slice_index_or kept number None
 
 -- kept are the spokes of both darts along each edge of which the number is below `n`, those of the dart from its lower vertex to its
 -- higher one before those of the dart back, and no others
@@ -17,9 +17,9 @@ pub record AreSpokesBelow (mesh : FaceList) (labelling : LabellingView) (table :
     : Type 0 where
   pub two_each : length kept ≡ 2 * n
   pub there : (k : ℕ) → k < n
-      → spokes mesh labelling (edge_in table k).low (edge_in table k).high ≡ spoke_list (kept_at kept (2 * k))
+      → spokes mesh labelling (edge_in table k).low (edge_in table k).high ≡ spoke_list (spokes_kept_at kept (2 * k))
   pub back : (k : ℕ) → k < n
-      → spokes mesh labelling (edge_in table k).high (edge_in table k).low ≡ spoke_list (kept_at kept (2 * k + 1))
+      → spokes mesh labelling (edge_in table k).high (edge_in table k).low ≡ spoke_list (spokes_kept_at kept (2 * k + 1))
 
 -- kept are the spokes of all darts
 abbrev pub AreSpokesOf : FaceList → LabellingView → List Edge → List (Option (Spoke × Spoke)) → Type 0

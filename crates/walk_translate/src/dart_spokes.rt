@@ -3,7 +3,7 @@ ghost use Rattle.std.specs.Prelude.{◌≡◌, ◌⊎◌, ◌+◌, ◌*◌, ◌<
 ghost use Rattle.surf_model.specs.FaceLists.{FaceList, is_edge};
 ghost use Rattle.surf_model.specs.Edges.{IsTableOf, HasEnds, edge_in};
 ghost use Rattle.labellings.specs.GoodLabellings.{IsGood};
-ghost use Rattle.walk_translate.specs.DartSpokes.{AreSpokesOf, kept_at};
+ghost use Rattle.walk_translate.specs.DartSpokes.{AreSpokesOf, spokes_kept_at};
 
 use labellings::GoodLabelling;
 use std::alloc::{AllocError, Global};
@@ -92,8 +92,8 @@ impl DartSpokes {
         to: VertexName,
     ) -> Option<(Spoke, Spoke)>
         requires { 2 * edge.0 + 1 < length self.now }
-        ensures there { from.0 < to.0 → result ≡ kept_at self.now (2 * edge.0) }
-        ensures back { to.0 ≤ from.0 → result ≡ kept_at self.now (2 * edge.0 + 1) }
+        ensures there { from.0 < to.0 → result ≡ spokes_kept_at self.now (2 * edge.0) }
+        ensures back { to.0 ≤ from.0 → result ≡ spokes_kept_at self.now (2 * edge.0 + 1) }
     {
         let back = if from.0 < to.0 { 0 } else { 1 };
         self.spokes[2 * edge.0 as usize + back]

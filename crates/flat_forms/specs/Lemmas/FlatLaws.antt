@@ -6,13 +6,13 @@ use Rattle.turn_words.specs.Modulo.{add, minus}
 use Rattle.turn_words.specs.FormLaws.{IsQuad, StartsWell, StaysWell, ThereAndBack, AcrossQuads}
 use Rattle.turn_words.specs.Lemmas.Sums.{add-cases, add-lt}
 use Rattle.flat_forms.specs.Vectors.{Vector, origin, plus, less, unit_step}
-use Rattle.flat_forms.specs.FlatStates.{parity, IsEven, IsFlatWheel, flat_next, size_of}
+use Rattle.flat_forms.specs.FlatStates.{parity, IsEvenPoint, IsFlatWheel, flat_next, size_of}
 use Rattle.flat_forms.specs.Lemmas.StepsInThePlane.{is-unit, parity-less, less-plus, plus-less, size-plus, size-less, next-even, next-odd, next-next, vertex-again}
 
-pub flat_starts : StartsWell IsFlatWheel (λ places _. IsFlatWheel places) IsEven size_of origin
+pub flat_starts : StartsWell IsFlatWheel (λ places _. IsFlatWheel places) IsEvenPoint size_of origin
 flat_starts = record { belongs = λ places own. own; at_vertex = refl; size_zero = refl }
 
-pub flat_stays : StaysWell (λ places _. IsFlatWheel places) IsEven size_of flat_next
+pub flat_stays : StaysWell (λ places _. IsFlatWheel places) IsEvenPoint size_of flat_next
 flat_stays = record {
   belongs = λ places s i own below. own;
   at_vertex = λ places s i j own even i_below j_below. rw (next-next places s i j even) (vertex-again s i j even);
@@ -27,7 +27,7 @@ flat_there_and_back places s i own below = elim (cases_eq (parity s) 0) [
   | inl even ↦ next-next places s i i even ∙ less-plus s (unit_step i)
   | inr odd ↦
       let turned = parity-less s (unit_step i) (is-unit i) in
-      let even : IsEven (less s (unit_step i)) = omega arith in
+      let even : IsEvenPoint (less s (unit_step i)) = omega arith in
       ap (λ z. flat_next places z i) (next-odd places s i odd) ∙ next-even places (less s (unit_step i)) i even ∙ plus-less s (unit_step i)
 ]
 
@@ -85,7 +85,7 @@ module _ (s : Vector) where
     ]
   ]
 
-pub flat_across : AcrossQuads (λ places _. IsFlatWheel places) IsEven flat_next
+pub flat_across : AcrossQuads (λ places _. IsFlatWheel places) IsEvenPoint flat_next
 flat_across places s a c own even quad =
     let a_below : a < 4 = rw (own.four) at quad.a_below in
     rw (own.four) (

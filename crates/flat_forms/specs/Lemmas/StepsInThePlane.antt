@@ -4,7 +4,7 @@ use Rattle.std.specs.Prelude.{unsigned_abs}
 use Rattle.std.proofs.lemmas.Bool.{cases_eq, eq-eqb, ne_eqb}
 use Rattle.std.proofs.lemmas.Int.{ints}
 use Rattle.flat_forms.specs.Vectors.{Vector, plus, less, unit_step}
-use Rattle.flat_forms.specs.FlatStates.{parity, IsEven, flat_next, size_of}
+use Rattle.flat_forms.specs.FlatStates.{parity, IsEvenPoint, flat_next, size_of}
 
 abbrev vector : ℤ → ℤ → Vector
 vector x y = record { x = x; y = y }
@@ -109,20 +109,20 @@ module _ (s e : Vector) where
       grown x y a b x_small y_small = rw (a, b) (omega arith)
 
 -- where a spoke leads
-pub next-even : (places : List ℕ) (s : Vector) (spoke : ℕ) → IsEven s → flat_next places s spoke ≡ plus s (unit_step spoke)
+pub next-even : (places : List ℕ) (s : Vector) (spoke : ℕ) → IsEvenPoint s → flat_next places s spoke ≡ plus s (unit_step spoke)
 next-even places s spoke e = rw (eq-eqb (parity s) 0 e) refl
 
-pub next-odd : (places : List ℕ) (s : Vector) (spoke : ℕ) → ¬ IsEven s → flat_next places s spoke ≡ less s (unit_step spoke)
+pub next-odd : (places : List ℕ) (s : Vector) (spoke : ℕ) → ¬ IsEvenPoint s → flat_next places s spoke ≡ less s (unit_step spoke)
 next-odd places s spoke e = rw (ne_eqb (parity s) 0 e) refl
 
 -- two spokes from the vertex
-pub next-next : (places : List ℕ) (s : Vector) (i j : ℕ) → IsEven s
+pub next-next : (places : List ℕ) (s : Vector) (i j : ℕ) → IsEvenPoint s
     → flat_next places (flat_next places s i) j ≡ less (plus s (unit_step i)) (unit_step j)
 next-next places s i j e =
     let turned = parity-plus s (unit_step i) (is-unit i) in
     ap (λ z. flat_next places z j) (next-even places s i e) ∙ next-odd places (plus s (unit_step i)) j (λ even. absurd (omega arith))
 
-pub vertex-again : (s : Vector) (i j : ℕ) → IsEven s → IsEven (less (plus s (unit_step i)) (unit_step j))
+pub vertex-again : (s : Vector) (i j : ℕ) → IsEvenPoint s → IsEvenPoint (less (plus s (unit_step i)) (unit_step j))
 vertex-again s i j e =
     let once = parity-plus s (unit_step i) (is-unit i) in
     let twice = parity-less (plus s (unit_step i)) (unit_step j) (is-unit j) in

@@ -6,31 +6,31 @@ use Rattle.spoke_rings.specs.CyclicWords.{turn_along, IsLoop}
 use Rattle.spoke_rings.specs.LoopSteps.{LoopLeads}
 
 -- the spokes from the seam on, and whether the seam stands at the vertex or in the middle
-pub record RingView : Type 0 where
+pub record SpokeRingView : Type 0 where
   pub spokes : List ℕ
   pub at_vertex : Bool
 
 -- the same closed list from the vertex on: where the seam stands in the middle, the last spoke comes first
-abbrev pub from_vertex : RingView → List ℕ
-from_vertex ring =
+abbrev pub ring_from_vertex : SpokeRingView → List ℕ
+ring_from_vertex ring =
     if ring.at_vertex then ring.spokes
     else drop (length ring.spokes - 1) ring.spokes ++ take (length ring.spokes - 1) ring.spokes
 
 -- the turns from the seam on, again and again
-abbrev pub ring_turn : List ℕ → RingView → ℕ → ℕ
+abbrev pub ring_turn : List ℕ → SpokeRingView → ℕ → ℕ
 ring_turn places ring = turn_along places ring.at_vertex ring.spokes
 
 -- the ring is a closed list, and steps lead to it from what it was
-pub record Acts (places : List ℕ) (old new : RingView) : Type 0 where
+pub record RingLeads (places : List ℕ) (old new : SpokeRingView) : Type 0 where
   pub loop : IsLoop places new.spokes
-  pub leads : LoopLeads places (from_vertex old) (from_vertex new)
+  pub leads : LoopLeads places (ring_from_vertex old) (ring_from_vertex new)
 
 -- one place on or back, and the way back
 abbrev pub one_on : ℕ → Bool → ℕ
 one_on degree up = if up then 1 else minus degree 1
 
 -- the last spoke and the first are moved by one place against one another, round the point that the seam does not stand at
-pub record Pushes (places : List ℕ) (up : Bool) (old new : RingView) : Type 0 where
+pub record Pushes (places : List ℕ) (up : Bool) (old new : SpokeRingView) : Type 0 where
   pub loop : IsLoop places new.spokes
   pub at_vertex : new.at_vertex ≡ old.at_vertex
   pub as_long : length new.spokes ≡ length old.spokes
@@ -69,23 +69,23 @@ turns_sum turn zero = 0
 turns_sum turn (suc n) = turns_sum turn n + turn n
 
 -- a ring as long as before, of which the turns have a smaller sum
-pub record Rises (places : List ℕ) (old new : RingView) : Type 0 where
-  pub acts : Acts places old new
+pub record Rises (places : List ℕ) (old new : SpokeRingView) : Type 0 where
+  pub acts : RingLeads places old new
   pub as_long : length new.spokes ≡ length old.spokes
   pub lighter : turns_sum (ring_turn places new) (length new.spokes) < turns_sum (ring_turn places old) (length old.spokes)
 
 -- a ring that lost two spokes
-pub record Shortens (places : List ℕ) (old new : RingView) : Type 0 where
-  pub acts : Acts places old new
+pub record Shortens (places : List ℕ) (old new : SpokeRingView) : Type 0 where
+  pub acts : RingLeads places old new
   pub shorter : length new.spokes + 2 ≡ length old.spokes
 
 -- nothing stands at any seam of a ring
-abbrev pub IsFineRing : List ℕ → RingView → Type 0
+abbrev pub IsFineRing : List ℕ → SpokeRingView → Type 0
 IsFineRing places ring =
     (j : ℕ) → j < length ring.spokes → IsFine (length places) (length ring.spokes) (λ k. ring_turn places ring (j + k))
 
 -- a ring as long as before, with turns 2 alone
-pub record TurnsOver (places : List ℕ) (old new : RingView) : Type 0 where
-  pub acts : Acts places old new
+pub record TurnsOver (places : List ℕ) (old new : SpokeRingView) : Type 0 where
+  pub acts : RingLeads places old new
   pub as_long : length new.spokes ≡ length old.spokes
   pub twos : (k : ℕ) → ring_turn places new k ≡ 2

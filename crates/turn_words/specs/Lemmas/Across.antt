@@ -4,15 +4,15 @@ use Rattle.std.proofs.lemmas.Bool.{cases_eq, cases_Bool}
 use Rattle.turn_words.specs.Modulo.{add, minus}
 use Rattle.turn_words.specs.PutTurns.{Put, is_open, flipped, closed, put}
 use Rattle.turn_words.specs.Lemmas.Sums.{add-cases, minus-one, minus-two, add-zero, zero-add, add_comm}
-use Rattle.turn_words.specs.Lemmas.WordEnds.{Follows, IsGood, IsCons, good-head, open-two, open-other, open-cases, flipped-run, flipped-end, flipped-cons, closed-two, closed-cons, put-flip, put-close, put-else}
+use Rattle.turn_words.specs.Lemmas.WordEnds.{Follows, IsCanonicalBackward, IsCons, good-head, open-two, open-other, open-cases, flipped-run, flipped-end, flipped-cons, closed-two, closed-cons, put-flip, put-close, put-else}
 use Rattle.turn_words.specs.Lemmas.PutLaws.{follows-down, up-down, follows-up, follows-two, follows-one, follows-minus-two}
 
 -- the first side and the second side
-abbrev pub first_side : ℕ → List ℕ → ℕ → Put
-first_side d r t = let before = put d r t in put d before.word (add d 1 before.change)
+abbrev pub first_quad_side : ℕ → List ℕ → ℕ → Put
+first_quad_side d r t = let before = put d r t in put d before.word (add d 1 before.change)
 
-abbrev pub second_side : ℕ → List ℕ → ℕ → Put
-second_side d r t = let before = put d r t in put d before.word (add d (minus d 1) before.change)
+abbrev pub second_quad_side : ℕ → List ℕ → ℕ → Put
+second_quad_side d r t = let before = put d r t in put d before.word (add d (minus d 1) before.change)
 
 -- the same word, and the changes differ by one
 pub record Agree (d : ℕ) (p q : Put) : Type 0 where
@@ -52,7 +52,7 @@ module _ (d : ℕ) (five : 5 ≤ d) where
   zero-down = zero-add d (minus d 1) (omega (arith, minus-one d five))
 
   -- a turn 0: the last entry goes
-  across-zero-end : (x : ℕ) (r : List ℕ) → IsGood d (x ∷ r) → (IsCons r → x ≢ minus d 2)
+  across-zero-end : (x : ℕ) (r : List ℕ) → IsCanonicalBackward d (x ∷ r) → (IsCons r → x ≢ minus d 2)
       → put d r (add d 1 x) ≡ record { word = add d x 1 ∷ r; change = 0 }
   across-zero-end x [] g h = let turned = add_comm d 1 x in rw turned refl
   across-zero-end x (y ∷ r) g h =
@@ -60,7 +60,7 @@ module _ (d : ℕ) (five : 5 ≤ d) where
       rw (turned, put-else d five (y ∷ r) (add d x 1) tt (follows-up d five x y r g (h tt))) refl
 
   -- on the empty word
-  across-start : (t : ℕ) → t < d → Agree d (first_side d [] t) (second_side d [] (add d t (minus d 1)))
+  across-start : (t : ℕ) → t < d → Agree d (first_quad_side d [] t) (second_quad_side d [] (add d t (minus d 1)))
   across-start t h =
       rw (
         one-zero,
@@ -72,19 +72,22 @@ module _ (d : ℕ) (five : 5 ≤ d) where
       (record { word = refl; change = zero-up })
 
   -- a spur against a flip
-  across-zero-run : (y : ℕ) (r : List ℕ) → Agree d (first_side d (minus d 2 ∷ y ∷ r) 0) (second_side d (minus d 2 ∷ y ∷ r) (minus d 1))
+  across-zero-run : (y : ℕ) (r : List ℕ)
+      → Agree d (first_quad_side d (minus d 2 ∷ y ∷ r) 0) (second_quad_side d (minus d 2 ∷ y ∷ r) (minus d 1))
   across-zero-run y r =
       let turned = add_comm d 1 (minus d 2) in
       rw (put-flip d five (minus d 2 ∷ y ∷ r) tt, flipped-run d five (y ∷ r) tt, minus-up, turned, two-up, put-flip d five (y ∷ r) tt)
       (record { word = refl; change = one-one })
 
-  across-zero-last : (x : ℕ) (r : List ℕ) → IsGood d (x ∷ r) → (IsCons r → x ≢ minus d 2) → flipped d (x ∷ r) ≡ 1 ∷ add d x 1 ∷ r
-      → Agree d (first_side d (x ∷ r) 0) (second_side d (x ∷ r) (minus d 1))
+  across-zero-last : (x : ℕ) (r : List ℕ) → IsCanonicalBackward d (x ∷ r) → (IsCons r → x ≢ minus d 2)
+      → flipped d (x ∷ r) ≡ 1 ∷ add d x 1 ∷ r
+      → Agree d (first_quad_side d (x ∷ r) 0) (second_quad_side d (x ∷ r) (minus d 1))
   across-zero-last x r g h f =
       rw (across-zero-end x r g h, put-flip d five (x ∷ r) tt, minus-up, f)
       (record { word = refl; change = zero-up })
 
-  across-zero : (x : ℕ) (r : List ℕ) → IsGood d (x ∷ r) → Agree d (first_side d (x ∷ r) 0) (second_side d (x ∷ r) (minus d 1))
+  across-zero : (x : ℕ) (r : List ℕ) → IsCanonicalBackward d (x ∷ r)
+      → Agree d (first_quad_side d (x ∷ r) 0) (second_quad_side d (x ∷ r) (minus d 1))
   across-zero x [] g = across-zero-last x [] g (λ c. absurd c) refl
   across-zero x (y ∷ r) g = elim (cases_eq x (minus d 2)) [
     | inl e ↦ rw e (across-zero-run y r)
@@ -92,26 +95,27 @@ module _ (d : ℕ) (five : 5 ≤ d) where
   ]
 
   -- a close against a spur
-  across-one-bracket : (x : ℕ) (r : List ℕ) → IsGood d (1 ∷ x ∷ r) → Agree d (first_side d (1 ∷ x ∷ r) 1) (second_side d (1 ∷ x ∷ r) 0)
+  across-one-bracket : (x : ℕ) (r : List ℕ) → IsCanonicalBackward d (1 ∷ x ∷ r)
+      → Agree d (first_quad_side d (1 ∷ x ∷ r) 1) (second_quad_side d (1 ∷ x ∷ r) 0)
   across-one-bracket x r g =
       let below = good-head d x r g.2 in
       rw (put-close d five (1 ∷ x ∷ r) refl, one-minus, minus-up)
       (record { word = refl; change = up-down d five x below })
 
-  across-one-run : (r : List ℕ) → IsCons r → is_open r ≡ true → Agree d (first_side d (2 ∷ r) 1) (second_side d (2 ∷ r) 0)
+  across-one-run : (r : List ℕ) → IsCons r → is_open r ≡ true → Agree d (first_quad_side d (2 ∷ r) 1) (second_quad_side d (2 ∷ r) 0)
   across-one-run r c o =
       let turned = add_comm d (minus d 1) 2 in
       rw (put-close d five (2 ∷ r) (open-two r c ∙ o), one-minus, closed-two d five r c, turned, two-down, put-close d five r o)
       (record { word = refl; change = two-up })
 
   -- a turn 1 that closes no bracket against a spur
-  put-down : (x : ℕ) (r : List ℕ) → IsGood d (x ∷ r) → is_open (x ∷ r) ≡ false
+  put-down : (x : ℕ) (r : List ℕ) → IsCanonicalBackward d (x ∷ r) → is_open (x ∷ r) ≡ false
       → put d r (add d x (minus d 1)) ≡ record { word = add d x (minus d 1) ∷ r; change = 0 }
   put-down x [] g o = refl
   put-down x (y ∷ r) g o = put-else d five (y ∷ r) (add d x (minus d 1)) tt (follows-down d five x y r g o)
 
-  across-one-none : (x : ℕ) (r : List ℕ) → IsGood d (x ∷ r) → is_open (x ∷ r) ≡ false
-      → Agree d (first_side d (x ∷ r) 1) (second_side d (x ∷ r) 0)
+  across-one-none : (x : ℕ) (r : List ℕ) → IsCanonicalBackward d (x ∷ r) → is_open (x ∷ r) ≡ false
+      → Agree d (first_quad_side d (x ∷ r) 1) (second_quad_side d (x ∷ r) 0)
   across-one-none x r g o =
       let turned = add_comm d (minus d 1) x in
       rw (
@@ -124,7 +128,7 @@ module _ (d : ℕ) (five : 5 ≤ d) where
       (record { word = refl; change = minus-up })
 
   -- a flip against a turn -2
-  across-minus : (x : ℕ) (r : List ℕ) → Agree d (first_side d (x ∷ r) (minus d 1)) (second_side d (x ∷ r) (minus d 2))
+  across-minus : (x : ℕ) (r : List ℕ) → Agree d (first_quad_side d (x ∷ r) (minus d 1)) (second_quad_side d (x ∷ r) (minus d 2))
   across-minus x r =
       let more = flipped-cons d five x r in
       rw (
@@ -138,7 +142,7 @@ module _ (d : ℕ) (five : 5 ≤ d) where
       ) (record { word = refl; change = zero-up })
 
   -- a turn 2 against a turn 1
-  across-two-open : (x : ℕ) (r : List ℕ) → is_open (x ∷ r) ≡ true → Agree d (first_side d (x ∷ r) 2) (second_side d (x ∷ r) 1)
+  across-two-open : (x : ℕ) (r : List ℕ) → is_open (x ∷ r) ≡ true → Agree d (first_quad_side d (x ∷ r) 2) (second_quad_side d (x ∷ r) 1)
   across-two-open x r o =
       rw (
         put-else d five (x ∷ r) 2 tt (follows-two d five _),
@@ -149,7 +153,7 @@ module _ (d : ℕ) (five : 5 ≤ d) where
         put-else d five (closed d (x ∷ r)) (minus d 2) (closed-cons d five x r) (follows-minus-two d five _),
       ) (record { word = refl; change = minus-up })
 
-  across-two-none : (x : ℕ) (r : List ℕ) → is_open (x ∷ r) ≡ false → Agree d (first_side d (x ∷ r) 2) (second_side d (x ∷ r) 1)
+  across-two-none : (x : ℕ) (r : List ℕ) → is_open (x ∷ r) ≡ false → Agree d (first_quad_side d (x ∷ r) 2) (second_quad_side d (x ∷ r) 1)
   across-two-none x r o =
       let off = minus-two d five in
       rw (
@@ -165,7 +169,7 @@ module _ (d : ℕ) (five : 5 ≤ d) where
 
   -- every other turn
   across-other : (x t : ℕ) (r : List ℕ) → t < d → t ≢ 0 → t ≢ 1 → t ≢ 2 → t ≢ minus d 1
-      → Agree d (first_side d (x ∷ r) t) (second_side d (x ∷ r) (add d t (minus d 1)))
+      → Agree d (first_quad_side d (x ∷ r) t) (second_quad_side d (x ∷ r) (add d t (minus d 1)))
   across-other x t r below a b c e =
       let one = minus-one d five in
       let two = minus-two d five in
@@ -187,28 +191,29 @@ module _ (d : ℕ) (five : 5 ≤ d) where
         up-down d five t below,
       ) (record { word = refl; change = zero-up })
 
-  across-one-open : (x : ℕ) (r : List ℕ) → IsGood d (x ∷ r) → is_open (x ∷ r) ≡ true
-      → Agree d (first_side d (x ∷ r) 1) (second_side d (x ∷ r) 0)
+  across-one-open : (x : ℕ) (r : List ℕ) → IsCanonicalBackward d (x ∷ r) → is_open (x ∷ r) ≡ true
+      → Agree d (first_quad_side d (x ∷ r) 1) (second_quad_side d (x ∷ r) 0)
   across-one-open x [] g o = absurd cc
   across-one-open x (y ∷ r) g o = elim ((open-cases x (y ∷ r) o).1) [
-    | inl one ↦ rw one (across-one-bracket y r (subst (λ n. IsGood d (n ∷ y ∷ r)) one g))
+    | inl one ↦ rw one (across-one-bracket y r (subst (λ n. IsCanonicalBackward d (n ∷ y ∷ r)) one g))
     | inr two ↦ rw two.0 (across-one-run (y ∷ r) tt two.1)
   ]
 
-  across-one : (x : ℕ) (r : List ℕ) → IsGood d (x ∷ r) → Agree d (first_side d (x ∷ r) 1) (second_side d (x ∷ r) 0)
+  across-one : (x : ℕ) (r : List ℕ) → IsCanonicalBackward d (x ∷ r) → Agree d (first_quad_side d (x ∷ r) 1) (second_quad_side d (x ∷ r) 0)
   across-one x r g = elim (cases_Bool (is_open (x ∷ r))) [
     | inl o ↦ across-one-open x r g o
     | inr o ↦ across-one-none x r g o
   ]
 
-  across-two : (x : ℕ) (r : List ℕ) → Agree d (first_side d (x ∷ r) 2) (second_side d (x ∷ r) 1)
+  across-two : (x : ℕ) (r : List ℕ) → Agree d (first_quad_side d (x ∷ r) 2) (second_quad_side d (x ∷ r) 1)
   across-two x r = elim (cases_Bool (is_open (x ∷ r))) [
     | inl o ↦ across-two-open x r o
     | inr o ↦ across-two-none x r o
   ]
 
   -- the second law: across a quad
-  pub across : (r : List ℕ) (t : ℕ) → IsGood d r → t < d → Agree d (first_side d r t) (second_side d r (add d t (minus d 1)))
+  pub across : (r : List ℕ) (t : ℕ) → IsCanonicalBackward d r → t < d
+      → Agree d (first_quad_side d r t) (second_quad_side d r (add d t (minus d 1)))
   across [] t g below = across-start t below
   across (x ∷ r) t g below = elim (cases_eq t 0) [
     | inl e ↦ rw (e, zero-down) (across-zero x r g)

@@ -6,7 +6,7 @@ use Rattle.std.proofs.lemmas.List.{append-nil, reverse-reverse}
 use Rattle.std.proofs.lemmas.List.Elements.{recursion_from_All, All-nil, All-cons}
 use Rattle.turn_words.specs.PutTurns.{is_open}
 use Rattle.turn_words.specs.Canonical.{turns_of, closes_bracket, AreReduced, IsCanonical}
-use Rattle.turn_words.specs.Lemmas.WordEnds.{IsGood, open-cases, open-two}
+use Rattle.turn_words.specs.Lemmas.WordEnds.{IsCanonicalBackward, open-cases, open-two}
 use Rattle.turn_words.specs.Lemmas.Lists.{InRange, reverse-next}
 
 pub in-range-from : (d : ℕ) (w : List ℕ) → All (λ entry. entry < d) w → InRange d w
@@ -24,7 +24,7 @@ pub in-range-reverse : (d : ℕ) (r w : List ℕ) → InRange d r → InRange d 
 in-range-reverse d [] w h i = i
 in-range-reverse d (x ∷ r) w h i = rw (reverse-next x r w) (in-range-reverse d r (x ∷ w) h.1 (h.0, i))
 
-in-range-good : (d : ℕ) (r : List ℕ) → IsGood d r → InRange d r
+in-range-good : (d : ℕ) (r : List ℕ) → IsCanonicalBackward d r → InRange d r
 in-range-good d [] g = tt
 in-range-good d (x ∷ []) g = (g, tt)
 in-range-good d (x ∷ y ∷ r) g = (g.0, in-range-good d (y ∷ r) g.2)
@@ -47,7 +47,7 @@ meets-next x y r ts none meets opened = elim (cases_eq x 1) [
   ]
 ]
 
-reduced-from : (d x : ℕ) (r ts : List ℕ) → IsGood d (x ∷ r) → AreReduced d ts → Meets (x ∷ r) ts
+reduced-from : (d x : ℕ) (r ts : List ℕ) → IsCanonicalBackward d (x ∷ r) → AreReduced d ts → Meets (x ∷ r) ts
     → AreReduced d (turns_of (reverse (x ∷ r) ++ ts))
 reduced-from d x [] ts g a meets = a
 reduced-from d x (y ∷ r) ts g a meets =
@@ -58,7 +58,7 @@ reduced-from d x (y ∷ r) ts g a meets =
     )
 
 record Splits (d x : ℕ) (r ts : List ℕ) : Type 0 where
-  good : IsGood d (x ∷ r)
+  good : IsCanonicalBackward d (x ∷ r)
   reduced : AreReduced d ts
   meets : Meets (x ∷ r) ts
 
@@ -80,7 +80,7 @@ good-from d x (y ∷ r) ts i a =
     }
 
 -- a word that is canonical from its end is canonical
-pub canonical-from : (d : ℕ) (r : List ℕ) → IsGood d r → IsCanonical d (reverse r)
+pub canonical-from : (d : ℕ) (r : List ℕ) → IsCanonicalBackward d r → IsCanonical d (reverse r)
 canonical-from d [] g = record { in_range = All-nil (λ entry. entry < d); reduced = tt }
 canonical-from d (x ∷ r) g =
     let reduced = reduced-from d x r [] g tt (λ opened. refl) in
@@ -91,7 +91,7 @@ canonical-from d (x ∷ r) g =
     }
 
 -- a canonical word is canonical from its end
-pub good-from-canonical : (d : ℕ) (r : List ℕ) → IsCanonical d (reverse r) → IsGood d r
+pub good-from-canonical : (d : ℕ) (r : List ℕ) → IsCanonical d (reverse r) → IsCanonicalBackward d r
 good-from-canonical d [] c = tt
 good-from-canonical d (x ∷ r) c =
     let range = in-range-reverse d (reverse (x ∷ r)) [] (in-range-from d (reverse (x ∷ r)) c.in_range) tt in

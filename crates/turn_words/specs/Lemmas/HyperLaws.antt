@@ -8,9 +8,9 @@ use Rattle.turn_words.specs.Wheels.{IsWheel}
 use Rattle.turn_words.specs.HyperStates.{HyperState, empty_state, IsEven, value_at, turn_to, hyper_next, IsHyperWheel, BelongsTo}
 use Rattle.turn_words.specs.FormLaws.{StartsWell, StaysWell, ThereAndBack, AcrossQuads}
 use Rattle.turn_words.specs.Lemmas.Sums.{add-cases, minus-cases, minus-one, add-lt, minus-lt}
-use Rattle.turn_words.specs.Lemmas.WordEnds.{IsGood, open-cases, put-flip, put-close, put-else}
+use Rattle.turn_words.specs.Lemmas.WordEnds.{IsCanonicalBackward, open-cases, put-flip, put-close, put-else}
 use Rattle.turn_words.specs.Lemmas.PutLaws.{put-good, put-put, cases, spur, flip, close, other}
-use Rattle.turn_words.specs.Lemmas.Across.{first_side, second_side, across}
+use Rattle.turn_words.specs.Lemmas.Across.{first_quad_side, second_quad_side, across}
 use Rattle.turn_words.specs.Lemmas.FromEnd.{canonical-from, good-from-canonical}
 
 module _ (d : ℕ) (five : 5 ≤ d) where
@@ -124,7 +124,7 @@ next-is : (places : List ℕ) (s : HyperState) (i : ℕ) (u : List ℕ) (n : ℕ
 next-is places s i u n e =
     ap (λ q. record_state (reverse q.word) (add (length places) (value_at places (reverse q.word) i) (minus (length places) q.change))) e
 
-pub good_word : (places : List ℕ) (s : HyperState) → BelongsTo places s → IsGood (length places) (reverse s.word)
+pub good_word : (places : List ℕ) (s : HyperState) → BelongsTo places s → IsCanonicalBackward (length places) (reverse s.word)
 good_word places s b = good-from-canonical (length places) (reverse s.word) (rw (reverse-reverse s.word) b.canonical)
 
 pub turn_below : (places : List ℕ) (s : HyperState) (i : ℕ) → BelongsTo places s → i < length places → turn_to places s i < length places
@@ -259,9 +259,9 @@ hyper_across places s a c b even quad =
     let other_end =
     put-good d five (put d u low).word (add d (minus d 1) (put d u low).change) other_kept.0
     (add-lt d (minus d 1) _ (minus-lt d 1 one_below) other_kept.1) in
-    let numbers : add d (slice_index places (add d a 1)) (minus d (first_side d u t).change)
-    ≡ add d (slice_index places c) (minus d (second_side d u low).change) =
-    ap (λ v. add d v (minus d (first_side d u t).change)) quad.c_place
-    ∙ last-number d five (slice_index places c) (first_side d u t).change
-    (second_side d u low).change c_place_below first_end.1 other_end.1 agree.change in
+    let numbers : add d (slice_index places (add d a 1)) (minus d (first_quad_side d u t).change)
+    ≡ add d (slice_index places c) (minus d (second_quad_side d u low).change) =
+    ap (λ v. add d v (minus d (first_quad_side d u t).change)) quad.c_place
+    ∙ last-number d five (slice_index places c) (first_quad_side d u t).change
+    (second_quad_side d u low).change c_place_below first_end.1 other_end.1 agree.change in
     one ∙ ap₂ record_state (ap reverse agree.word) numbers ∙ sym two

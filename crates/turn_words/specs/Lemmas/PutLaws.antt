@@ -4,7 +4,7 @@ use Rattle.std.proofs.lemmas.Bool.{cases_eq, cases_Bool}
 use Rattle.turn_words.specs.Modulo.{add, minus}
 use Rattle.turn_words.specs.PutTurns.{is_open, flipped, closed, put}
 use Rattle.turn_words.specs.Lemmas.Sums.{add-cases, minus-one, minus-two, add-lt}
-use Rattle.turn_words.specs.Lemmas.WordEnds.{Follows, IsGood, IsCons, good-cons, good-head, good-tail, open-two, open-other, open-cases, flipped-run, flipped-end, flipped-cons, closed-two, closed-cons, put-flip, put-close, put-else}
+use Rattle.turn_words.specs.Lemmas.WordEnds.{Follows, IsCanonicalBackward, IsCons, good-cons, good-head, good-tail, open-two, open-other, open-cases, flipped-run, flipped-end, flipped-cons, closed-two, closed-cons, put-flip, put-close, put-else}
 
 module _ (d : ℕ) (five : 5 ≤ d) where
   -- one up and one down
@@ -15,7 +15,7 @@ module _ (d : ℕ) (five : 5 ≤ d) where
   down-up x h = omega (arith, minus-one d five, add-cases d x 1, add-cases d (add d x 1) (minus d 1))
 
   -- one more than a turn before a flip is a turn that can follow
-  pub follows-up : (x y : ℕ) (r : List ℕ) → IsGood d (x ∷ y ∷ r) → x ≢ minus d 2 → Follows d (y ∷ r) (add d x 1)
+  pub follows-up : (x y : ℕ) (r : List ℕ) → IsCanonicalBackward d (x ∷ y ∷ r) → x ≢ minus d 2 → Follows d (y ∷ r) (add d x 1)
   follows-up x y r g no_run =
       let one = minus-one d five in
       let two = minus-two d five in
@@ -30,7 +30,7 @@ module _ (d : ℕ) (five : 5 ≤ d) where
       }
 
   -- the 1 that a flip puts in closes no bracket
-  pub no-bracket : (x : ℕ) (r : List ℕ) → IsGood d (x ∷ r) → is_open (add d x 1 ∷ r) ≡ false
+  pub no-bracket : (x : ℕ) (r : List ℕ) → IsCanonicalBackward d (x ∷ r) → is_open (add d x 1 ∷ r) ≡ false
   no-bracket x [] g = refl
   no-bracket x (y ∷ r) g =
       let sum = add-cases d x 1 in
@@ -74,7 +74,8 @@ module _ (d : ℕ) (five : 5 ≤ d) where
       }
 
   -- what a flip makes: canonical, open, and a close takes it back
-  flipped-end-good : (x : ℕ) (r : List ℕ) → IsGood d (x ∷ r) → (IsCons r → x ≢ minus d 2) → IsGood d (1 ∷ add d x 1 ∷ r)
+  flipped-end-good : (x : ℕ) (r : List ℕ) → IsCanonicalBackward d (x ∷ r) → (IsCons r → x ≢ minus d 2)
+      → IsCanonicalBackward d (1 ∷ add d x 1 ∷ r)
   flipped-end-good x [] g h =
       let below : x < d = g in
       (omega arith, follows-one (add d x 1 ∷ []) refl, add-lt d x 1 below (omega arith))
@@ -85,7 +86,7 @@ module _ (d : ℕ) (five : 5 ≤ d) where
         (add-lt d x 1 below (omega arith), follows-up x y r g (h tt), g.2),
       )
 
-  pub flipped-good : (x : ℕ) (r : List ℕ) → IsGood d (x ∷ r) → IsGood d (flipped d (x ∷ r))
+  pub flipped-good : (x : ℕ) (r : List ℕ) → IsCanonicalBackward d (x ∷ r) → IsCanonicalBackward d (flipped d (x ∷ r))
   flipped-good x [] g = flipped-end-good x [] g (λ c. absurd c)
   flipped-good x (y ∷ r) g = elim (cases_eq x (minus d 2)) [
     | inl e ↦
@@ -102,7 +103,7 @@ module _ (d : ℕ) (five : 5 ≤ d) where
     | inr e ↦ rw (flipped-end d five x (y ∷ r) e) refl
   ]
 
-  pub closed-flipped : (x : ℕ) (r : List ℕ) → IsGood d (x ∷ r) → closed d (flipped d (x ∷ r)) ≡ x ∷ r
+  pub closed-flipped : (x : ℕ) (r : List ℕ) → IsCanonicalBackward d (x ∷ r) → closed d (flipped d (x ∷ r)) ≡ x ∷ r
   closed-flipped x [] g = let back = down-up x g in rw back refl
   closed-flipped x (y ∷ r) g = elim (cases_eq x (minus d 2)) [
     | inl e ↦
@@ -113,7 +114,8 @@ module _ (d : ℕ) (five : 5 ≤ d) where
   ]
 
   -- where an entry opens no bracket, one less can follow what is before it
-  pub follows-down : (x y : ℕ) (r : List ℕ) → IsGood d (x ∷ y ∷ r) → is_open (x ∷ y ∷ r) ≡ false → Follows d (y ∷ r) (add d x (minus d 1))
+  pub follows-down : (x y : ℕ) (r : List ℕ) → IsCanonicalBackward d (x ∷ y ∷ r) → is_open (x ∷ y ∷ r) ≡ false
+      → Follows d (y ∷ r) (add d x (minus d 1))
   follows-down x y r g o =
       let one = minus-one d five in
       let sum = add-cases d x (minus d 1) in
@@ -130,7 +132,7 @@ module _ (d : ℕ) (five : 5 ≤ d) where
       }
 
   -- what a close makes of an open word: canonical, and a flip takes it back
-  closed-one-good : (x : ℕ) (r : List ℕ) → IsGood d (1 ∷ x ∷ r) → IsGood d (add d x (minus d 1) ∷ r)
+  closed-one-good : (x : ℕ) (r : List ℕ) → IsCanonicalBackward d (1 ∷ x ∷ r) → IsCanonicalBackward d (add d x (minus d 1) ∷ r)
   closed-one-good x [] g =
       let one = minus-one d five in
       let below : x < d = g.2 in
@@ -142,10 +144,10 @@ module _ (d : ℕ) (five : 5 ≤ d) where
         g.2.2,
       )
 
-  pub closed-good : (x : ℕ) (r : List ℕ) → IsGood d (x ∷ r) → is_open (x ∷ r) ≡ true → IsGood d (closed d (x ∷ r))
+  pub closed-good : (x : ℕ) (r : List ℕ) → IsCanonicalBackward d (x ∷ r) → is_open (x ∷ r) ≡ true → IsCanonicalBackward d (closed d (x ∷ r))
   closed-good x [] g o = absurd cc
   closed-good x (y ∷ r) g o = elim ((open-cases x (y ∷ r) o).1) [
-    | inl one ↦ rw one (closed-one-good y r (subst (λ n. IsGood d (n ∷ y ∷ r)) one g))
+    | inl one ↦ rw one (closed-one-good y r (subst (λ n. IsCanonicalBackward d (n ∷ y ∷ r)) one g))
     | inr two ↦
         let two_off = minus-two d five in
         let below : minus d 2 < d = omega arith in
@@ -155,11 +157,11 @@ module _ (d : ℕ) (five : 5 ≤ d) where
   ]
 
   -- no turn is -1
-  no-minus : (x : ℕ) (r : List ℕ) → IsGood d (x ∷ r) → IsCons r → x ≢ minus d 1
+  no-minus : (x : ℕ) (r : List ℕ) → IsCanonicalBackward d (x ∷ r) → IsCons r → x ≢ minus d 1
   no-minus x [] g c = absurd c
   no-minus x (y ∷ r) g c = g.1.no_flip
 
-  flipped-closed-one : (x : ℕ) (r : List ℕ) → IsGood d (x ∷ r) → (IsCons r → x ≢ minus d 1)
+  flipped-closed-one : (x : ℕ) (r : List ℕ) → IsCanonicalBackward d (x ∷ r) → (IsCons r → x ≢ minus d 1)
       → flipped d (add d x (minus d 1) ∷ r) ≡ 1 ∷ x ∷ r
   flipped-closed-one x [] g h = let back = up-down x g in rw back refl
   flipped-closed-one x (y ∷ r) g h =
@@ -171,7 +173,7 @@ module _ (d : ℕ) (five : 5 ≤ d) where
       let back = up-down x below in
       rw (flipped-end d five (add d x (minus d 1)) (y ∷ r) (λ e. absurd (not_minus (omega arith))), back) refl
 
-  pub flipped-closed : (x : ℕ) (r : List ℕ) → IsGood d (x ∷ r) → is_open (x ∷ r) ≡ true → flipped d (closed d (x ∷ r)) ≡ x ∷ r
+  pub flipped-closed : (x : ℕ) (r : List ℕ) → IsCanonicalBackward d (x ∷ r) → is_open (x ∷ r) ≡ true → flipped d (closed d (x ∷ r)) ≡ x ∷ r
   flipped-closed x [] g o = absurd cc
   flipped-closed x (y ∷ r) g o = elim ((open-cases x (y ∷ r) o).1) [
     | inl one ↦ rw one (flipped-closed-one y r g.2 (no-minus y r g.2))
@@ -182,7 +184,7 @@ module _ (d : ℕ) (five : 5 ≤ d) where
   closed-head x r = closed-cons d five x r
 
   -- the last turn, put back
-  pub put-back : (x : ℕ) (r : List ℕ) → IsGood d (x ∷ r) → put d r x ≡ record { word = x ∷ r; change = 0 }
+  pub put-back : (x : ℕ) (r : List ℕ) → IsCanonicalBackward d (x ∷ r) → put d r x ≡ record { word = x ∷ r; change = 0 }
   put-back x [] g = refl
   put-back x (y ∷ r) g = put-else d five (y ∷ r) x tt g.1
 
@@ -209,7 +211,7 @@ module _ (d : ℕ) (five : 5 ≤ d) where
   ]
 
   -- the word that is left stays canonical, and the change is a number below the degree
-  pub put-good : (r : List ℕ) (t : ℕ) → IsGood d r → t < d → IsGood d (put d r t).word × ((put d r t).change < d)
+  pub put-good : (r : List ℕ) (t : ℕ) → IsCanonicalBackward d r → t < d → IsCanonicalBackward d (put d r t).word × ((put d r t).change < d)
   put-good [] t g h = (h, omega arith)
   put-good (x ∷ r) t g h = elim (cases (x ∷ r) t) [
     | spur e ↦ rw e (good-tail d x r g, good-head d x r g)
@@ -219,7 +221,7 @@ module _ (d : ℕ) (five : 5 ≤ d) where
   ]
 
   -- there and back: the change, put as a turn, gives the word back, and the turn is the change
-  pub put-put : (r : List ℕ) (t : ℕ) → IsGood d r → put d (put d r t).word (put d r t).change ≡ record { word = r; change = t }
+  pub put-put : (r : List ℕ) (t : ℕ) → IsCanonicalBackward d r → put d (put d r t).word (put d r t).change ≡ record { word = r; change = t }
   put-put [] t g = refl
   put-put (x ∷ r) t g = elim (cases (x ∷ r) t) [
     | spur e ↦ rw e (put-back x r g)

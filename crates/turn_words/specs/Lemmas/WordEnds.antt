@@ -12,25 +12,25 @@ pub record Follows (d : ℕ) (r : List ℕ) (t : ℕ) : Type 0 where
   pub no_close : t ≡ 1 → is_open r ≡ false
 
 -- a canonical word, read from its end
-abbrev pub IsGood : ℕ → List ℕ → Type 0
-IsGood d [] = Unit {0}
-IsGood d (x ∷ []) = x < d
-IsGood d (t ∷ x ∷ r) = (t < d) × Follows d (x ∷ r) t × IsGood d (x ∷ r)
+abbrev pub IsCanonicalBackward : ℕ → List ℕ → Type 0
+IsCanonicalBackward d [] = Unit {0}
+IsCanonicalBackward d (x ∷ []) = x < d
+IsCanonicalBackward d (t ∷ x ∷ r) = (t < d) × Follows d (x ∷ r) t × IsCanonicalBackward d (x ∷ r)
 
 -- a word with an entry
 abbrev pub IsCons : List ℕ → Type 0
 IsCons [] = ⊥
 IsCons (x ∷ r) = Unit {0}
 
-pub good-cons : (d t : ℕ) (r : List ℕ) → IsCons r → t < d → Follows d r t → IsGood d r → IsGood d (t ∷ r)
+pub good-cons : (d t : ℕ) (r : List ℕ) → IsCons r → t < d → Follows d r t → IsCanonicalBackward d r → IsCanonicalBackward d (t ∷ r)
 good-cons d t [] c below f g = absurd c
 good-cons d t (x ∷ r) c below f g = (below, f, g)
 
-pub good-head : (d x : ℕ) (r : List ℕ) → IsGood d (x ∷ r) → x < d
+pub good-head : (d x : ℕ) (r : List ℕ) → IsCanonicalBackward d (x ∷ r) → x < d
 good-head d x [] g = g
 good-head d x (y ∷ r) g = g.0
 
-pub good-tail : (d x : ℕ) (r : List ℕ) → IsGood d (x ∷ r) → IsGood d r
+pub good-tail : (d x : ℕ) (r : List ℕ) → IsCanonicalBackward d (x ∷ r) → IsCanonicalBackward d r
 good-tail d x [] g = tt
 good-tail d x (y ∷ r) g = g.2
 

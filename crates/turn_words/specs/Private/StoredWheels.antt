@@ -9,7 +9,7 @@ pub record IsInverse (places spokes : List ℕ) : Type 0 where
   pub back : (place : ℕ) → place < length places → slice_index places (slice_index spokes place) ≡ place
 
 -- a wheel as it is stored
-pub record IsStored (places spokes : List ℕ) : Type 0 where
+pub record IsStoredWheel (places spokes : List ℕ) : Type 0 where
   pub few : length places < 2 ^ 32
   pub wheel : IsWheel places
   pub inverse : IsInverse places spokes

@@ -4,8 +4,8 @@ use Rattle.turn_words.specs.Modulo.{add}
 use Rattle.turn_words.specs.Runs.{written, AreApart}
 
 -- the word: the start direction stands apart from the runs
-abbrev pub word_of : ℕ → ℕ → List (ℕ × ℕ) → List ℕ
-word_of len start runs = if len == 0 then [] else start ∷ written runs
+abbrev pub word_of_runs : ℕ → ℕ → List (ℕ × ℕ) → List ℕ
+word_of_runs len start runs = if len == 0 then [] else start ∷ written runs
 
 -- a word as it is kept
 pub record IsStoredWord (len : ℕ) (runs : List (ℕ × ℕ)) : Type 0 where

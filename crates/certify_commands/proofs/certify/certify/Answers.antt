@@ -1,5 +1,6 @@
-use Rattle.certify_commands.proofs.Common.{certificate_answer, certify_limits, limit_word, pair_long, walks_of_pair, fitting, Exactly, decision_of, pair_in, arith, AreWalkPair}
+use Rattle.certify_commands.proofs.Common.{certificate_answer, certify_limits, limit_word, pair_long, walks_of_pair, fitting, Exactly, decision_of, arith, AreWalkPair}
 use Rattle.commands.proofs.Running.{tells_no_fault}
+use Rattle.commands.specs.Inputs.{pair_in}
 use Rattle.surface_commands.proofs.RunsOnWalks.{runs_asked, runs_refused_next, runs_refused_walks, runs_wanting}
 use Rattle.certify_commands.proofs.Certifying.{after_pair, certificate_found, limits_stop}
 use Rattle.certify_commands.proofs.certify.certify.Goals as goal

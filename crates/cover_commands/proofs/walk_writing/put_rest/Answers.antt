@@ -1,9 +1,9 @@
-use Rattle.cover_commands.proofs.Common.{drop, arith, err_from_is_err_and, each-none, each-more, each-fails, each-all, spaced}
+use Rattle.cover_commands.proofs.Common.{drop, arith, err_from_is_err_and, each-none, each-more, each-fails, each-all, spaced_number}
 use Rattle.cover_commands.proofs.WalkTexts.{behind_first, behind_length}
 use Rattle.cover_commands.proofs.walk_writing.put_rest.Goals as goal
 
 pub loop-place-init : goal.loop-place-init
-loop-place-init g c = each-none c.args.sink.now c.args.piece.now spaced (drop 1 c.args.walk.now)
+loop-place-init g c = each-none c.args.sink.now c.args.piece.now spaced_number (drop 1 c.args.walk.now)
 
 pub returns-in_err-put_behind : goal.returns-in_err-put_behind
 returns-in_err-put_behind g c =

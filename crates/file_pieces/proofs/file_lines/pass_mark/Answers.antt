@@ -1,4 +1,4 @@
-use Rattle.file_pieces.proofs.Common.{IsOn, Passes, Reads, left_of, Stands, ◌≡◌, ℕ, List, Bool, true, false, Some, [], ◌∷◌, arith, rules, file_of, unmarked}
+use Rattle.file_pieces.proofs.Common.{IsOn, PassesByte, Reads, bytes_left, Stands, ◌≡◌, ℕ, List, Bool, true, false, Some, [], ◌∷◌, arith, rules, file_of, unmarked}
 use Rattle.file_pieces.proofs.ReadingLemmas.{told}
 use Rattle.file_pieces.proofs.FileLineLemmas.{passes_told, put_told, no_mark_first, no_mark_second, no_mark_third, mark_passed}
 use Rattle.file_pieces.proofs.file_lines.pass_mark.Goals as goal
@@ -7,19 +7,20 @@ use Rattle.file_pieces.proofs.file_lines.pass_mark.Goals.{After-pass_byte-2, Aft
 -- what is left of the file behind the place of the first byte of a mark, passed over or not
 first_left : (g : _) (c : In_ok-pass_byte g) (passed : Bool) → c.in_ok-pass_byte.field-0 ≡ passed → (f : List ℕ)
     → file_of (g.S.Shelf.held c.args.shelf.now) c.args.name.now ≡ Some f → Reads c.args.pieces.now f
-    → Reads c.pass_byte.new.pieces f × Passes passed 239 f (left_of c.pass_byte.new.pieces f)
-first_left g c passed so f is reads = grind (arith, left_of, passes_told)
+    → Reads c.pass_byte.new.pieces f × PassesByte passed 239 f (bytes_left c.pass_byte.new.pieces f)
+first_left g c passed so f is reads = grind (arith, bytes_left, passes_told)
 
 -- and of the second
 second_left : (g : _) (c : In_ok-pass_byte-2 g) (passed : Bool) → c.in_ok-pass_byte-2.field-0 ≡ passed → (f : List ℕ)
     → file_of (g.S.Shelf.held c.args.shelf.now) c.args.name.now ≡ Some f → Reads c.pass_byte.new.pieces f
-    → Reads c.pass_byte-2.new.pieces f × Passes passed 187 (left_of c.pass_byte.new.pieces f) (left_of c.pass_byte-2.new.pieces f)
+    → Reads c.pass_byte-2.new.pieces f × PassesByte passed 187 (bytes_left c.pass_byte.new.pieces f) (bytes_left c.pass_byte-2.new.pieces f)
 second_left g c passed so f is reads = grind (arith, passes_told)
 
 -- and of the third
 third_left : (g : _) (c : In_ok-pass_byte-3 g) (passed : Bool) → c.in_ok-pass_byte-3.field-0 ≡ passed → (f : List ℕ)
     → file_of (g.S.Shelf.held c.args.shelf.now) c.args.name.now ≡ Some f → Reads c.pass_byte-2.new.pieces f
-    → Reads c.pass_byte-3.new.pieces f × Passes passed 191 (left_of c.pass_byte-2.new.pieces f) (left_of c.pass_byte-3.new.pieces f)
+    → Reads c.pass_byte-3.new.pieces f
+    × PassesByte passed 191 (bytes_left c.pass_byte-2.new.pieces f) (bytes_left c.pass_byte-3.new.pieces f)
 third_left g c passed so f is reads = grind (arith, passes_told)
 
 pub returns-then-not-branch-clause-line : goal.returns-then-not-branch-clause-line
@@ -29,9 +30,9 @@ returns-then-not-branch-clause-line g c =
     let line : Stands c.pass_byte.new.line [] =
     put_told false c.in_ok-pass_byte.field-0 c.args.line.now c.pass_byte.new.line 239 [] other c.in_ok-pass_byte.ensures.line
     (record { same = c.requires.line.same; begun = c.requires.line.begun }) in
-    told (λ (f : List ℕ). Reads c.args.pieces.now f → IsOn 1 (unmarked f) c.pass_byte.new.line 1 (left_of c.pass_byte.new.pieces f))
+    told (λ (f : List ℕ). Reads c.args.pieces.now f → IsOn 1 (unmarked f) c.pass_byte.new.line 1 (bytes_left c.pass_byte.new.pieces f))
     (file_of (g.S.Shelf.held c.args.shelf.now) c.args.name.now) (λ f is reads.
-    no_mark_first f (left_of c.pass_byte.new.pieces f) c.pass_byte.new.line
+    no_mark_first f (bytes_left c.pass_byte.new.pieces f) c.pass_byte.new.line
     (first_left g at.In_ok-pass_byte false other f is reads).1 line)
 
 pub returns-then-not-branch-clause-begun : goal.returns-then-not-branch-clause-begun
@@ -68,11 +69,12 @@ returns-then-not-branch-2-clause-line g c =
     let line : Stands c.pass_byte-2.new.line (239 ∷ []) =
     put_told false c.in_ok-pass_byte-2.field-0 c.pass_byte.new.line c.pass_byte-2.new.line 187 (239 ∷ []) other
     c.in_ok-pass_byte-2.ensures.line (first_line g at.After-pass_byte-2) in
-    told (λ (f : List ℕ). Reads c.args.pieces.now f → IsOn 1 (unmarked f) c.pass_byte-2.new.line 1 (left_of c.pass_byte-2.new.pieces f))
+    told (λ (f : List ℕ). Reads c.args.pieces.now f → IsOn 1 (unmarked f) c.pass_byte-2.new.line 1 (bytes_left c.pass_byte-2.new.pieces f))
     (file_of (g.S.Shelf.held c.args.shelf.now) c.args.name.now) (λ f is reads.
     let first = first_left g at.In_ok-pass_byte true (first_passed g at.After-pass_byte-2) f is reads in
     let last = second_left g at.In_ok-pass_byte-2 false other f is first.0 in
-    no_mark_second f (left_of c.pass_byte.new.pieces f) (left_of c.pass_byte-2.new.pieces f) c.pass_byte-2.new.line first.1 last.1 line)
+    no_mark_second f (bytes_left c.pass_byte.new.pieces f) (bytes_left c.pass_byte-2.new.pieces f) c.pass_byte-2.new.line first.1 last.1
+    line)
 
 pub returns-then-not-branch-3-clause-line : goal.returns-then-not-branch-3-clause-line
 returns-then-not-branch-3-clause-line g c =
@@ -81,12 +83,12 @@ returns-then-not-branch-3-clause-line g c =
     let line : Stands c.pass_byte-3.new.line (239 ∷ 187 ∷ []) =
     put_told false c.in_ok-pass_byte-3.field-0 c.pass_byte-2.new.line c.pass_byte-3.new.line 191 (239 ∷ 187 ∷ []) other
     c.in_ok-pass_byte-3.ensures.line (second_line g at.After-pass_byte-3 (first_line g at.After-pass_byte-2)) in
-    told (λ (f : List ℕ). Reads c.args.pieces.now f → IsOn 1 (unmarked f) c.pass_byte-3.new.line 1 (left_of c.pass_byte-3.new.pieces f))
+    told (λ (f : List ℕ). Reads c.args.pieces.now f → IsOn 1 (unmarked f) c.pass_byte-3.new.line 1 (bytes_left c.pass_byte-3.new.pieces f))
     (file_of (g.S.Shelf.held c.args.shelf.now) c.args.name.now) (λ f is reads.
     let first = first_left g at.In_ok-pass_byte true (first_passed g at.After-pass_byte-2) f is reads in
     let second = second_left g at.In_ok-pass_byte-2 true (second_passed g at.After-pass_byte-3) f is first.0 in
     let last = third_left g at.In_ok-pass_byte-3 false other f is second.0 in
-    no_mark_third f (left_of c.pass_byte.new.pieces f) (left_of c.pass_byte-2.new.pieces f) (left_of c.pass_byte-3.new.pieces f)
+    no_mark_third f (bytes_left c.pass_byte.new.pieces f) (bytes_left c.pass_byte-2.new.pieces f) (bytes_left c.pass_byte-3.new.pieces f)
     c.pass_byte-3.new.line first.1 second.1 last.1 line)
 
 pub returns-clause-line : goal.returns-clause-line
@@ -94,10 +96,10 @@ returns-clause-line g c =
     let at = goal.at.returns-clause-line g c in
     let passed : c.in_ok-pass_byte-3.field-0 ≡ true = search rules in
     let anew : Stands c.clear.new.self [] = record { same = c.clear.ensures.same; begun = c.clear.ensures.begun } in
-    told (λ (f : List ℕ). Reads c.args.pieces.now f → IsOn 1 (unmarked f) c.clear.new.self 1 (left_of c.pass_byte-3.new.pieces f))
+    told (λ (f : List ℕ). Reads c.args.pieces.now f → IsOn 1 (unmarked f) c.clear.new.self 1 (bytes_left c.pass_byte-3.new.pieces f))
     (file_of (g.S.Shelf.held c.args.shelf.now) c.args.name.now) (λ f is reads.
     let first = first_left g at.In_ok-pass_byte true (first_passed g at.After-pass_byte-2) f is reads in
     let second = second_left g at.In_ok-pass_byte-2 true (second_passed g at.After-pass_byte-3) f is first.0 in
     let third = third_left g at.In_ok-pass_byte-3 true passed f is second.0 in
-    mark_passed f (left_of c.pass_byte.new.pieces f) (left_of c.pass_byte-2.new.pieces f) (left_of c.pass_byte-3.new.pieces f)
+    mark_passed f (bytes_left c.pass_byte.new.pieces f) (bytes_left c.pass_byte-2.new.pieces f) (bytes_left c.pass_byte-3.new.pieces f)
     c.clear.new.self first.1 second.1 third.1 anew)

@@ -1,4 +1,4 @@
-use Rattle.file_pieces.proofs.Common.{IsOn, Reads, left_of, read_so_far, ◌≡◌, ℕ, List, ◌+◌, ◌-◌, ◌≤◌, IfSome, if◌then◌else◌, file_of}
+use Rattle.file_pieces.proofs.Common.{IsOn, Reads, bytes_left, read_so_far, ◌≡◌, ℕ, List, ◌+◌, ◌-◌, ◌≤◌, IfSome, if◌then◌else◌, file_of}
 use Rattle.file_pieces.proofs.file_lines.read_line.Given as goal
 
 -- the lines so far are blank, and the present one is put together
@@ -7,8 +7,8 @@ invariant-loop-found g l =
     record {
       reads : IfSome (file_of (g.S.Shelf.held l.initial.shelf) l.name) (λ file. Reads l.initial.pieces file → Reads l.pieces file);
       line : IfSome (file_of (g.S.Shelf.held l.initial.shelf) l.name) (λ file. Reads l.initial.pieces file →
-          (first : ℕ) (all : List ℕ) → IsOn first all l.initial.line l.initial.number (left_of l.initial.pieces file)
-          → IsOn first all l.line l.number (left_of l.pieces file));
+          (first : ℕ) (all : List ℕ) → IsOn first all l.initial.line l.initial.number (bytes_left l.initial.pieces file)
+          → IsOn first all l.line l.number (bytes_left l.pieces file));
       numbered : l.number + (if l.line.begun then 1 else 0) ≤ l.pieces.place + 1;
       later : l.initial.number ≤ l.number;
       lazy : l.pieces.place ≤ read_so_far l.initial.pieces

@@ -1,4 +1,4 @@
-use Rattle.folded_lists.proofs.Common.{folded, IsEntry, ◌<◌, ◌++◌, ◌∷◌, [], max, ◌∙◌, ap, sym, subst, arith, List, ℕ, length, get_or_from_slice_get}
+use Rattle.folded_lists.proofs.Common.{folded, IsFoldedEntry, ◌<◌, ◌++◌, ◌∷◌, [], max, ◌∙◌, ap, sym, subst, arith, List, ℕ, length, get_or_from_slice_get}
 use Rattle.folded_lists.proofs.FoldedParts.{length-folded}
 use Rattle.folded_lists.proofs.FoldingLemmas.{IsComing, IsFoldedTo, comes_first, comes_on, few_darts, first_entry, folds_first, folds_none, folds_one, is_allowed, leads_folded, some_fold}
 use Rattle.folded_lists.proofs.folding.fold.Goals as goal
@@ -16,7 +16,7 @@ loop-k-init c =
       coming =
           subst (IsComing double first list 0) is
           (comes_first double first c.requires.leads.0 list c.requires.walk.starts c.requires.leads.1);
-      entry_is = subst (λ (l : List ℕ). IsEntry mesh.count l 0 0) is (first_entry mesh.count first c.requires.walk.starts);
+      entry_is = subst (λ (l : List ℕ). IsFoldedEntry mesh.count l 0 0) is (first_entry mesh.count first c.requires.walk.starts);
       so_far =
           subst (λ (l : List ℕ). IsFoldedTo mesh first list.peak 0 l c.darts-darts.result c.new-below.result) is
           (folds_first mesh double first c.requires.leads.0 list c.new-below.result c.darts-darts.result c.len.ensures.valid

@@ -1,4 +1,4 @@
-use Rattle.folded_lists.proofs.Common.{IsEntry, ◌≡◌, ◌∙◌, subst, arith, ℕ, Some, OnOk, Result, Ok, apply}
+use Rattle.folded_lists.proofs.Common.{IsFoldedEntry, ◌≡◌, ◌∙◌, subst, arith, ℕ, Some, OnOk, Result, Ok, apply}
 use Rattle.folded_lists.proofs.FoldingLemmas.{acts_within, allowed_at, folds_by, stays_entry}
 use Rattle.folded_lists.proofs.folding.step.Goals as goal
 
@@ -19,7 +19,7 @@ move_below-low-requires-clause-allowed c =
     let walk = c.args.tape.now.walk in
     let above = c.go_to.result.above in
     let place = c.go_to.result.below in
-    let entry = subst (λ (n : ℕ). IsEntry n walk above place) c.count.ensures.count c.go_to.ensures.entry in
+    let entry = subst (λ (n : ℕ). IsFoldedEntry n walk above place) c.count.ensures.count c.go_to.ensures.entry in
     allowed_at c.args.faces.now c.args.double.now walk c.requires.allowed.next c.args.mv c.requires.allowed.leads above place
     (c.go_to.ensures.above ∙ c.place_of.ensures) entry c.vertex.result.0 c.vertex.ensures
 
@@ -29,7 +29,7 @@ returns-clause-entry c =
     let next = c.step.new.self.walk in
     let above = c.go_to.result.above in
     let place = c.go_to.result.below in
-    let entry = subst (λ (n : ℕ). IsEntry n walk above place) c.count.ensures.count c.go_to.ensures.entry in
+    let entry = subst (λ (n : ℕ). IsFoldedEntry n walk above place) c.count.ensures.count c.go_to.ensures.entry in
     let e = on_ok c.step.result c.unwrap.result (apply c.args.double.now walk c.args.mv ≡ Some next) c.unwrap.ensures c.step.ensures.ok in
     stays_entry c.args.faces.now c.args.double.now walk next c.args.mv e above place (c.go_to.ensures.above ∙ c.place_of.ensures) entry
 
@@ -39,7 +39,7 @@ returns-clause-below c =
     let next = c.step.new.self.walk in
     let above = c.go_to.result.above in
     let place = c.go_to.result.below in
-    let entry = subst (λ (n : ℕ). IsEntry n walk above place) c.count.ensures.count c.go_to.ensures.entry in
+    let entry = subst (λ (n : ℕ). IsFoldedEntry n walk above place) c.count.ensures.count c.go_to.ensures.entry in
     let e = on_ok c.step.result c.unwrap.result (apply c.args.double.now walk c.args.mv ≡ Some next) c.unwrap.ensures c.step.ensures.ok in
     folds_by c.args.faces.now c.args.double.now walk next c.args.mv e above place (c.go_to.ensures.above ∙ c.place_of.ensures) entry
     c.vertex.result.0 c.move_below-low.result c.vertex.ensures c.move_below-low.ensures

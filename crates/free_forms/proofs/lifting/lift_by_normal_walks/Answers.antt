@@ -1,4 +1,4 @@
-use Rattle.free_forms.proofs.Common.{IsNormal, LeadsAtPeak, IsWithin, IsMoveOf, state_of, whole, MOST_OPEN_SIDES, ◌≡◌, ℕ, ◌+◌, ◌*◌, ◌++◌, ap, sym, ◌∙◌, subst, arith, All, ◌↔◌, FaceList, Homotopic, way_back, darts}
+use Rattle.free_forms.proofs.Common.{IsNormal, LeadsAtPeak, IsListWithin, IsMoveOf, state_of, whole, MOST_OPEN_SIDES, ◌≡◌, ℕ, ◌+◌, ◌*◌, ◌++◌, ap, sym, ◌∙◌, subst, arith, All, ◌↔◌, FaceList, Homotopic, way_back, darts}
 use Rattle.free_forms.proofs.BackLemmas.{moves_of, there_and_back_leads, both_within}
 use Rattle.free_forms.proofs.NormalLemmas.{by_normal_walks}
 use Rattle.free_forms.proofs.lifting.lift_by_normal_walks.Goals as goal
@@ -41,6 +41,6 @@ returns-then-are_equal-clause-short c =
     let two : ℕ = darts c.args.second.now * MOST_OPEN_SIDES in
     let both : ℕ = (darts c.args.first.now + darts c.args.second.now) * MOST_OPEN_SIDES in
     both_within c.faces-faces.result.now both c.push_back.new.moves
-    (subst (IsWithin one) (sym c.in_ok-near.ensures.moves) c.in_ok-one.ensures.short)
-    (subst (IsWithin two) (sym c.in_ok-far.ensures.moves) c.in_ok-two.ensures.short)
+    (subst (IsListWithin one) (sym c.in_ok-near.ensures.moves) c.in_ok-one.ensures.short)
+    (subst (IsListWithin two) (sym c.in_ok-far.ensures.moves) c.in_ok-two.ensures.short)
     (omega arith) c.in_ok-push_back.ensures.moves c.in_ok-push_back.ensures.none c.in_ok-push_back.ensures.some

@@ -1,4 +1,4 @@
-use Rattle.free_forms.proofs.Common.{places_within, fewer_darts, left_together, left_apart, left_leads, put_around, LeadsAtPeak, IsWithin, MOST_OPEN_SIDES, MOST_OPEN_STEPS, ℕ, ◌+◌, ◌*◌, refl, subst, arith, IfSome, FaceList, Homotopic, darts, AreWalkPair}
+use Rattle.free_forms.proofs.Common.{places_within, fewer_darts, left_together, left_apart, left_leads, put_around, LeadsAtPeak, IsListWithin, MOST_OPEN_SIDES, MOST_OPEN_STEPS, ℕ, ◌+◌, ◌*◌, refl, subst, arith, IfSome, FaceList, Homotopic, darts, AreWalkPair}
 use Rattle.free_forms.proofs.AroundLemmas.{around_within}
 use Rattle.free_forms.proofs.lifting.lift_open.Goals as goal
 
@@ -23,8 +23,9 @@ put_back-requires-clause-places c =
 pub put_back-requires-clause-room : goal.put_back-requires-clause-room
 put_back-requires-clause-room c =
     let most : ℕ = (darts c.in_ok-near.near + darts c.in_ok-far.far) * MOST_OPEN_SIDES in
-    let short : IsWithin most c.in-Some.list = subst (λ o. IfSome o (λ l. IsWithin most l)) c.in-Some.is c.in_ok-list.ensures.short in
-    let within : IsWithin MOST_OPEN_STEPS (put_around c.of-common.result c.in-Some.list) = around_within
+    let short : IsListWithin most c.in-Some.list =
+    subst (λ o. IfSome o (λ l. IsListWithin most l)) c.in-Some.is c.in_ok-list.ensures.short in
+    let within : IsListWithin MOST_OPEN_STEPS (put_around c.of-common.result c.in-Some.list) = around_within
     (put_around c.of-common.result c.in-Some.list) c.requires.first.starts c.requires.second.starts c.of-common.ensures
     (record { near_is = c.in_ok-near.ensures; far_is = c.in_ok-far.ensures }) short refl c.requires.few in grind arith
 
@@ -39,7 +40,8 @@ returns-in-Some-clause-moves c =
 pub returns-in-Some-clause-short : goal.returns-in-Some-clause-short
 returns-in-Some-clause-short c =
     let most : ℕ = (darts c.in_ok-near.near + darts c.in_ok-far.far) * MOST_OPEN_SIDES in
-    let short : IsWithin most c.in-Some.list = subst (λ o. IfSome o (λ l. IsWithin most l)) c.in-Some.is c.in_ok-list.ensures.short in
+    let short : IsListWithin most c.in-Some.list =
+    subst (λ o. IfSome o (λ l. IsListWithin most l)) c.in-Some.is c.in_ok-list.ensures.short in
     around_within c.in_ok-put_back-in-Some.field-0 c.requires.first.starts c.requires.second.starts c.of-common.ensures
     (record { near_is = c.in_ok-near.ensures; far_is = c.in_ok-far.ensures }) short c.in_ok-put_back-in-Some.ensures c.requires.few
 

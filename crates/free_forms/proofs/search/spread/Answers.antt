@@ -1,4 +1,4 @@
-use Rattle.free_forms.proofs.Common.{found_by, NeighboursReached, ℕ, ◌≤◌, length, ◌∙◌, subst, arith, get_or_default, face_at}
+use Rattle.free_forms.proofs.Common.{view_of_search, NeighboursReached, ℕ, ◌≤◌, length, ◌∙◌, subst, arith, get_or_default, face_at}
 use Rattle.free_forms.proofs.SearchLemmas.{few_reached, grows_trans, closed_more}
 use Rattle.free_forms.proofs.search.spread.Goals as goal
 
@@ -12,7 +12,8 @@ loop-at-preserved c = record {
   grows = grind (arith, grows_trans);
   closed =
       closed_more c.args.faces.now c.loop-at.at (omega arith) c.in_ok-spread_from.ensures.grows
-      (subst (λ (f : ℕ). NeighboursReached c.args.faces.now (found_by c.spread_from.new.search) f (length (face_at c.args.faces.now f)))
+      (subst (λ (f : ℕ). NeighboursReached c.args.faces.now (view_of_search c.spread_from.new.search) f
+      (length (face_at c.args.faces.now f)))
       (c.index.ensures ∙ get_or_default c.loop-at.search.order.items c.loop-at.at c.index.result.now 0 (omega arith))
       c.in_ok-spread_from.ensures.reached) c.loop-at.invariant.closed;
 }

@@ -1,4 +1,4 @@
-use Rattle.free_forms.proofs.Common.{HasPartner, IsAlone, partner_or_alone, partner_below, found_by, ◌≡◌, ◌⊎◌, inl, inr, ◌+◌, ◌<◌, length, arith, Side}
+use Rattle.free_forms.proofs.Common.{HasPartner, IsAlone, partner_or_alone, partner_below, view_of_search, ◌≡◌, ◌⊎◌, inl, inr, ◌+◌, ◌<◌, length, arith, Side}
 use Rattle.free_forms.proofs.SearchLemmas.{HasSpread, reached_below, spread_more}
 use Rattle.free_forms.proofs.search.spread_from.Goals as goal
 
@@ -22,8 +22,9 @@ pub loop-at-preserved : goal.loop-at-preserved
 loop-at-preserved c =
     let mesh = c.args.faces.now in
     let below : c.args.face.0 < length mesh.faces = reached_below c.args.face.0 c.requires.search c.requires.face in
-    let from : HasSpread mesh (found_by c.args.search.now) (found_by c.loop-at.search) c.args.face.0 c.loop-at.at = grind arith in
-    let more : HasSpread mesh (found_by c.args.search.now) (found_by c.reach.new.search) c.args.face.0 (c.loop-at.at + 1) =
-    spread_more (found_by c.reach.new.search) c.requires.table c.requires.few below (omega arith)
+    let from : HasSpread mesh (view_of_search c.args.search.now) (view_of_search c.loop-at.search) c.args.face.0 c.loop-at.at =
+    grind arith in
+    let more : HasSpread mesh (view_of_search c.args.search.now) (view_of_search c.reach.new.search) c.args.face.0 (c.loop-at.at + 1) =
+    spread_more (view_of_search c.reach.new.search) c.requires.table c.requires.few below (omega arith)
     c.requires.face c.dart.ensures.number (c.other-other.ensures mesh c.requires.table) c.side_at.ensures.side c.side_at.ensures.number
     from c.in_ok-reach.ensures in grind arith

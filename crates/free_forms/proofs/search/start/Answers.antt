@@ -1,4 +1,4 @@
-use Rattle.free_forms.proofs.Common.{found_by, ℕ, ◌+◌, sym, subst, arith, IsSide}
+use Rattle.free_forms.proofs.Common.{view_of_search, ℕ, ◌+◌, sym, subst, arith, IsSide}
 use Rattle.free_forms.proofs.SearchLemmas.{HasStarted, side_of_one, start_more, start_other}
 use Rattle.free_forms.proofs.search.start.Goals as goal
 use Rattle.free_forms.proofs.search.start.Goals.{then-sides_of-eq1+in_ok-reach, else-sides_of-eq1}
@@ -16,13 +16,13 @@ reach-requires-clause-place c =
 pub loop-edge-preserved : goal.loop-edge-preserved
 loop-edge-preserved c =
     let k : ℕ = c.loop-edge.edge in
-    let from : HasStarted c.args.faces.now c.args.sides.now (found_by c.loop-edge.search) k =
+    let from : HasStarted c.args.faces.now c.args.sides.now (view_of_search c.loop-edge.search) k =
     record { search_of = c.loop-edge.invariant.search; started = c.loop-edge.invariant.started } in
-    let more : HasStarted c.args.faces.now c.args.sides.now (found_by c.if-sides_of-eq1.search) (k + 1) =
+    let more : HasStarted c.args.faces.now c.args.sides.now (view_of_search c.if-sides_of-eq1.search) (k + 1) =
     elim c.if-sides_of-eq1.branch [
       | then-sides_of-eq1+in_ok-reach w ↦
-          subst (λ s. HasStarted c.args.faces.now c.args.sides.now (found_by s) (k + 1)) (sym w.search-is)
-          (start_more (found_by w.reach.new.search) w.side.result
+          subst (λ s. HasStarted c.args.faces.now c.args.sides.now (view_of_search s) (k + 1)) (sym w.search-is)
+          (start_more (view_of_search w.reach.new.search) w.side.result
           c.requires.table (omega arith) (omega (arith, c.sides_of.ensures, w.if-sides_of-eq1.true)) w.side.ensures from
           w.in_ok-reach.ensures)
       | else-sides_of-eq1 w ↦ grind (arith, start_other)

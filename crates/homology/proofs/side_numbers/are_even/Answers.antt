@@ -1,11 +1,11 @@
-use Rattle.homology.proofs.Common.{side_numbers, AreNumbersOf, number_at, MOST_NUMBER, ◌≡◌, ◌<◌, ◌≤◌, ℕ, true, false, List, length, get_or, sym, ap, ◌∙◌, subst, arith, ℤ, pos, of_z, w64, take, common_steps, take_more, get_or_default, unsigned_abs}
+use Rattle.homology.proofs.Common.{side_numbers, AreTableNumbers, number_at, MOST_NUMBER, ◌≡◌, ◌<◌, ◌≤◌, ℕ, true, false, List, length, get_or, sym, ap, ◌∙◌, subst, arith, ℤ, pos, of_z, w64, take, common_steps, take_more, get_or_default, unsigned_abs}
 use Rattle.homology.proofs.SizeLemmas.{sent}
 use Rattle.homology.proofs.SideNumberLemmas.{length-side_numbers, side_is, side_more}
 use Rattle.homology.proofs.side_numbers.are_even.Goals as goal
 use Rattle.homology.proofs.side_numbers.are_even.Goals.{After-number_of_dart}
 
 -- what the edge gives to the side
-given : (c : After-number_of_dart) (number : ℕ → ℕ → ℤ) → AreNumbersOf c.args.sides.now c.args.of_edge.now number
+given : (c : After-number_of_dart) (number : ℕ → ℕ → ℤ) → AreTableNumbers c.args.sides.now c.args.of_edge.now number
     → get_or (side_numbers c.args.faces.now number) c.loop-dart.dart c.number_of_dart.result ≡ c.number_of_dart.result
 given c number are = grind (arith, side_is)
 

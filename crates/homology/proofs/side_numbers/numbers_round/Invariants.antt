@@ -1,8 +1,8 @@
-use Rattle.homology.proofs.Common.{side_numbers, AreNumbersOf, AreWithin, MOST_NUMBER, ◌≡◌, ℕ, ℤ, take}
+use Rattle.homology.proofs.Common.{side_numbers, AreTableNumbers, AreNumbersWithin, MOST_NUMBER, ◌≡◌, ℕ, ℤ, take}
 use Rattle.homology.proofs.side_numbers.numbers_round.Given as goal
 
 -- the sides so far
 abbrev pub invariant-loop-dart : goal.invariant-loop-dart
 invariant-loop-dart l =
-    AreWithin MOST_NUMBER l.of_side.items
-    × ((number : ℕ → ℕ → ℤ) → AreNumbersOf l.sides l.of_edge number → l.of_side.items ≡ take l.dart (side_numbers l.faces number))
+    AreNumbersWithin MOST_NUMBER l.of_side.items
+    × ((number : ℕ → ℕ → ℤ) → AreTableNumbers l.sides l.of_edge number → l.of_side.items ≡ take l.dart (side_numbers l.faces number))

@@ -1,4 +1,4 @@
-use Rattle.homology_commands.proofs.Common.{ShowsHomology, answer_in, pair_in, walk_at, homology_answer, ◌≡◌, List, ℕ, ap, arith, refl, get_or_from_slice_get, darts, AreWalkPair}
+use Rattle.homology_commands.proofs.Common.{ShowsHomology, answer_in, pair_in, homology_answer, ◌≡◌, List, ℕ, ap, arith, refl, get_or_from_slice_get, walk_at, darts, AreWalkPair}
 use Rattle.commands.proofs.Deciding.{pair_long, walks_of_pair, at_places}
 use Rattle.surface_commands.proofs.RunsOnWalks.{runs_asked, runs_refused_walks, runs_wanting}
 use Rattle.homology_commands.proofs.CertificateLemmas.{answer_decides}

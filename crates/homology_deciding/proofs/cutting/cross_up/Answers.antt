@@ -1,4 +1,4 @@
-use Rattle.homology_deciding.proofs.Common.{OrientedMesh, within_more, sent, GrewBy, AreWithin, IsWayUp, way_share, ◌+◌, ◌<◌, ℕ, [], ◌∷◌, ◌++◌, length, ap, sym, subst, arith, to_z, of_z, w64, length_push, FaceList, DartName}
+use Rattle.homology_deciding.proofs.Common.{OrientedMesh, within_more, sent, GrewBy, AreNumbersWithin, IsWayUp, way_share, ◌+◌, ◌<◌, ℕ, [], ◌∷◌, ◌++◌, length, ap, sym, subst, arith, to_z, of_z, w64, length_push, FaceList, DartName}
 use Rattle.homology_deciding.proofs.LoopLemmas.{within_grown, way_grown, way_short, at_root, leads_up}
 use Rattle.homology_deciding.proofs.WayLemmas.{way_push, way_small}
 use Rattle.homology_deciding.proofs.cutting.cross_up.Goals as goal
@@ -13,7 +13,7 @@ grew c =
     (sent c.args.amount (omega (arith, c.requires.small))) c.loop-step.invariant.1.3
 
 -- so no number grew by more than 1
-within : (c : In-loop-step) (bound : ℕ) → AreWithin bound c.args.numbers.now → AreWithin (bound + 1) c.loop-step.numbers
+within : (c : In-loop-step) (bound : ℕ) → AreNumbersWithin bound c.args.numbers.now → AreNumbersWithin (bound + 1) c.loop-step.numbers
 within c bound small =
     let tree = c.args.tree.now in
     let s : OrientedMesh = tree.surface.now in

@@ -1,4 +1,4 @@
-use Rattle.homology_deciding.proofs.Common.{count_difference, AreNumbersOf, IsProofFor, ℤ, List, sym, subst, IfOk, Edge}
+use Rattle.homology_deciding.proofs.Common.{count_difference, AreTableNumbers, IsProofFor, ℤ, List, sym, subst, IfOk, Edge}
 use Rattle.homology_deciding.proofs.TreeLemmas.{tree_of}
 use Rattle.homology_deciding.proofs.LoopLemmas.{if_ok}
 use Rattle.homology_deciding.proofs.ProofLemmas.{exact_proof}
@@ -7,11 +7,11 @@ use Rattle.homology_deciding.proofs.deciding.homologous.Goals.{After-deref_mut}
 
 -- so much more is counted of the first walk than of the second
 counted : (c : After-deref_mut)
-    → AreNumbersOf c.args.surface.now.table c.deref_mut.result.now (count_difference c.args.first.now c.args.second.now)
+    → AreTableNumbers c.args.surface.now.table c.deref_mut.result.now (count_difference c.args.first.now c.args.second.now)
 counted c =
-    subst (λ (xs : List ℤ). AreNumbersOf c.args.surface.now.table xs (count_difference c.args.first.now c.args.second.now))
+    subst (λ (xs : List ℤ). AreTableNumbers c.args.surface.now.table xs (count_difference c.args.first.now c.args.second.now))
     (sym c.deref_mut.ensures.value)
-    (subst (λ (t : List Edge). AreNumbersOf t c.in_ok-counts.counts.items (count_difference c.args.first.now c.args.second.now))
+    (subst (λ (t : List Edge). AreTableNumbers t c.in_ok-counts.counts.items (count_difference c.args.first.now c.args.second.now))
     c.sides.ensures.table c.in_ok-counts.ensures.counts)
 
 pub prove-requires-clause-tree : goal.prove-requires-clause-tree

@@ -1,4 +1,4 @@
-use Rattle.homology_deciding.proofs.Common.{OrientedMesh, left_over, within_more, boundary, number_at, GrewBy, AreWithin, MOST_NUMBER, ◌+◌, ℤ, List, sym, subst, arith, neg_ℤ, Edge, FaceList, darts}
+use Rattle.homology_deciding.proofs.Common.{OrientedMesh, left_over, within_more, boundary, number_at, GrewBy, AreNumbersWithin, MOST_NUMBER, ◌+◌, ℤ, List, sym, subst, arith, neg_ℤ, Edge, FaceList, darts}
 use Rattle.homology_deciding.proofs.ProofLemmas.{counts_small, forced_small}
 use Rattle.homology_deciding.proofs.deciding.prove.Goals as goal
 
@@ -12,7 +12,7 @@ pub take_faces-requires-clause-small : goal.take_faces-requires-clause-small
 take_faces-requires-clause-small c =
     let w = c.requires.walks in
     let numbers : List ℤ = c.in_ok-numbers.numbers.items in
-    subst (AreWithin MOST_NUMBER) (sym c.deref.ensures.value)
+    subst (AreNumbersWithin MOST_NUMBER) (sym c.deref.ensures.value)
     (within_more (darts w.0 + darts w.1) MOST_NUMBER numbers
     (forced_small c.args.tree.now c.requires.tree w.0 w.1 numbers c.args.counts.now w.2.are_counts c.in_ok-numbers.ensures) w.2.few)
 

@@ -1,4 +1,4 @@
-use Rattle.homology_deciding.proofs.Common.{darts_of, face_of, OrientedMesh, IsUp, IsWayUp, height_of, dart_count, EndsAtHeight, ◌≡◌, ◌<◌, ℕ, ℤ, List, [], length, ap, refl, sym, ◌∙◌, subst, arith, rules, to_z, of_z, w64, ◌+ℤ◌, is_some, DartName}
+use Rattle.homology_deciding.proofs.Common.{darts_of, face_of, OrientedMesh, IsUp, IsWayUp, height_of, signed_dart_count, EndsAtHeight, ◌≡◌, ◌<◌, ℕ, ℤ, List, [], length, ap, refl, sym, ◌∙◌, subst, arith, rules, to_z, of_z, w64, ◌+ℤ◌, is_some, DartName}
 use Rattle.homology_deciding.proofs.LoopLemmas.{IsTopKnown, top_known, known, height_small, height_more, height_kept, height_there, added_fits, added_is}
 use Rattle.homology_deciding.proofs.heights.settle.Goals as goal
 use Rattle.homology_deciding.proofs.heights.settle.Goals.{In-Some}
@@ -41,7 +41,7 @@ loop-up-preserved-in-Some-heights c =
     let face : f ≡ face_of s up.0 = c.face_of-face.ensures.face in
     let height : ℤ = c.in-Some-heights.height in
     let sum : ℤ = to_z w64 (of_z w64 (to_z w64 (of_z w64 height) +ℤ to_z w64 (of_z w64 c.count_at.result))) in
-    let is : sum ≡ height +ℤ dart_count s counts up.0 =
+    let is : sum ≡ height +ℤ signed_dart_count s counts up.0 =
     added_is tree c.requires.tree counts c.requires.small height c.count_at.result
     (height_small tree c.requires.tree counts c.requires.small heights c.above.result.0 height c.loop-up.invariant.heights
     c.in-Some-heights.is) c.count_at.ensures.small

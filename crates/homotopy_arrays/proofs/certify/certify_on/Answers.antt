@@ -1,4 +1,4 @@
-use Rattle.homotopy_arrays.proofs.Common.{IsCertified, IsLimitFault, no_memory, IsChecked, AreWalks, Pair, Faulty, ◌≡◌, ◌⊎◌, List, ℕ, arith, refl, sym, subst, inl, inr, MatchResult}
+use Rattle.homotopy_arrays.proofs.Common.{IsCertificateFor, IsCertifyLimitFault, no_memory, IsChecked, AreWalks, Pair, Faulty, ◌≡◌, ◌⊎◌, List, ℕ, arith, refl, sym, subst, inl, inr, MatchResult}
 use Rattle.homotopy_arrays.proofs.CertificationLemmas.{on_walks}
 use Rattle.homotopy_arrays.proofs.JudgementLemmas.{first_of, second_of, two_walks}
 use Rattle.homotopy_arrays.proofs.certify.certify_on.Goals as goal
@@ -39,10 +39,10 @@ returns-in-Pair c =
     let one = sym (first_of c.in-Pair.walks.walks first second c.at.result.now checked.1 c.at.ensures) in
     let other = sym (second_of c.in-Pair.walks.walks first second c.at-in-Pair.result.now checked.1 c.at-in-Pair.ensures) in
     on_walks mesh first second c.certify_walks.result checked.0
-    (subst (λ (w : List ℕ). MatchResult c.certify_walks.result (IsCertified mesh first w)
-    (λ fault. (fault ≡ no_memory) ⊎ IsLimitFault mesh first w fault)) other
-    (subst (λ (w : List ℕ). MatchResult c.certify_walks.result (IsCertified mesh w c.at-in-Pair.result.now)
-    (λ fault. (fault ≡ no_memory) ⊎ IsLimitFault mesh w c.at-in-Pair.result.now fault)) one c.certify_walks.ensures))
+    (subst (λ (w : List ℕ). MatchResult c.certify_walks.result (IsCertificateFor mesh first w)
+    (λ fault. (fault ≡ no_memory) ⊎ IsCertifyLimitFault mesh first w fault)) other
+    (subst (λ (w : List ℕ). MatchResult c.certify_walks.result (IsCertificateFor mesh w c.at-in-Pair.result.now)
+    (λ fault. (fault ≡ no_memory) ⊎ IsCertifyLimitFault mesh w c.at-in-Pair.result.now fault)) one c.certify_walks.ensures))
 
 pub returns-in-Faulty : goal.returns-in-Faulty
 returns-in-Faulty c =

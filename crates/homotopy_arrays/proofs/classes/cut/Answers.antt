@@ -1,4 +1,4 @@
-use Rattle.homotopy_arrays.proofs.Common.{length_fault, walk_at, ◌≡◌, ◌<◌, inl, inr, ℕ, List, length, sym, subst, ◌∙◌, arith, cases_lt, none-some, None, Some}
+use Rattle.homotopy_arrays.proofs.Common.{length_fault, walk_in_arrays, ◌≡◌, ◌<◌, inl, inr, ℕ, List, length, sym, subst, ◌∙◌, arith, cases_lt, none-some, None, Some}
 use Rattle.homotopy_arrays.proofs.ClassLemmas.{cut_at, cut_more}
 use Rattle.homotopy_arrays.proofs.PairLemmas.{next_place, place_within, walk_cut}
 use Rattle.homotopy_arrays.proofs.classes.cut.Goals as goal
@@ -18,7 +18,7 @@ loop-place-preserved c =
     let k : ℕ = c.loop-place.place in
     let few : k < length sizes = omega (arith, c.loop-place-test.true) in
     let list = walk_cut sizes vertices k c.loop-place.at c.loop-place.invariant.start in
-    let good : length_fault 1 (walk_at sizes vertices k) ≡ None =
+    let good : length_fault 1 (walk_in_arrays sizes vertices k) ≡ None =
     subst (λ (w : List ℕ). length_fault 1 w ≡ None) list (sym c.length_fault.ensures ∙ c.in_default.is) in
     record {
       start = next_place sizes k c.loop-place.at c.loop-place.invariant.start few;
@@ -30,7 +30,7 @@ loop-place-preserved c =
             | inl before ↦ c.loop-place.invariant.good j before
             | inr last ↦
                 (let here : k ≡ j = omega (arith, l, last) in
-                subst (λ (n : ℕ). length_fault 1 (walk_at sizes vertices n) ≡ None) here good)
+                subst (λ (n : ℕ). length_fault 1 (walk_in_arrays sizes vertices n) ≡ None) here good)
           ];
     }
 
@@ -40,7 +40,7 @@ returns-in-Some c =
     let vertices : List ℕ = c.args.vertices.now in
     let k : ℕ = c.loop-place.place in
     let list = walk_cut sizes vertices k c.loop-place.at c.loop-place.invariant.start in
-    let bad : length_fault 1 (walk_at sizes vertices k) ≡ Some c.in-Some._fault =
+    let bad : length_fault 1 (walk_in_arrays sizes vertices k) ≡ Some c.in-Some._fault =
     subst (λ (w : List ℕ). length_fault 1 w ≡ Some c.in-Some._fault) list (sym c.length_fault.ensures ∙ c.in-Some.is) in
     cut_at sizes vertices c.loop-place.walks.items k c.loop-place.invariant.walks (omega (arith, c.loop-place-test.true))
     c.loop-place.invariant.good (λ _ good. none-some c.in-Some._fault (sym good ∙ bad))

@@ -1,4 +1,4 @@
-use Rattle.homotopy_arrays.proofs.Common.{IsWalkIn, walks_fault, List, ℕ, subst, sym, Some}
+use Rattle.homotopy_arrays.proofs.Common.{IsWalkIn, two_walks_fault, List, ℕ, subst, sym, Some}
 use Rattle.std.specs.Prelude.{◌≡◌}
 use Rattle.homotopy_arrays.proofs.classes.told_at.Goals as goal
 
@@ -10,5 +10,5 @@ pub returns-in-Ok : goal.returns-in-Ok
 returns-in-Ok c = (
   c.requires.sizes,
   c.requires.none,
-  subst (λ (w : List ℕ). walks_fault c.args.surface.now w w ≡ Some c.in-Ok.fault) c.slice_at-list.ensures c.in-Ok.ensures,
+  subst (λ (w : List ℕ). two_walks_fault c.args.surface.now w w ≡ Some c.in-Ok.fault) c.slice_at-list.ensures c.in-Ok.ensures,
 )

@@ -1,4 +1,4 @@
-use Rattle.homotopy_arrays.proofs.Common.{IsCompactSurface, AreDecidedOnAny, IsCompactFault, IsDecideAnyFault, mesh_in, ℕ, List, inl, inr, refl, err_from_is_err_and}
+use Rattle.homotopy_arrays.proofs.Common.{IsCompactSurface, AreDecidedOnAny, IsCompactFault, IsDecideAnyFault, mesh_in_arrays, ℕ, List, inl, inr, refl, err_from_is_err_and}
 use Rattle.homotopy_arrays.proofs.EndLemmas.{of_compact, on_kind, refused}
 use Rattle.homotopy_arrays.proofs.decide_any.decide_any_arrays.Goals as goal
 
@@ -6,14 +6,14 @@ pub returns-in_err-kept : goal.returns-in_err-kept
 returns-in_err-kept c =
     let p = err_from_is_err_and c.from_residual.result c.from_residual.ensures.1 in
     rw (p.1, p.2)
-    (refused (mesh_in c.args.mesh) IsCompactFault (IsDecideAnyFault c.args.walk_sizes.now c.args.walk_vertices.now)
+    (refused (mesh_in_arrays c.args.mesh) IsCompactFault (IsDecideAnyFault c.args.walk_sizes.now c.args.walk_vertices.now)
     c.in_err-kept.field-0.0 (λ mesh fault. inl fault) c.in_err-kept.ensures)
 
 pub returns : goal.returns
 returns c =
     let sizes : List ℕ = c.args.walk_sizes.now in
     let vertices : List ℕ = c.args.walk_vertices.now in
-    of_compact (mesh_in c.args.mesh) c.in_ok-kept.kept (λ mesh given. AreDecidedOnAny sizes vertices mesh given.items)
+    of_compact (mesh_in_arrays c.args.mesh) c.in_ok-kept.kept (λ mesh given. AreDecidedOnAny sizes vertices mesh given.items)
     (IsDecideAnyFault sizes vertices) c.decide-given.result c.in_ok-kept.ensures
     (λ is.
     on_kind IsCompactSurface (IsDecideAnyFault sizes vertices) sizes vertices c.in_ok-kept.kept c.decide-given.result is is

@@ -1,4 +1,4 @@
-use Rattle.homotopy_arrays.proofs.Common.{mesh_in, err_from_is_err_and}
+use Rattle.homotopy_arrays.proofs.Common.{mesh_in_arrays, err_from_is_err_and}
 use Rattle.homotopy_arrays.proofs.HomologyJudgementLemmas.{numbers_on_mesh, numbers_on_none}
 use Rattle.homotopy_arrays.proofs.JudgementLemmas.{mesh_read}
 use Rattle.homotopy_arrays.proofs.verify_homology.verify_homology_arrays.Goals as goal
@@ -7,11 +7,11 @@ pub returns-in_err-faces : goal.returns-in_err-faces
 returns-in_err-faces c =
     let p = err_from_is_err_and c.from_residual.result c.from_residual.ensures.1 in
     rw p.1
-    (numbers_on_none (mesh_in c.args.mesh) c.args.first.now c.args.second.now
+    (numbers_on_none (mesh_in_arrays c.args.mesh) c.args.first.now c.args.second.now
     c.in_err-faces.field-0.0 p.0 c.in_err-faces.ensures p.2)
 
 pub returns : goal.returns
 returns c =
-    let read = mesh_in c.args.mesh in
+    let read = mesh_in_arrays c.args.mesh in
     numbers_on_mesh read c.in_ok-faces.faces c.args.first.now c.args.second.now c.args.claim c.args.numbers.now c.verify_on-judged.result
     (mesh_read read c.in_ok-faces.faces c.in_ok-faces.ensures) c.verify_on-judged.ensures

@@ -1,9 +1,10 @@
-use Rattle.homotopy_c.proofs.Common.{IsCompactFault, IsCompactKept, mesh_of}
+use Rattle.homotopy_c.proofs.Common.{IsCompactFault, IsCompactKept, mesh_from_arrays}
 use Rattle.homotopy_c.proofs.TellingLemmas.{held_told}
 use Rattle.homotopy_c.proofs.mesh.homotopy_mesh_new_any.Goals as goal
 
 pub returns : goal.returns
 returns c =
-    let told = held_told (mesh_of c.args.vertices c.args.sizes.now c.args.corners.now) IsCompactKept IsCompactFault c.keep_any.result
+    let told = held_told (mesh_from_arrays c.args.vertices c.args.sizes.now c.args.corners.now) IsCompactKept IsCompactFault
+    c.keep_any.result
     c.args.mesh.now.kept c.hold.new.mesh.kept c.hold.result c.keep_any.ensures c.hold.ensures in
     record { end = told.0; right = told.1; tells = told.2 }

@@ -1,4 +1,4 @@
-use Rattle.labellings.proofs.Common.{IsVerdict, IsFirstFault, Denial, LabelFault, OutOfMemory, DenialVerdict, Label, ◌≡◌, ◌⊎◌, inl, inr, ◌∙◌, List, ℕ, Result, Ok, Err, IfOk, FaceList}
+use Rattle.labellings.proofs.Common.{IsDenialVerdict, IsFirstLabelFault, Denial, LabelFault, OutOfMemory, DenialVerdict, Label, ◌≡◌, ◌⊎◌, inl, inr, ◌∙◌, List, ℕ, Result, Ok, Err, IfOk, FaceList}
 use Rattle.std.specs.Prelude.{◌≢◌}
 use Rattle.labellings.proofs.VerdictLemmas.{one_verdict}
 use Rattle.labellings.proofs.verdict.check_denial.Goals as goal
@@ -6,7 +6,7 @@ use Rattle.labellings.proofs.verdict.check_denial.Goals as goal
 -- the verdict on labels with this fault is the only one
 only : {E : Type 0} (r : Result DenialVerdict E) (mesh : FaceList) (first second : List ℕ) (denial : Denial) (fault : LabelFault)
     (verdict : DenialVerdict)
-    → (fault ≡ OutOfMemory) ⊎ IsFirstFault mesh denial.labelling fault → IsVerdict mesh first second denial verdict
+    → (fault ≡ OutOfMemory) ⊎ IsFirstLabelFault mesh denial.labelling fault → IsDenialVerdict mesh first second denial verdict
     → IfOk r (λ given. (fault ≢ OutOfMemory) × (given ≡ Label fault))
     → IfOk r (λ given. given ≡ verdict)
 only (Err e) mesh first second denial fault verdict fails is given = tt

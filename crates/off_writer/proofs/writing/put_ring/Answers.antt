@@ -1,4 +1,4 @@
-use Rattle.off_writer.proofs.Common.{length, err_from_is_err_and, flat_map, decimal, gathers-put, puts-then, puts-fails, puts-same, spaced, numbers}
+use Rattle.off_writer.proofs.Common.{length, err_from_is_err_and, flat_map, decimal, gathers-put, puts-then, puts-fails, puts-same, spaced_number, numbers}
 use Rattle.off_writer.proofs.RowLemmas.{ring_line}
 use Rattle.off_writer.proofs.writing.put_ring.Goals as goal
 
@@ -8,7 +8,7 @@ returns-in_err-put_corners g c =
     puts-same (ring_line c.args.ring.now)
     (puts-then (gathers-put (decimal (length c.args.ring.now)) c.in_ok-make_room.ensures.puts.ok c.put_natural.ensures.put)
     c.in_ok-make_room.ensures.puts.only_writes
-    (puts-fails _ (flat_map spaced (numbers c.args.ring.now)) _ failed.1 c.in_err-put_corners.ensures.failed
+    (puts-fails _ (flat_map spaced_number (numbers c.args.ring.now)) _ failed.1 c.in_err-put_corners.ensures.failed
     c.in_err-put_corners.ensures.only_writes))
 
 pub returns : goal.returns

@@ -1,4 +1,4 @@
-use Rattle.open_commands.proofs.Common.{stops_first, pair_long, memory_no_fault, only_self, runs_faulty, runs_replied, runs_stopped, LeadsAtPeak, IsWithin, MOST_OPEN_STEPS, list_answer, open_pair_in, subst, arith, HasFileSize}
+use Rattle.open_commands.proofs.Common.{stops_first, pair_long, memory_no_fault, only_self, runs_faulty, runs_replied, runs_stopped, LeadsAtPeak, IsListWithin, MOST_OPEN_STEPS, list_answer, open_pair_in, subst, arith, HasFileSize}
 use Rattle.surf_model.specs.Moves as moves
 use Rattle.open_commands.proofs.Listing.{list_passes, found_reply, found_short}
 use Rattle.open_commands.proofs.OpenInputs.{AreOpenWalks, open_walks}
@@ -66,5 +66,5 @@ returns-clause-short g c =
     let known = walks g (goal.at.returns-clause-short g c).After-at-2 in
     c.reply_with.ensures.short mesh c.at.result.now c.at-2.result.now c.faces.ensures.parents.valid
     (subst HasFileSize c.faces.ensures.mesh c.len.ensures.small) known.sides known.are.first_walk
-    (found_short c.in_ok-found.found (λ list. LeadsAtPeak mesh c.at.result.now list c.at-2.result.now) (IsWithin MOST_OPEN_STEPS)
+    (found_short c.in_ok-found.found (λ list. LeadsAtPeak mesh c.at.result.now list c.at-2.result.now) (IsListWithin MOST_OPEN_STEPS)
     (moves.Homotopic mesh c.at.result.now c.at-2.result.now → ⊥) c.in_ok-found.ensures.moves c.in_ok-found.ensures.short)

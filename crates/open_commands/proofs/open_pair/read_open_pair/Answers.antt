@@ -1,4 +1,4 @@
-use Rattle.open_commands.proofs.Common.{pair_long, fitting, memory_no_fault, only_then, reads_faulty, reads_made, reads_then, tells_no_fault, Exactly, Passes, pair_in, walk_at, Stops, IsWithinLimits, limit_fault, limit_word, open_limits, open_pair_in, ◌≡◌, ◌∙◌, ℕ, List, ap, sym, subst, arith, get_or_from_slice_get, Option, Files, FaceList}
+use Rattle.open_commands.proofs.Common.{pair_long, fitting, memory_no_fault, only_then, reads_faulty, reads_made, reads_then, tells_no_fault, Exactly, Passes, pair_in, Stops, IsWithinOpenLimits, open_limit_fault, open_limit_word, open_limits, open_pair_in, ◌≡◌, ◌∙◌, ℕ, List, ap, sym, subst, arith, get_or_from_slice_get, Option, Files, FaceList, walk_at}
 use Rattle.std.proofs.lemmas.Result.{err_from_is_err_and}
 use Rattle.walk_files.specs.Pairs.{IsPair}
 use Rattle.open_commands.proofs.OpenInputs.{walks_stop, limits_stop, pair_passes, built_passes}
@@ -35,14 +35,14 @@ passed g c =
 
 -- the walks that are looked at are the two of the list
 same_fault : (g : _) (c : After-at-2 g)
-    → limit_fault c.in_ok-faces.faces (walk_at c.in_ok-walks.walks.walks 0) (walk_at c.in_ok-walks.walks.walks 1)
-    ≡ limit_fault c.in_ok-faces.faces c.at.result.now c.at-2.result.now
+    → open_limit_fault c.in_ok-faces.faces (walk_at c.in_ok-walks.walks.walks 0) (walk_at c.in_ok-walks.walks.walks 1)
+    ≡ open_limit_fault c.in_ok-faces.faces c.at.result.now c.at-2.result.now
 same_fault g c =
     let pair = c.in_ok-walks.walks.walks in
     let mesh = c.in_ok-faces.faces in
     let first : walk_at pair 0 ≡ c.at.result.now = get_or_from_slice_get pair 0 c.at.result.now _ c.at.ensures in
     let second : walk_at pair 1 ≡ c.at-2.result.now = get_or_from_slice_get pair 1 c.at-2.result.now _ c.at-2.ensures in
-    ap (λ (w : List ℕ). limit_fault mesh w (walk_at pair 1)) first ∙ ap (limit_fault mesh c.at.result.now) second
+    ap (λ (w : List ℕ). open_limit_fault mesh w (walk_at pair 1)) first ∙ ap (open_limit_fault mesh c.at.result.now) second
 
 pub returns-in_err-check-clause-reads : goal.returns-in_err-check-clause-reads
 returns-in_err-check-clause-reads g c =
@@ -81,7 +81,7 @@ returns-clause-pair g c =
     let made = sym c.in_ok-surface.ensures.mesh in
     record {
       walks = subst (λ (m : FaceList). IsPair m pair) made (c.in_ok-walks.ensures.pair mesh c.in_ok-faces.ensures.table);
-      within = subst (λ (m : FaceList). IsWithinLimits m (walk_at pair 0) (walk_at pair 1)) made
-          (fitting open_limits limit_word mesh (walk_at pair 0) (walk_at pair 1)
+      within = subst (λ (m : FaceList). IsWithinOpenLimits m (walk_at pair 0) (walk_at pair 1)) made
+          (fitting open_limits open_limit_word mesh (walk_at pair 0) (walk_at pair 1)
           (same_fault g (goal.at.returns-clause-pair g c).After-at-2 ∙ c.in_ok-check.ensures));
     }

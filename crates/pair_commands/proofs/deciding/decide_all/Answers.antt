@@ -1,4 +1,4 @@
-use Rattle.pair_commands.proofs.Common.{failed_end, all_hold, as_many, holds_next, pair_within, mesh_of, ◌≡◌, ◌/◌, ◌<◌, ℕ, true, List, length, get_or, sym, ◌∙◌, subst, arith, Some, FaceList, AreWalkPair, are_paired, IsFoundOn}
+use Rattle.pair_commands.proofs.Common.{failed_end, all_hold, as_many, holds_next, pair_within, mesh_of_decider, ◌≡◌, ◌/◌, ◌<◌, ℕ, true, List, length, get_or, sym, ◌∙◌, subst, arith, Some, FaceList, AreWalkPair, are_paired, IsFoundOn}
 use Rattle.component_deciding.specs.declared.order.Placed.{Placed}
 use Rattle.std.proofs.lemmas.List.{get_or_read, length-set}
 use Rattle.surf_model.specs.Edges.{IsTableOf}
@@ -8,11 +8,11 @@ use Rattle.pair_commands.proofs.deciding.decide_all.Goals.{After-index, in-Some,
 
 pub returns-in_err-check_list-clause-ends : goal.returns-in_err-check_list-clause-ends
 returns-in_err-check_list-clause-ends c =
-    failed_end _ _ _ _ c.from_residual.ensures.1 (c.in_err-check_list.ensures.ends (mesh_of c.args.decider.now) c.sides.ensures)
+    failed_end _ _ _ _ c.from_residual.ensures.1 (c.in_err-check_list.ensures.ends (mesh_of_decider c.args.decider.now) c.sides.ensures)
 
 pub returns-in_err-check_list-in-None-clause-ends : goal.returns-in_err-check_list-in-None-clause-ends
 returns-in_err-check_list-in-None-clause-ends c =
-    let mesh = mesh_of c.args.decider.now in
+    let mesh = mesh_of_decider c.args.decider.now in
     let table : IsTableOf mesh c.sides-in-None.result.now =
     subst (λ (m : FaceList). IsTableOf m c.sides-in-None.result.now) (c.in_ok-decision.ensures.same ∙ c.loop-at.invariant.same)
     c.sides-in-None.ensures in
@@ -51,7 +51,7 @@ index_mut-requires c =
 
 pub loop-at-preserved : goal.loop-at-preserved
 loop-at-preserved c =
-    let mesh = mesh_of c.args.decider.now in
+    let mesh = mesh_of_decider c.args.decider.now in
     let text = c.args.walks.now in
     let order : List Placed = c.in_ok-order.order.items in
     let entry : Placed = c.index.result.now in
@@ -69,13 +69,14 @@ loop-at-preserved c =
       as_many count order c.in_ok-order.ensures.order,
       c.loop-at.invariant.each,
     ) in
-    let same : mesh_of c.answer_if_pair.new.self ≡ mesh = c.in_ok-decision.ensures.same ∙ c.loop-at.invariant.same in
+    let same : mesh_of_decider c.answer_if_pair.new.self ≡ mesh = c.in_ok-decision.ensures.same ∙ c.loop-at.invariant.same in
     elim c.match-branch-5.branch [
       | in-Some w ↦
-          (let told : IsFoundOn (mesh_of c.loop-at.decider) first second (Some w.in-Some.decision) =
-          subst (IsFoundOn (mesh_of c.loop-at.decider) first second) w.in-Some.is c.in_ok-decision.ensures.answer in
+          (let told : IsFoundOn (mesh_of_decider c.loop-at.decider) first second (Some w.in-Some.decision) =
+          subst (IsFoundOn (mesh_of_decider c.loop-at.decider) first second) w.in-Some.is c.in_ok-decision.ensures.answer in
           let here : IsDecidedAt mesh text.walks pair w.in-Some.decision =
-          found_at (mesh_of c.loop-at.decider) mesh text.walks pair first second w.in-Some.decision c.at.ensures c.at-in-loop-at.ensures
+          found_at (mesh_of_decider c.loop-at.decider) mesh text.walks pair first second w.in-Some.decision
+          c.at.ensures c.at-in-loop-at.ensures
           c.loop-at.invariant.same told in
           record {
             same = same;
@@ -96,7 +97,7 @@ loop-at-preserved c =
 
 pub returns-clause-ends : goal.returns-clause-ends
 returns-clause-ends c =
-    let mesh = mesh_of c.args.decider.now in
+    let mesh = mesh_of_decider c.args.decider.now in
     let text = c.args.walks.now in
     let order : List Placed = c.in_ok-order.order.items in
     let count : ℕ = length text.walks / 2 in

@@ -1,4 +1,4 @@
-use Rattle.tree_cotree.proofs.Common.{OrientedMesh, ◌<◌, ◌≤◌, ℕ, List, length, ap, sym, subst, arith, Edge, IsTried, kind_over, Kind}
+use Rattle.tree_cotree.proofs.Common.{OrientedMesh, ◌<◌, ◌≤◌, ℕ, List, length, ap, sym, subst, arith, Edge, IsEdgeTried, kind_over, Kind}
 use Rattle.tree_cotree.proofs.ColouringLemmas.{kind_not_left, spanning_none, spanning_early, spanning_next, spanning_all}
 use Rattle.tree_cotree.proofs.colouring.span.Goals.{then-begins_vertex, else-begins_vertex}
 use Rattle.tree_cotree.proofs.colouring.span.Goals as goal
@@ -20,9 +20,9 @@ loop-early-preserved c =
     elim c.if-begins_vertex.branch [
       | then-begins_vertex w ↦
           spanning_early c.requires.valid within few (kind_not_left c.args.nodes)
-          (subst (λ ks. IsTried s c.args.nodes kind m c.loop-early.classes c.if-begins_vertex.classes c.loop-early.kinds.items ks)
+          (subst (λ ks. IsEdgeTried s c.args.nodes kind m c.loop-early.classes c.if-begins_vertex.classes c.loop-early.kinds.items ks)
           (sym (ap (λ v. v.items) w.kinds-is))
-          (subst (λ r. IsTried s c.args.nodes kind m c.loop-early.classes r c.loop-early.kinds.items w.try_edge.new.kinds.items)
+          (subst (λ r. IsEdgeTried s c.args.nodes kind m c.loop-early.classes r c.loop-early.kinds.items w.try_edge.new.kinds.items)
           (sym w.classes-is) w.try_edge.ensures)) c.loop-early.invariant
       | else-begins_vertex w ↦ grind arith
     ]

@@ -1,11 +1,11 @@
-use Rattle.tree_cotree.proofs.Common.{◌≡◌, ◌≤◌, ℕ, List, length, ap, arith, common_steps, length-map, length-append, DartName, dart_numbers, waiting_darts, IsTaken}
+use Rattle.tree_cotree.proofs.Common.{◌≡◌, ◌≤◌, ℕ, List, length, ap, arith, common_steps, length-map, length-append, DartName, dart_numbers, waiting_darts, IsTakenOut}
 use Rattle.tree_cotree.proofs.SearchLemmas.{order_few, rebound}
 use Rattle.tree_cotree.proofs.WaitingLemmas.{taken, none_waits, taken_longer, taken_dart, taken_found, underway_more, underway_done}
 use Rattle.tree_cotree.proofs.search.search_over.Goals as goal
 use Rattle.tree_cotree.proofs.search.search_over.Goals.{In-Some}
 
 -- the dart that is visited was one of those that wait
-first_taken : (c : In-Some) → IsTaken (waiting_darts c.loop-search.search.waiting.far.items c.loop-search.search.waiting.near.items)
+first_taken : (c : In-Some) → IsTakenOut (waiting_darts c.loop-search.search.waiting.far.items c.loop-search.search.waiting.near.items)
     (waiting_darts c.take.new.self.far.items c.take.new.self.near.items) c.in-Some.first.0
 first_taken c = taken c.in_ok-first.field-0 c.in-Some.first _ _ c.in-Some.is c.in_ok-first.ensures.some
 

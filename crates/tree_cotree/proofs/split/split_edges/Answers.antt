@@ -1,4 +1,4 @@
-use Rattle.tree_cotree.proofs.Common.{rotation_system, names_all, OrientedMesh, Rotations, rotations_of, NamesAll, ◌≡◌, ◌/◌, ℕ, Bool, List, length, sym, ap, ◌∙◌, subst, rules, arith, length-replicate, with_items_is, Option, replicate, count_below, AreApart, has_kind, IsSearched, IsRooted, Kind, Left}
+use Rattle.tree_cotree.proofs.Common.{rotation_system, names_all, OrientedMesh, Rotations, rotations_of, NamesAll, ◌≡◌, ◌/◌, ℕ, Bool, List, length, sym, ap, ◌∙◌, subst, rules, arith, length-replicate, with_items_is, Option, replicate, count_below, AreDartsApart, has_kind, IsSearched, IsRooted, Kind, Left}
 use Rattle.tree_cotree.proofs.KindLemmas.{all_left}
 use Rattle.tree_cotree.proofs.TreeLemmas.{kept_apart}
 use Rattle.tree_cotree.proofs.TurningLemmas.{allow}
@@ -15,7 +15,7 @@ pub mark-requires-clause-apart : goal.mark-requires-clause-apart
 mark-requires-clause-apart c =
     let s : OrientedMesh = c.args.surface.now in
     let maps : Rotations = rotations_of s in
-    subst (AreApart maps) (sym c.deref-2.ensures.value) (kept_apart (rotation_system s c.faces.ensures.valid)
+    subst (AreDartsApart maps) (sym c.deref-2.ensures.value) (kept_apart (rotation_system s c.faces.ensures.valid)
     (tree_rooted c.faces.ensures.valid
     (rw (c.deref.ensures.value, c.count-vertices.ensures.count, c.faces-2.ensures.mesh) at c.in_ok-parents.ensures)))
 
@@ -23,7 +23,7 @@ pub mark-requires-clause-free : goal.mark-requires-clause-free
 mark-requires-clause-free c =
     let s : OrientedMesh = c.args.surface.now in
     let names : NamesAll s = names_all s c.faces.ensures.valid in
-    let apart : AreApart (rotations_of s) c.deref-2.result.now = mark-requires-clause-apart c in λ v x some. grind (arith, all_left)
+    let apart : AreDartsApart (rotations_of s) c.deref-2.result.now = mark-requires-clause-apart c in λ v x some. grind (arith, all_left)
 
 pub search_over-requires-2-clause-below : goal.search_over-requires-2-clause-below
 search_over-requires-2-clause-below c =
@@ -41,7 +41,7 @@ mark-requires-2-clause-apart c =
     (rw (c.deref.ensures.value, c.count-vertices.ensures.count, c.faces-2.ensures.mesh) at c.in_ok-parents.ensures)
     (rw c.deref-2.ensures.value at c.mark.ensures)
     (rw (c.deref-3.ensures.value, c.len-faces.ensures.count, c.faces.ensures.mesh) at c.in_ok-face_parents.ensures) in
-    subst (AreApart maps) (sym c.deref-4.ensures.value) (kept_apart (rotation_system s c.faces.ensures.valid) rooted)
+    subst (AreDartsApart maps) (sym c.deref-4.ensures.value) (kept_apart (rotation_system s c.faces.ensures.valid) rooted)
 
 pub turn_round-requires-clause-tree : goal.turn_round-requires-clause-tree
 turn_round-requires-clause-tree c = grind (arith, cotree_rooted, allow)
@@ -65,7 +65,7 @@ faces_below-requires-clause-apart c =
     (subst (λ ds. IsRooted maps maps.face left (length ds) (maps.face 0) ds) (sym c.deref_mut.ensures.value)
     (subst (λ n. IsRooted maps maps.face left n (maps.face 0) q) (sym rooted.long) rooted)) in
     let size : length t ≡ c.in_ok-face_parents.face_parents.len = grind arith in
-    subst (AreApart maps) (sym (c.deref-6.ensures.value ∙ with_items_is c.in_ok-face_parents.face_parents t size)) (kept_apart
+    subst (AreDartsApart maps) (sym (c.deref-6.ensures.value ∙ with_items_is c.in_ok-face_parents.face_parents t size)) (kept_apart
     (rotation_system s c.faces.ensures.valid) turned)
 
 pub returns : goal.returns

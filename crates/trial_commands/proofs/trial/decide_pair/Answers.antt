@@ -1,8 +1,7 @@
-use Rattle.trial_commands.proofs.Common.{walks_of_pair, ◌≡◌, [], ℕ, List, get_or, refl, sym, subst, ap, ◌∙◌, ◌↔◌, Some, None, first_walk, second_walk, Homotopic, pair_walks, pair_fault}
+use Rattle.trial_commands.proofs.Common.{walks_of_pair, ◌≡◌, [], ℕ, List, get_or, refl, sym, subst, ap, ◌∙◌, ◌↔◌, Some, None, first_walk, second_walk, AreWalkPair, Homotopic, pair_walks, pair_fault}
 use Rattle.std.proofs.lemmas.Option.{get_or_from_slice_get}
 use Rattle.std.proofs.lemmas.Result.{err_from_is_err_and}
 use Rattle.surf_model.specs.Edges.{IsTableOf}
-use Rattle.surf_model.specs.Walks.{AreWalkPair}
 use Rattle.walk_files.specs.WalkLists.{WalkText}
 use Rattle.surf_model.specs.Moves as moves
 use Rattle.trial_commands.proofs.Trying.{pair_faulty, pair_answered}

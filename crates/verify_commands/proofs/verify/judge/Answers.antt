@@ -1,4 +1,4 @@
-use Rattle.verify_commands.proofs.Common.{stops_first, judged_no_fault, only_self, only_then, reads_ended, reads_made, reads_stopped, reads_then, certificate_in, certificate_of, Stops, Certificate, Denial, MOST_BYTES, ◌≡◌, ◌<◌, ◌≤◌, ℕ, List, length, sym, ap, subst, ◌∙◌, err_from_is_err_and, Option, Ok, Err, Files, file_of, IsVerdictOnFile, judgement, head_of_text, denial_left, Streamed, reader_at, IsIn, Belongs, IsAnswer, IsWithin, CertHead, Labels, StreamEnd}
+use Rattle.verify_commands.proofs.Common.{stops_first, judged_no_fault, only_self, only_then, reads_ended, reads_made, reads_stopped, reads_then, certificate_in, certificate_of, Stops, Certificate, Denial, MOST_BYTES, ◌≡◌, ◌<◌, ◌≤◌, ℕ, List, length, sym, ap, subst, ◌∙◌, err_from_is_err_and, Option, Ok, Err, Files, file_of, IsVerdictOnFile, judgement, head_of_text, denial_left, Streamed, reader_at, IsIn, Belongs, IsStreamAnswer, IsWithin, CertHead, Labels, StreamEnd}
 use Rattle.labellings.specs.declared.denial.Denial as denials
 use Rattle.verify_commands.proofs.Streaming.{at_told, certificate_passed, certificate_stopped, denial_right, denial_start, denial_wrong, head_answered, told}
 use Rattle.verify_commands.proofs.Verifying.{denial_judged, judged, moves_judged}
@@ -17,8 +17,8 @@ returns-in_err-stream g c =
     (λ e. c.in_err-stream.ensures.fault (ap (λ (x : StreamEnd). Err x) e)) p.2
     (stops_first (certificate_in held name) (judgement c.args.pair.now.faces.now c.args.pair.now.first.now c.args.pair.now.second.now) p.0
     (certificate_stopped held name end p.0 p.2
-    (told (λ f. IsAnswer {A = Certificate} (Err end) (certificate_of f)) file (λ f is.
-    head_answered f end (at_told (λ g. IsAnswer {A = CertHead} (Err end) (head_of_text g)) file f is c.in_err-stream.ensures.answer)))
+    (told (λ f. IsStreamAnswer {A = Certificate} (Err end) (certificate_of f)) file (λ f is.
+    head_answered f end (at_told (λ g. IsStreamAnswer {A = CertHead} (Err end) (head_of_text g)) file f is c.in_err-stream.ensures.answer)))
     c.in_err-stream.ensures.within (λ e. c.in_err-stream.ensures.too_large (ap (λ (x : StreamEnd). Err x) e)))))
 
 pub returns-in_err-verdict-in-Moves : goal.returns-in_err-verdict-in-Moves
@@ -60,7 +60,7 @@ returns-in_err-denial-in-Labels g c =
     let fresh = c.in_ok-stream.ensures.fresh in
     let head : stream.head ≡ Labels c.in-Labels.degree = sym c.in-Labels.ensures in
     let Told : List ℕ → Type 0 = λ f. IsIn stream f
-    → IsAnswer {A = denials.Denial} (Err end) (denial_left (reader_at stream f)) × Belongs c.denial.new.self f in
+    → IsStreamAnswer {A = denials.Denial} (Err end) (denial_left (reader_at stream f)) × Belongs c.denial.new.self f in
     let Within : List ℕ → Type 0 = λ f. IsIn stream f → IsWithin end (length f) stream.lines.reading.limit in
     let Large : List ℕ → Type 0 = λ f. IsIn stream f → stream.lines.reading.limit < length f in
     let p = err_from_is_err_and c.from_residual-in_err-denial-in-Labels.result c.from_residual-in_err-denial-in-Labels.ensures.1 in
@@ -70,10 +70,10 @@ returns-in_err-denial-in-Labels g c =
     (λ e. c.in_err-denial-in-Labels.ensures.fault fresh.2 (ap (λ (x : StreamEnd). Err x) e)) p.2
     (stops_first (certificate_in held name) (judgement c.args.pair.now.faces.now c.args.pair.now.first.now c.args.pair.now.second.now) p.0
     (certificate_stopped held name end p.0 p.2
-    (told (λ f. IsAnswer {A = Certificate} (Err end) (certificate_of f)) file (λ f is.
+    (told (λ f. IsStreamAnswer {A = Certificate} (Err end) (certificate_of f)) file (λ f is.
     let in_file : IsIn stream f = at_told (IsIn stream) file f is c.in_ok-stream.ensures.answer in
     denial_wrong f c.in-Labels.degree end (in_file.head ∙ ap (λ (h : CertHead). Ok h) head)
-    (subst (IsAnswer {A = denials.Denial} (Err end)) (denial_start stream f c.in-Labels.degree head fresh.0)
+    (subst (IsStreamAnswer {A = denials.Denial} (Err end)) (denial_start stream f c.in-Labels.degree head fresh.0)
     (at_told Told now f (same ∙ is) (c.in_err-denial-in-Labels.ensures.answer fresh.2) in_file).0)))
     (told (λ f. IsWithin end (length f) MOST_BYTES) file (λ f is.
     subst (λ n. IsWithin end (length f) n) fresh.3

@@ -1,4 +1,4 @@
-use Rattle.verify_commands.proofs.Common.{only_then, reads_made, reads_stopped, certificate_of, Certificate, Moves, MOST_BYTES, ◌≡◌, ◌+◌, ◌<◌, ◌≤◌, ◌++◌, ℕ, List, [], ◌∷◌, length, refl, sym, ap, subst, ◌∙◌, append_assoc, append-nil, arith, err_from_is_err_and, Option, None, Result, Ok, Err, IfNone, Files, file_of, PeakedMoves, Move, outlook, peak_in, count_in, next_answer, Streamed, reader_at, IsIn, Belongs, IsAnswer, IsWithin, after_move, StreamEnd}
+use Rattle.verify_commands.proofs.Common.{only_then, reads_made, reads_stopped, certificate_of, Certificate, Moves, MOST_BYTES, ◌≡◌, ◌+◌, ◌<◌, ◌≤◌, ◌++◌, ℕ, List, [], ◌∷◌, length, refl, sym, ap, subst, ◌∙◌, append_assoc, append-nil, arith, err_from_is_err_and, Option, None, Result, Ok, Err, IfNone, Files, file_of, PeakedMoves, Move, outlook, peak_in, count_in, next_answer, Streamed, reader_at, IsIn, Belongs, IsStreamAnswer, IsWithin, after_move, StreamEnd}
 use Rattle.verify_commands.proofs.Streaming.{AreFirst, at_told, certificate_passed, certificate_stopped, first_all, first_more, first_none, first_wrong, head_moves, told}
 use Rattle.verify_commands.proofs.verify.judge_moves.Goals as goal
 
@@ -68,7 +68,7 @@ returns-in_err-mv g c =
     let same : now ≡ file = ap (λ (h : Option Files). file_of h c.args.name.now) i.held in
     let limit : old.lines.reading.limit ≡ MOST_BYTES = i.limit ∙ c.requires.fresh.2 in
     let Told : List ℕ → Type 0 =
-    λ f. IsIn old f → IsAnswer {A = Option Move} (Err end) (next_answer (reader_at old f)) × Belongs c.next_move.new.self f in
+    λ f. IsIn old f → IsStreamAnswer {A = Option Move} (Err end) (next_answer (reader_at old f)) × Belongs c.next_move.new.self f in
     let Within : List ℕ → Type 0 = λ f. IsIn old f → IsWithin end (length f) old.lines.reading.limit in
     let Large : List ℕ → Type 0 = λ f. IsIn old f → old.lines.reading.limit < length f in
     let p = err_from_is_err_and c.from_residual.result c.from_residual.ensures.1 in
@@ -78,7 +78,7 @@ returns-in_err-mv g c =
     (record { same_files = i.held; never_falls = i.faults }) c.in_err-mv.ensures.only_reads
     (λ e. c.in_err-mv.ensures.fault i.refusal (ap as_err e)) p.2
     (certificate_stopped (g.S.Shelf.held c.args.shelf.now) c.args.name.now end p.0 p.2
-    (told (λ f. IsAnswer {A = Certificate} (Err end) (certificate_of f)) file (λ f is.
+    (told (λ f. IsStreamAnswer {A = Certificate} (Err end) (certificate_of f)) file (λ f is.
     let first = at_told (AreFirst start old moves) file f is i.so_far.2 in
     first_wrong start old moves f (count_in start.head) (peak_in start.head) end (head_moves start c.requires.list) c.requires.fresh.0
     (at_told (IsIn start) file f is c.requires.file).head

@@ -1,4 +1,4 @@
-use Rattle.verify_commands.proofs.Common.{only_then, runs_read, runs_stopped, Passes, pair_in, walk_at, Concludes, Stops, ℕ, List, subst, ◌∙◌, arith, Option, Files, AreWalkPair, judged_file}
+use Rattle.verify_commands.proofs.Common.{only_then, runs_read, runs_stopped, Passes, pair_in, Concludes, Stops, ℕ, List, subst, ◌∙◌, arith, Option, Files, walk_at, AreWalkPair, judged_file}
 use Rattle.commands.proofs.Deciding.{pair_long, walks_of_pair, at_places}
 use Rattle.verify_commands.proofs.Verifying.{concluded, walks_stop}
 use Rattle.verify_commands.proofs.verify.verify.Goals as goal

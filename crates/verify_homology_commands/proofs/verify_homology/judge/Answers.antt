@@ -1,4 +1,4 @@
-use Rattle.verify_homology_commands.proofs.Common.{walk_at, IsVerdict, ◌≡◌, ℕ, List, sym, subst}
+use Rattle.verify_homology_commands.proofs.Common.{IsVerdict, ◌≡◌, ℕ, List, sym, subst, walk_at}
 use Rattle.std.proofs.lemmas.Option.{get_or_from_slice_get}
 use Rattle.verify_homology_commands.proofs.Verifying.{verdict_judged}
 use Rattle.verify_homology_commands.proofs.verify_homology.judge.Goals as goal

@@ -1,4 +1,4 @@
-use Rattle.verify_homology_commands.proofs.Common.{judged_no_fault, only_then, runs_judged, runs_stopped, Passes, pair_in, Stops, ◌∙◌, subst, Option, Files, certificate_in}
+use Rattle.verify_homology_commands.proofs.Common.{judged_no_fault, only_then, runs_judged, runs_stopped, Passes, pair_in, Stops, ◌∙◌, subst, Option, Files, homology_certificate_in}
 use Rattle.verify_homology_commands.proofs.Verifying.{walks_stop, certificate_stops, judged}
 use Rattle.verify_homology_commands.proofs.verify_homology.verify_homology.Goals as goal
 
@@ -24,7 +24,7 @@ returns-in_err-shown g c =
     c.in_ok-faces.ensures.end
     (subst (λ (files : Option Files). Passes (pair_in files c.args.walks.now faces) pair) same
     (c.in_ok-pair.ensures.reads.end faces c.in_ok-sides.ensures.table))
-    (subst (λ (files : Option Files). Stops (certificate_in files c.args.certificate.now) stop)
+    (subst (λ (files : Option Files). Stops (homology_certificate_in files c.args.certificate.now) stop)
     (c.in_ok-pair.ensures.reads.only_reads.same_files ∙ same) c.in_err-shown.ensures.end))
 
 pub judge-requires-clause-pair : goal.judge-requires-clause-pair
@@ -43,6 +43,6 @@ returns g c =
     c.in_ok-faces.ensures.end
     (subst (λ (files : Option Files). Passes (pair_in files c.args.walks.now faces) pair) same
     (c.in_ok-pair.ensures.reads.end faces c.in_ok-sides.ensures.table))
-    (subst (λ (files : Option Files). Passes (certificate_in files c.args.certificate.now) shown)
+    (subst (λ (files : Option Files). Passes (homology_certificate_in files c.args.certificate.now) shown)
     (c.in_ok-pair.ensures.reads.only_reads.same_files ∙ same) c.in_ok-shown.ensures.end)
     c.judge.ensures)

@@ -1,4 +1,4 @@
-use Rattle.walk_files.proofs.Common.{◌++◌, ◌∙◌, ap, drop, arith, err_from_is_err_and, flat_map, decimal, slice_index, IsTrue, on_ok, gathers-put, puts-then, puts-fails, puts-same, spaced}
+use Rattle.walk_files.proofs.Common.{◌++◌, ◌∙◌, ap, drop, arith, err_from_is_err_and, flat_map, decimal, slice_index, IsTrue, on_ok, gathers-put, puts-then, puts-fails, puts-same, spaced_number}
 use Rattle.walk_files.proofs.DenialParts.{first_and_later, small_with_first}
 use Rattle.walk_files.proofs.denial_writing.put_turns.Goals as goal
 
@@ -9,7 +9,7 @@ returns-in_err-put_later_entries-clause-puts g c =
     puts-same (first_and_later c.args.word.now (λ none. let full : IsTrue c.is_empty.result = c.is_empty.ensures.1 none in cc))
     (puts-then (gathers-put (decimal (slice_index c.args.word.now 0)) c.in_ok-make_room.ensures.puts.ok put)
     c.in_ok-make_room.ensures.puts.only_writes
-    (puts-fails _ (flat_map spaced (drop 1 c.args.word.now)) _ failed.1 c.in_err-put_later_entries.ensures.puts.failed
+    (puts-fails _ (flat_map spaced_number (drop 1 c.args.word.now)) _ failed.1 c.in_err-put_later_entries.ensures.puts.failed
     c.in_err-put_later_entries.ensures.puts.only_writes))
 
 pub returns-clause-puts : goal.returns-clause-puts

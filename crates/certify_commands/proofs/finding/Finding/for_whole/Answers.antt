@@ -1,4 +1,4 @@
-use Rattle.certify_commands.proofs.Common.{IsFinding, TellsOfSome, Moves, Words, part_sphere, MOST_SHOWN_PEAK, MOST_SPHERE_MOVES, ◌≤◌, ℕ, List, length, get_or, sym, subst, arith, length-map, component_at, LiesOnSphere, PeakedMoves, LeadsAtPeak, renamed_move, renamed_moves}
+use Rattle.certify_commands.proofs.Common.{IsFinding, TellsOfSome, Moves, Words, part_sphere, MOST_SHOWN_PEAK, MOST_SPHERE_MOVES, ◌≤◌, ℕ, List, length, get_or, sym, subst, arith, length-map, component_at, LiesOnSphere, PeakedMoves, LeadsAtPeak, move_of_whole_mesh, renamed_moves}
 use Rattle.certify_commands.proofs.FoundLemmas.{good_there, names_of_moves, renamed_leads, signs_there, widened_holds}
 use Rattle.certify_commands.proofs.finding.Finding.for_whole.Goals as goal
 
@@ -22,7 +22,7 @@ returns-in_ok-renamed-in-Moves c =
     λ sphere. omega (
       arith,
       there.2 (part_sphere part (get_or first 0 0) c.requires.part (w.used 0 0 w.starts) at_first sphere),
-      length-map c.in-Moves.list.moves (renamed_move names),
+      length-map c.in-Moves.list.moves (move_of_whole_mesh names),
     ) in
     subst
     (λ (l : PeakedMoves). LeadsAtPeak part.whole.faces first l second × (l.peak ≤ MOST_SHOWN_PEAK)

@@ -1,4 +1,4 @@
-use Rattle.chain_pool.proofs.Common.{Chains, inserted, list_under, Parted, joined, parted_under, pushed, ℕ, List, ap, sym, ◌∙◌}
+use Rattle.chain_pool.proofs.Common.{Chains, inserted, list_under, Parted, joined, parted_under, pushed_before, ℕ, List, ap, sym, ◌∙◌}
 use Rattle.chain_pool.proofs.Lists.{list_in, seen_edit, edit_then_alike, edit_twice, joined-pushed}
 use Rattle.chain_pool.proofs.Soundness.{parted_under-is}
 use Rattle.chain_pool.proofs.pool.Pool.push_after.Goals as goal
@@ -13,9 +13,9 @@ returns-clause-list c =
     let whole = edit_twice c.self.inside.cells.chains c.make_ready.new.self.chains c.push.new.self.chains name _ _ ready
     c.push.ensures.chain in
     seen_edit c.self.inside.cells.chains c.push.new.self.chains c.args.self.now.lists name
-    (pushed (parted_under c.make_ready.new.self.chains name) c.args.value)
+    (pushed_before (parted_under c.make_ready.new.self.chains name) c.args.value)
     (inserted (list_under c.args.self.now.lists name) c.args.place c.args.value) seen whole
-    (ap (λ (p : Parted). joined (pushed p c.args.value)) (parted_under-is c.make_ready.new.self.chains name _ ready.here)
+    (ap (λ (p : Parted). joined (pushed_before p c.args.value)) (parted_under-is c.make_ready.new.self.chains name _ ready.here)
     ∙ joined-pushed list c.args.place c.args.value
     ∙ ap (λ (l : List ℕ). inserted l c.args.place c.args.value)
     (sym (list_in c.self.inside.cells.chains c.args.self.now.lists name seen)))

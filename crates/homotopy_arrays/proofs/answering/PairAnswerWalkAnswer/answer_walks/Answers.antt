@@ -1,4 +1,4 @@
-use Rattle.homotopy_arrays.proofs.Common.{AreWalks, walks_fault, ◌≡◌, subst, sym, Some, FaceList}
+use Rattle.homotopy_arrays.proofs.Common.{AreWalks, two_walks_fault, ◌≡◌, subst, sym, Some, FaceList}
 use Rattle.homotopy_arrays.proofs.answering.PairAnswerWalkAnswer.answer_walks.Goals as goal
 use Rattle.homotopy_arrays.proofs.answering.PairAnswerWalkAnswer.answer_walks.Goals.{In-None}
 
@@ -12,7 +12,7 @@ fault_of-requires c =
 
 pub returns-in_ok-fault_of-in-None-clause-answer : goal.returns-in_ok-fault_of-in-None-clause-answer
 returns-in_ok-fault_of-in-None-clause-answer c = (
-  subst (λ (m : FaceList). walks_fault m c.args.first.now c.args.second.now ≡ Some c.in_ok-fault_of-in-None.field-0)
+  subst (λ (m : FaceList). two_walks_fault m c.args.first.now c.args.second.now ≡ Some c.in_ok-fault_of-in-None.field-0)
       c.in_ok-answer_if_walks.ensures.same c.in_ok-fault_of-in-None.ensures,
   none (goal.at.returns-in_ok-fault_of-in-None-clause-answer c).In-None,
 )

@@ -1,9 +1,9 @@
-use Rattle.surf_io.proofs.Common.{arith, slice_get-get_or, err_from_is_err_and, spaced}
+use Rattle.surf_io.proofs.Common.{arith, slice_get-get_or, err_from_is_err_and, spaced_number}
 use Rattle.surf_io.proofs.Gathering.{each-none, each-more, each-fails, each-all}
 use Rattle.surf_io.proofs.piece.Piece.put_numbers.Goals as goal
 
 pub loop-number-init : goal.loop-number-init
-loop-number-init g c = each-none c.args.sink.now c.args.self.now spaced c.args.numbers.now
+loop-number-init g c = each-none c.args.sink.now c.args.self.now spaced_number c.args.numbers.now
 
 pub returns-in_err-put_behind : goal.returns-in_err-put_behind
 returns-in_err-put_behind g c =

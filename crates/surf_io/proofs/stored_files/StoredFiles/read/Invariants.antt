@@ -1,7 +1,7 @@
-use Rattle.surf_io.proofs.Common.{◌≡◌, map, slice_cmp, nat_cmp, deque_iter_rest, entry_of}
+use Rattle.surf_io.proofs.Common.{◌≡◌, map, slice_cmp, nat_cmp, deque_iter_rest, file_entry}
 use Rattle.std.specs.FinMap as finite
 use Rattle.surf_io.proofs.stored_files.StoredFiles.read.Given as goal
 
 abbrev pub invariant-loop-file : goal.invariant-loop-file
 invariant-loop-file l =
-    finite.get l.self l.name ≡ finite.find (slice_cmp nat_cmp) l.name (map entry_of (deque_iter_rest l.file-iterator))
+    finite.get l.self l.name ≡ finite.find (slice_cmp nat_cmp) l.name (map file_entry (deque_iter_rest l.file-iterator))

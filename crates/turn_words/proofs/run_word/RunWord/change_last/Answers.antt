@@ -1,4 +1,4 @@
-use Rattle.turn_words.proofs.Common.{arith, ◌≡◌, ◌≢◌, ◌-◌, ◌∙◌, ap, ◌∷◌, ◌++◌, replicate, common_steps, RunWordView, word_of, EndsBelow}
+use Rattle.turn_words.proofs.Common.{arith, ◌≡◌, ◌≢◌, ◌-◌, ◌∙◌, ap, ◌∷◌, ◌++◌, replicate, common_steps, RunWordView, word_of_runs, EndsBelow}
 use Rattle.turn_words.proofs.RunLists.{back}
 use Rattle.turn_words.proofs.RunWords.{last-of, changed-inside, changed-alone, under-short, under-apart, add-differs}
 use Rattle.turn_words.proofs.run_word.RunWord.change_last.Goals as goal
@@ -10,7 +10,7 @@ pub invariant_of-self : goal.invariant_of-self
 invariant_of-self g c =
     let s = c.self.inside in
     let x = c.sum_modulo-changed.result in
-    let word : word_of s.len s.start s.runs.runs ≡ c.args.self.now.word = ap (λ (v : RunWordView). v.word) c.self.view_is in
+    let word : word_of_runs s.len s.start s.runs.runs ≡ c.args.self.now.word = ap (λ (v : RunWordView). v.word) c.self.view_is in
     let last = last-of s.len s.start c.in-Some.value c.in-Some.count s.runs.runs c.pop.new.self.runs c.self.invariant
     c.in-Some.ensures.runs c.in-Some.ensures.filled in
     let below : EndsBelow c.args.degree (c.in-Some.value ∷ replicate (c.in-Some.count - 1) c.in-Some.value

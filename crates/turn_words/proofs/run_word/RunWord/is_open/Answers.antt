@@ -1,4 +1,4 @@
-use Rattle.turn_words.proofs.Common.{arith, ◌≡◌, ◌≢◌, ◌<◌, ◌-◌, ◌∙◌, ℕ, ap, sym, eqb, reverse, length, get_or, List, lt-leb, RunWordView, word_of, is_open}
+use Rattle.turn_words.proofs.Common.{arith, ◌≡◌, ◌≢◌, ◌<◌, ◌-◌, ◌∙◌, ℕ, ap, sym, eqb, reverse, length, get_or, List, lt-leb, RunWordView, word_of_runs, is_open}
 use Rattle.turn_words.proofs.RunWords.{open-at-one, open-at-none, open-at-start, open-at-two}
 use Rattle.turn_words.proofs.run_word.RunWord.is_open.Goals as goal
 
@@ -10,7 +10,8 @@ pub returns-then-runs-top-eq1 : goal.returns-then-runs-top-eq1
 returns-then-runs-top-eq1 c =
     let rs = c.self.inside.runs.runs in
     let same : c.as_slice-runs.result.now ≡ rs = c.as_slice-runs.ensures.runs in
-    let word : word_of c.self.inside.len c.self.inside.start rs ≡ c.args.self.now.word = ap (λ (s : RunWordView). s.word) c.self.view_is in
+    let word : word_of_runs c.self.inside.len c.self.inside.start rs ≡ c.args.self.now.word =
+    ap (λ (s : RunWordView). s.word) c.self.view_is in
     let some : 0 < length rs = omega (arith, ap length same) in
     let one : top_of rs ≡ 1 = sym (ap top_of same) ∙ c.if-runs-top-eq1.true in
     open-at-one c.self.inside.len c.self.inside.start rs c.self.invariant c.as_slice-runs.ensures.filled some one
@@ -20,7 +21,8 @@ pub returns-then-runs-top-ne2 : goal.returns-then-runs-top-ne2
 returns-then-runs-top-ne2 c =
     let rs = c.self.inside.runs.runs in
     let same : c.as_slice-runs.result.now ≡ rs = c.as_slice-runs.ensures.runs in
-    let word : word_of c.self.inside.len c.self.inside.start rs ≡ c.args.self.now.word = ap (λ (s : RunWordView). s.word) c.self.view_is in
+    let word : word_of_runs c.self.inside.len c.self.inside.start rs ≡ c.args.self.now.word =
+    ap (λ (s : RunWordView). s.word) c.self.view_is in
     let some : 0 < length rs = omega (arith, ap length same) in
     let not_one : top_of rs ≢ 1 = λ e. c.if-runs-top-eq1.false (ap top_of same ∙ e) in
     let not_two : top_of rs ≢ 2 = λ e. c.if-runs-top-ne2.true (ap top_of same ∙ e) in
@@ -31,7 +33,8 @@ pub returns-then-top-ge2 : goal.returns-then-top-ge2
 returns-then-top-ge2 c =
     let rs = c.self.inside.runs.runs in
     let same : c.as_slice-runs.result.now ≡ rs = c.as_slice-runs.ensures.runs in
-    let word : word_of c.self.inside.len c.self.inside.start rs ≡ c.args.self.now.word = ap (λ (s : RunWordView). s.word) c.self.view_is in
+    let word : word_of_runs c.self.inside.len c.self.inside.start rs ≡ c.args.self.now.word =
+    ap (λ (s : RunWordView). s.word) c.self.view_is in
     let some : 0 < length rs = omega (arith, ap length same) in
     let two : top_of rs ≡ 2 = sym (ap top_of same) ∙ c.if-runs-top-ne2.false in
     ap (λ (l : List (ℕ × ℕ)). eqb (get_or l (length l - 2) (0, 0)).0 1) same
@@ -42,7 +45,8 @@ pub returns-else-top-ge2 : goal.returns-else-top-ge2
 returns-else-top-ge2 c =
     let rs = c.self.inside.runs.runs in
     let same : c.as_slice-runs.result.now ≡ rs = c.as_slice-runs.ensures.runs in
-    let word : word_of c.self.inside.len c.self.inside.start rs ≡ c.args.self.now.word = ap (λ (s : RunWordView). s.word) c.self.view_is in
+    let word : word_of_runs c.self.inside.len c.self.inside.start rs ≡ c.args.self.now.word =
+    ap (λ (s : RunWordView). s.word) c.self.view_is in
     let some : 0 < length rs = omega (arith, ap length same) in
     let two : top_of rs ≡ 2 = sym (ap top_of same) ∙ c.if-runs-top-ne2.false in
     lt-leb 2 (length c.as_slice-runs.result.now) c.if-top-ge2.false
