@@ -95,7 +95,16 @@ static homotopy_outcome judged(mesh it, walk first, walk second, uint32_t answer
     return outcome;
 }
 
-/* What is written is accepted. On a closed surface a number more at one face leaves no chain, and one more at one side no even numbers. */
+/* Whether no other side runs along the edge of the one from this corner. */
+static int is_alone(mesh it, size_t corner) {
+    const uint32_t from = it.corners[corner], to = next(it, corner);
+    for (size_t k = 0; k < 3 * it.faces; k++)
+        if (k != corner && ((it.corners[k] == from && next(it, k) == to) || (it.corners[k] == to && next(it, k) == from))) return 0;
+    return 1;
+}
+
+/* What is written is accepted. A number more at one face leaves no chain, and one more at one side no even numbers, or at a side on the
+ * boundary a sum round its face that is not 0. */
 static void judge_written(mesh it, walk first, walk second, uint32_t answer, int64_t *numbers, size_t count) {
     const uint32_t other = answer == HOMOTOPY_HOMOLOGOUS ? HOMOTOPY_NOT_HOMOLOGOUS : HOMOTOPY_HOMOLOGOUS;
     EXPECT(is(judged(it, first, second, answer, numbers, count), HOMOTOPY_ACCEPTED, 0, 0));
@@ -103,7 +112,9 @@ static void judge_written(mesh it, walk first, walk second, uint32_t answer, int
     for (size_t k = 0; k < count; k++) {
         numbers[k]++;
         const uint32_t code = judged(it, first, second, answer, numbers, count).code;
-        EXPECT(code == (answer == HOMOTOPY_HOMOLOGOUS ? HOMOTOPY_REJECTED_BOUNDARY : HOMOTOPY_REJECTED_UNEVEN));
+        EXPECT(code == (answer == HOMOTOPY_HOMOLOGOUS ? HOMOTOPY_REJECTED_BOUNDARY
+                        : is_alone(it, k)             ? HOMOTOPY_REJECTED_SUM
+                                                      : HOMOTOPY_REJECTED_UNEVEN));
         numbers[k]--;
     }
 }
