@@ -58,9 +58,13 @@ impl Several {
         &self.apart.mesh.sides
     }
 
-    /// The place of the component of a vertex, or some number for one that no face names.
-    pub(crate) fn place_of(&self, vertex: VertexName) -> u32 {
-        self.apart.place_of(vertex).unwrap_or(0)
+    /// Where walks from a vertex stand in the order of questions: at the place of its component, or at 0 where that is a sphere, which is not
+    /// labelled, or where no face names the vertex.
+    pub(crate) fn turn_of(&self, vertex: VertexName) -> u32 {
+        match self.apart.place_of(vertex) {
+            Some(place) if !self.apart.is_sphere(place) => place,
+            _ => 0,
+        }
     }
 
     /// Decides whether two walks are homotopic, or tells by `None` that they are no walks of the surface with common ends. Their component

@@ -7,7 +7,7 @@ use Rattle.component_deciding.proofs.pair_decider.PairDecider.as_listed.Goals as
 pub loop-pair-preserved : goal.loop-pair-preserved
 loop-pair-preserved c =
     let k : ℕ = c.loop-pair.pair in
-    let entry : Placed = record { place = c.place_of-place.result; pair = k } in
+    let entry : Placed = record { place = c.turn_of-place.result; pair = k } in
     ap pairs_of c.in_ok-push.ensures.items ∙ map-append (λ (e : Placed). e.pair) c.loop-pair.order.items (entry ∷ [])
     ∙ ap (λ (ks : List ℕ). ks ++ k ∷ []) c.loop-pair.invariant ∙ sym (range_more k)
 
