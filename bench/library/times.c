@@ -1,7 +1,8 @@
 /* Times of calls: on a tetrahedron; on a torus of 1000 times 1000 squares, of 4,000,000 sides, with one pair and with 100,000 pairs of
  * walks of 20 darts each pair; on 50,000 tetrahedra apart, with one pair and with a pair in each, in order and mixed; and on two tori of
- * 100 times 100 squares, with one pair and with 10,000 that alternate between them. The torus and the two are kept, too, and asked about
- * one pair after another, and about the classes of all walks. Prints seconds of the processor, the least of some runs. */
+ * 100 times 100 squares, with one pair and with 10,000 that alternate between them: beside one pair there and as many pairs on one such
+ * component alone. The torus and the two are kept, too, and asked about one pair after another, and about the classes of all walks. Prints
+ * seconds of the processor, the least of some runs. */
 #include <homotopy.h>
 #include <stdio.h>
 #include <stdlib.h>
@@ -106,14 +107,32 @@ static void tetrahedra(int runs) {
         turns[piece] = piece;
     }
     put_pieces(turns);
-    const double one = asked(4 * PIECES, 4 * PIECES, 12 * PIECES, 1, runs), ordered = asked(4 * PIECES, 4 * PIECES, 12 * PIECES, PIECES, runs);
+    const double one = asked(4 * PIECES, 4 * PIECES, 12 * PIECES, 1, runs);
+    const double ordered = asked(4 * PIECES, 4 * PIECES, 12 * PIECES, PIECES, runs);
     for (uint32_t k = PIECES - 1; k > 0; k--) {
         const uint32_t other = (uint32_t)rand() % (k + 1), turn = turns[k];
         turns[k] = turns[other], turns[other] = turn;
     }
     put_pieces(turns);
     const double mixed = asked(4 * PIECES, 4 * PIECES, 12 * PIECES, PIECES, runs);
-    printf("50,000 tetrahedra and a pair: %.3f seconds; a pair in each, in order: %.3f; mixed: %.3f\n", one, ordered, mixed);
+    for (uint32_t k = 0; k < PIECES; k++) turns[k] = 0;
+    put_pieces(turns);
+    const double alone = asked(4, 4, 12, PIECES, runs);
+    printf("50,000 tetrahedra and a pair: %.3f seconds; a pair in each, in order: %.3f; mixed: %.3f; as many on one alone: %.3f\n", one,
+           ordered, mixed, alone);
+    printf("beside one pair there and as many alone: in order %.2f times as long, mixed %.2f\n", ordered / (one + alone),
+           mixed / (one + alone));
+}
+
+/* For each pair half the way round a square of the tori, by either side; by turns on the first and on the second torus, or on the first. */
+static void put_squares(int tori) {
+    for (uint32_t pair = 0; pair < ALTERNATING; pair++) {
+        const uint32_t at_face = 4 * ((uint32_t)rand() % (SMALL * SMALL) + pair % (uint32_t)tori * SMALL * SMALL);
+        const uint32_t around[6] = {corners[at_face], corners[at_face + 1], corners[at_face + 2],
+                                    corners[at_face], corners[at_face + 3], corners[at_face + 2]};
+        walk_sizes[2 * pair] = walk_sizes[2 * pair + 1] = 3;
+        for (int j = 0; j < 6; j++) walk_vertices[6 * pair + j] = around[j];
+    }
 }
 
 static void two_tori(int runs) {
@@ -124,16 +143,13 @@ static void two_tori(int runs) {
         for (int j = 0; j < 4; j++) corners[4 * k + j] = torus_start + ring[j];
         sizes[k] = 4;
     }
-    for (uint32_t pair = 0; pair < ALTERNATING; pair++) {
-        const uint32_t at_face = 4 * ((uint32_t)rand() % (SMALL * SMALL) + pair % 2 * SMALL * SMALL);
-        const uint32_t around[6] = {corners[at_face], corners[at_face + 1], corners[at_face + 2],
-                                    corners[at_face], corners[at_face + 3], corners[at_face + 2]};
-        walk_sizes[2 * pair] = walk_sizes[2 * pair + 1] = 3;
-        for (int j = 0; j < 6; j++) walk_vertices[6 * pair + j] = around[j];
-    }
     const uint32_t faces = 2 * SMALL * SMALL;
-    printf("two tori and a pair: %.3f seconds; 10,000 pairs that alternate: %.3f\n", asked(faces, faces, 4 * faces, 1, runs),
-           asked(faces, faces, 4 * faces, ALTERNATING, runs));
+    put_squares(1);
+    const double alone = asked(faces / 2, faces / 2, 2 * faces, ALTERNATING, runs);
+    put_squares(2);
+    const double one = asked(faces, faces, 4 * faces, 1, runs), many = asked(faces, faces, 4 * faces, ALTERNATING, runs);
+    printf("two tori and a pair: %.3f seconds; 10,000 pairs that alternate: %.3f; as many on one alone: %.3f\n", one, many, alone);
+    printf("beside one pair there and as many alone: %.2f times as long\n", many / (one + alone));
     kept("two tori", faces, faces, 4 * faces, ALTERNATING);
 }
 
