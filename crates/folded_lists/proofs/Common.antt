@@ -10,7 +10,7 @@ pub use Rattle.std.proofs.Common.{Bool, List, ap, append_assoc, arith, drop, fal
 pub use Rattle.std.proofs.lemmas.Bool.{cases_eq, eq-eqb, ne_eqb}
 pub use Rattle.std.proofs.lemmas.List.{drop_all, drop_more, get_or-append-add, get_or-map, length-append, length-map, length-take, map-append, take_all, take_at, take_more}
 pub use Rattle.std.proofs.lemmas.Option.{get_or_from_slice_get}
-pub use Rattle.std.specs.Prelude.{MatchOption, None, Ok, OnOk, Option, Result, Some, if◌then◌else◌, ◌%◌, ◌==◌}
+pub use Rattle.std.specs.Prelude.{MatchOption, None, Ok, OnOk, Option, Result, Some, if◌then◌else◌, ◌%◌, ◌/◌, ◌==◌}
 pub use Rattle.surf_model.proofs.ContextLemmas.{first_answer, stays_walk}
 pub use Rattle.surf_model.proofs.ReplacementLemmas.{by_replacing, length-corners_from}
 pub use Rattle.surf_model.specs.FaceLists.{FaceList, IsFaceList, corners_from, face_at, is_edge, next_corner}
