@@ -1,5 +1,6 @@
 pub mod Common
 pub mod MeshLemmas
+pub mod PartLemmas
 pub mod ArraysOfMeshes
 pub mod PairLemmas
 pub mod ClassLemmas

@@ -1,5 +1,6 @@
 pub mod MeshArrays
 pub mod Surfaces
+pub mod ArrayComponents
 pub mod Pairs
 pub mod CheckedPairs
 pub mod Decisions

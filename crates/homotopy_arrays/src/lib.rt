@@ -1,6 +1,7 @@
 //! The questions of the program, asked of meshes and walks that lie in arrays.
 //!
-//! `measure_arrays` has what `surface` prints, `decide_arrays` what `decide` answers of any number of pairs, and `decide_any_arrays` the
+//! `measure_arrays` has what `surface` prints, `components_of_arrays` the components of a surface, each with its numbers, and which of them
+//! each vertex is of; `decide_arrays` what `decide` answers of any number of pairs, and `decide_any_arrays` the
 //! same on surfaces that may have boundary and need not be orientable; `KeptMesh` keeps a surface of either kind, and has the same pair
 //! after pair, what `loops` answers of pairs of closed walks, and the classes of any number of walks; `certify_arrays` with `text_of` has
 //! what `certify` prints, `verify_arrays` what `verify` judges, of a certificate in bytes, `homology_arrays` has what `homology` shows,
@@ -12,6 +13,7 @@
 mod answering;
 mod certify;
 mod classes;
+mod components;
 mod decide;
 mod decide_any;
 mod fault;
@@ -28,6 +30,7 @@ mod verify_homology;
 pub use answering::WalkAnswer;
 pub use certify::{CertifyFault, certify_arrays, text_of};
 pub use classes::NoClasses;
+pub use components::{ComponentNumbers, SurfaceComponents, components_of_arrays};
 pub use decide::{PairAnswer, decide_arrays};
 pub use decide_any::decide_any_arrays;
 pub use fault::Fault;
