@@ -51,7 +51,8 @@ enum homotopy_code {
     HOMOTOPY_HOMOTOPIC = 1,         /* the walks are homotopic */
     HOMOTOPY_DIFFERENT = 2,         /* they are two walks of the surface with common ends, and are not homotopic */
     HOMOTOPY_ACCEPTED = 3,          /* the certificate is accepted */
-    HOMOTOPY_SHORT_ROOM = 4,        /* the caller's array is too short [the length that is wanted; the answer] */
+    HOMOTOPY_SHORT_ROOM = 4,        /* the caller's array is too short [the length that is wanted; the answer, or the length of a second
+                                     * array that is wanted] */
     HOMOTOPY_NO_MEMORY = 5,         /* memory was wanting; this says nothing of the mesh or of the walks */
     HOMOTOPY_NO_MESH = 6,           /* the handle holds no mesh */
     HOMOTOPY_FREELY_HOMOTOPIC = 7,     /* the walks are freely homotopic */
@@ -146,6 +147,22 @@ typedef struct homotopy_numbers {
 void homotopy_surface(
     uint32_t vertices, const uint32_t *sizes, size_t face_count, const uint32_t *corners, size_t corner_count,
     homotopy_numbers *numbers, uint32_t *genera, size_t genera_room, homotopy_outcome *outcome);
+
+/* The numbers of one piece of a surface, which is called a component. */
+typedef struct homotopy_component {
+    uint32_t vertices, edges, faces, genus;
+} homotopy_component;
+
+/* The components of an orientable closed surface, counted from 0 in the order of their least vertices: the numbers of each in front of
+ * `components`; and in front of `places`, for each vertex of the mesh, which component it is of. A vertex that no face names is of none, and
+ * has the number of components there. Two other vertices have one number exactly where edges lead from the one to the other.
+ *
+ * The mesh is looked at first, and then the room. Code DONE, and how many components there are; or what is first wrong with the mesh; or
+ * SHORT_ROOM, where `components` or `places` has too little room, with the lengths that are wanted of both: how many components there are,
+ * and how many vertices. Both are left as they were then. */
+void homotopy_components(
+    uint32_t vertices, const uint32_t *sizes, size_t face_count, const uint32_t *corners, size_t corner_count,
+    homotopy_component *components, size_t component_room, uint32_t *places, size_t place_room, homotopy_outcome *outcome);
 
 /* Whether the walks of each pair are homotopic on an orientable closed surface. `walk_sizes` has the number of vertices of each walk, two
  * walks for each pair, and `walk_vertices` the vertices of all walks, walk after walk. A byte of `answers` for each pair is HOMOTOPIC,

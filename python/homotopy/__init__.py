@@ -17,7 +17,7 @@ import itertools
 import operator
 import threading
 
-from ._library import Handle, Numbers, Outcome, call, line_of, text_of
+from ._library import Component as _Component, Handle, Numbers, Outcome, call, line_of, text_of
 
 try:
     import numpy
@@ -25,8 +25,8 @@ except ImportError:
     numpy = None
 
 __version__ = "1.1.0"
-__all__ = ["Answer", "Faces", "Mesh", "Refused", "Surface", "Verdict", "certify", "decide", "decide_any", "homology", "surface",
-           "verify", "verify_homology"]
+__all__ = ["Answer", "Component", "Faces", "Mesh", "Refused", "Surface", "Verdict", "certify", "components", "decide", "decide_any",
+           "homology", "surface", "verify", "verify_homology"]
 
 _SHORT_ROOM, _NO_MEMORY, _ACCEPTED = 4, 5, 3
 _REJECTED = range(50, 70)
@@ -41,6 +41,10 @@ Faces.__doc__ = "The faces of a mesh in two arrays: the number of corners of eac
 Surface = collections.namedtuple("Surface", "vertices edges faces euler genera")
 Surface.__doc__ = """The numbers of an orientable closed surface: of the vertices that some face names, of edges and faces, the Euler
 characteristic, and the genus of each piece, in the order of their least vertices."""
+
+
+Component = collections.namedtuple("Component", "vertices edges faces genus")
+Component.__doc__ = "The numbers of one piece of an orientable closed surface, and its genus."
 
 
 class Answer(enum.IntEnum):
@@ -234,6 +238,26 @@ def surface(vertices, faces):
         room = outcome.numbers[0]
     _check(outcome)
     return Surface(numbers.vertices, numbers.edges, numbers.faces, numbers.euler, genera[:numbers.components])
+
+
+def components(vertices, faces):
+    """The components of an orientable closed surface, in the order of their least vertices, and for each vertex which one it is of.
+
+    The second list has a place in the first for each vertex of the mesh, and for one that no face names the length of the first. Refused
+    where the mesh is no orientable closed surface.
+    """
+    mesh, _kept = _mesh(vertices, faces)
+    # Room for all vertices where there are no more than corners.
+    outcome, room, vertex_room = Outcome(), 16, min(mesh[0], mesh[-1]) + 1
+    while True:
+        numbers, places = (_Component * room)(), (ctypes.c_uint32 * vertex_room)()
+        call("homotopy_components", *mesh, ctypes.addressof(numbers), room, ctypes.addressof(places), vertex_room, outcome)
+        if outcome.code != _SHORT_ROOM:
+            break
+        room, vertex_room = max(room, outcome.numbers[0]), outcome.numbers[1]
+    _check(outcome)
+    found = [Component(one.vertices, one.edges, one.faces, one.genus) for one in numbers[:outcome.numbers[0]]]
+    return found, places[:mesh[0]]
 
 
 def _decided(pairs, ask):

@@ -15,6 +15,10 @@ class Numbers(ctypes.Structure):
                 ("components", ctypes.c_uint64)]
 
 
+class Component(ctypes.Structure):
+    _fields_ = [("vertices", ctypes.c_uint32), ("edges", ctypes.c_uint32), ("faces", ctypes.c_uint32), ("genus", ctypes.c_uint32)]
+
+
 class Handle(ctypes.Structure):
     """What a mesh is kept by: null where there is none."""
 
@@ -25,6 +29,7 @@ _ARRAY = [ctypes.c_void_p, ctypes.c_size_t]
 _ENDING = [ctypes.POINTER(Outcome)]
 _ARGUMENTS = {
     "homotopy_surface": [ctypes.c_uint32] + 2 * _ARRAY + [ctypes.POINTER(Numbers)] + _ARRAY + _ENDING,
+    "homotopy_components": [ctypes.c_uint32] + 4 * _ARRAY + _ENDING,
     "homotopy_decide": [ctypes.c_uint32] + 5 * _ARRAY + _ENDING,
     "homotopy_decide_any": [ctypes.c_uint32] + 5 * _ARRAY + _ENDING,
     "homotopy_mesh_new": [ctypes.c_uint32] + 2 * _ARRAY + [ctypes.POINTER(Handle)] + _ENDING,

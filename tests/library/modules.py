@@ -49,6 +49,14 @@ def homology_any(*asked):
 def take():
     for faces in (TETRA, tuple(map(tuple, TETRA)), iter(TETRA), Faces([3] * 4, sum(TETRA, [])), [array.array("I", face) for face in TETRA]):
         expect(surface(4, faces), SPHERE, "a tetrahedron")
+    expect(homotopy.components(5, TETRA), ([homotopy.Component(4, 6, 4, 0)], [0, 0, 0, 0, 1]), "components of a tetrahedron")
+    apart = [[2 * corner + 1 for corner in face] for face in TETRA] + [[2 * corner for corner in face] for face in TORUS]
+    two = [homotopy.Component(7, 21, 14, 1), homotopy.Component(4, 6, 4, 0)]
+    expect(homotopy.components(13, apart), (two, [0, 1] * 4 + [0, 2, 0, 2, 0]), "components of a torus and a tetrahedron")
+    many = [[4 * piece + corner for corner in face] for piece in range(40) for face in TETRA]
+    expect(homotopy.components(160, many), ([homotopy.Component(4, 6, 4, 0)] * 40, [v // 4 for v in range(160)]), "forty components")
+    expect(homotopy.components(1000, TETRA)[1][3:], [0] + [1] * 996, "more vertices than corners")
+    refuse(homotopy.Refused, "the edge 1 2 should be in two sides of faces, and is in 1", homotopy.components, 4, TETRA[:3])
     pairs = [([0, 1, 2], [0, 2]), ((0, 1), [0]), ([], [0]), ([0, 4], [0]), ([0, 0], [0]), ([0], [1])]
     wanted = [Answer.HOMOTOPIC, Answer.ENDS_DIFFER, Answer.EMPTY_WALK, Answer.NO_VERTEX, Answer.NO_EDGE, Answer.STARTS_DIFFER]
     expect(decide(5, TETRA, pairs), wanted, "pairs")

@@ -40,6 +40,14 @@ static void *surface(void *unused) {
     return outcome.code == HOMOTOPY_DONE ? unused : NULL;
 }
 
+static void *components(void *unused) {
+    static homotopy_component numbers[2];
+    static uint32_t places[ALL];
+    homotopy_outcome outcome;
+    homotopy_components(ALL, sizes, faces, corners, 4 * faces, numbers, 2, places, ALL, &outcome);
+    return outcome.code == HOMOTOPY_DONE && outcome.numbers[0] == faces / FACES && numbers[0].genus == 1 ? unused : NULL;
+}
+
 static uint32_t walk_sizes[4] = {2 * GRID + 1, 2 * GRID + 1, GRID + 1, 1}, vertices[5 * GRID + 4];
 
 static void fill_walks(void) {
@@ -148,15 +156,15 @@ static size_t depth_of(void *(*body)(void *)) {
 }
 
 int main(int argc, char **argv) {
-    static void *(*const bodies[])(void *) = {surface, decide, decide_any, keep_any, keep, certify, deny, homology};
-    static const char *const names[] = {"surface", "decide", "decide any", "keep any", "keep and decide", "certify and verify",
-                                        "deny and verify", "homology and its judge"};
+    static void *(*const bodies[])(void *) = {surface, components, decide, decide_any, keep_any, keep, certify, deny, homology};
+    static const char *const names[] = {"surface", "components", "decide", "decide any", "keep any", "keep and decide",
+                                        "certify and verify", "deny and verify", "homology and its judge"};
     const size_t empty = depth_of(nothing);
     int wrong = 0;
     (void)argv;
     make();
     for (int pieces = 1; pieces <= 2; pieces++, faces = ALL)
-        for (int k = 0; k < 8; k++) {
+        for (int k = 0; k < 9; k++) {
             const size_t depth = depth_of(bodies[k]);
             if (argc > 1) printf("%d pieces, %s: %zu bytes\n", pieces, names[k], depth - empty);
             if (depth == 0 || depth - empty > MOST) printf("stack.c: %s takes %zu bytes\n", names[k], depth - empty), wrong = 1;

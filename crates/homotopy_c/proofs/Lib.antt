@@ -5,6 +5,7 @@ pub mod LooseValues
 pub mod HandleValues
 pub mod TellingLemmas
 pub mod ClassTellings
+pub mod ComponentTellings
 pub mod ShowingLemmas
 pub mod HomologyTellings
 pub mod NumberTellings

@@ -1,5 +1,6 @@
 pub mod Outcomes
 pub mod Told
+pub mod ComponentsTold
 pub mod Handles
 pub mod Kept
 pub mod Judged

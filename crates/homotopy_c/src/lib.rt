@@ -9,6 +9,8 @@
 mod certify;
 mod classes;
 pub mod codes;
+pub mod component_laws;
+mod components;
 mod decide;
 mod decide_any;
 pub mod handle;

@@ -5,6 +5,7 @@
 
 #include <homotopy.h>
 
+#include <algorithm>
 #include <cstdint>
 #include <new>
 #include <stdexcept>
@@ -29,6 +30,13 @@ struct Mesh {
 struct Surface {
     homotopy_numbers numbers;
     std::vector<std::uint32_t> genera;
+};
+
+// The components of a surface, in the order of their least vertices, and for each vertex the place of its own in that order; for one that no
+// face names, how many there are.
+struct Components {
+    std::vector<homotopy_component> components;
+    std::vector<std::uint32_t> places;
 };
 
 // What two walks are, HOMOTOPY_HOMOTOPIC or HOMOTOPY_DIFFERENT, and the text that shows it.
@@ -127,6 +135,24 @@ inline Surface surface(const Mesh &mesh) {
     }
     if (outcome.code != HOMOTOPY_DONE) detail::refuse(outcome);
     found.genera.resize(found.numbers.components);
+    return found;
+}
+
+inline Components components(const Mesh &mesh) {
+    // Room for one component, and for all vertices where there are no more than corners.
+    Components found{std::vector<homotopy_component>(1),
+                     std::vector<std::uint32_t>(std::min<std::size_t>(mesh.vertices, mesh.corners.size()) + 1)};
+    homotopy_outcome outcome;
+    for (;;) {
+        homotopy_components(mesh.vertices, detail::of(mesh.sizes), mesh.sizes.size(), detail::of(mesh.corners), mesh.corners.size(),
+                            found.components.data(), found.components.size(), found.places.data(), found.places.size(), &outcome);
+        if (outcome.code != HOMOTOPY_SHORT_ROOM) break;
+        found.components.resize(outcome.numbers[0]);
+        found.places.resize(outcome.numbers[1]);
+    }
+    if (outcome.code != HOMOTOPY_DONE) detail::refuse(outcome);
+    found.components.resize(outcome.numbers[0]);
+    found.places.resize(mesh.vertices);
     return found;
 }
 

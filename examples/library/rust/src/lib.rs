@@ -24,6 +24,24 @@ pub struct Surface {
     pub genera: Vec<u32>,
 }
 
+/// The numbers of one piece of a surface, and its genus.
+#[repr(C)]
+#[derive(Clone, Copy, Debug, Default, PartialEq, Eq)]
+pub struct Component {
+    pub vertices: u32,
+    pub edges: u32,
+    pub faces: u32,
+    pub genus: u32,
+}
+
+/// The components of a surface, in the order of their least vertices.
+#[derive(Clone, Debug, PartialEq, Eq)]
+pub struct Components {
+    pub components: Vec<Component>,
+    /// For each vertex the place of its component; for one that no face names, how many components there are.
+    pub places: Vec<u32>,
+}
+
 /// What is answered of a pair of walks.
 #[derive(Clone, Copy, Debug, PartialEq, Eq)]
 pub enum Answer {
@@ -131,6 +149,10 @@ extern "C" {
     fn homotopy_surface(
         vertices: u32, sizes: *const u32, face_count: usize, corners: *const u32, corner_count: usize,
         numbers: *mut Numbers, genera: *mut u32, genera_room: usize, outcome: *mut Outcome,
+    );
+    fn homotopy_components(
+        vertices: u32, sizes: *const u32, face_count: usize, corners: *const u32, corner_count: usize,
+        components: *mut Component, component_room: usize, places: *mut u32, place_room: usize, outcome: *mut Outcome,
     );
     fn homotopy_decide(
         vertices: u32, sizes: *const u32, face_count: usize, corners: *const u32, corner_count: usize,
@@ -249,6 +271,35 @@ impl Mesh<'_> {
         genera.truncate(numbers.components as usize);
         let Numbers { vertices, edges, faces, euler, .. } = numbers;
         Ok(Surface { vertices, edges, faces, euler, genera })
+    }
+
+    /// The components of an orientable closed surface, and of which of them each vertex is.
+    pub fn components(&self) -> Result<Components, Refused> {
+        // Room for one component, and for all vertices where there are no more than corners.
+        let (mut components, mut places) = (vec![Component::default()], vec![0; self.corners.len().min(self.vertices as usize)]);
+        let mut outcome = Outcome::default();
+        loop {
+            // SAFETY: as above.
+            unsafe {
+                homotopy_components(
+                    self.vertices, self.sizes.as_ptr(), self.sizes.len(), self.corners.as_ptr(), self.corners.len(),
+                    components.as_mut_ptr(), components.len(), places.as_mut_ptr(), places.len(), &mut outcome,
+                );
+            }
+            let count = outcome.numbers[0] as usize;
+            match outcome.code {
+                DONE => {
+                    components.truncate(count);
+                    places.truncate(self.vertices as usize);
+                    return Ok(Components { components, places });
+                }
+                SHORT_ROOM => {
+                    components.resize(count, Component::default());
+                    places.resize(outcome.numbers[1] as usize, 0);
+                }
+                _ => return Err(outcome.refused()),
+            }
+        }
     }
 
     /// The answer on each pair of walks, on an orientable closed surface.
