@@ -58,8 +58,8 @@ impl Several {
         &self.apart.mesh.sides
     }
 
-    /// Where walks from a vertex stand in the order of questions: at the place of its component, or at 0 where that is a sphere, which is not
-    /// labelled, or where no face names the vertex.
+    /// Where walks from a vertex stand in the order of questions: at the place of its component, or at 0 where that is a sphere, which is
+    /// not labelled, or where no face names the vertex.
     pub(crate) fn turn_of(&self, vertex: VertexName) -> u32 {
         match self.apart.place_of(vertex) {
             Some(place) if !self.apart.is_sphere(place) => place,

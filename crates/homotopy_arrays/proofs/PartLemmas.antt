@@ -44,7 +44,8 @@ places_more mesh parts places v place many before here w l =
 
 -- ---- the places that are told are those of the components
 
-places_told : (mesh : FaceList) (parts : PartsView) (places : List ℕ) → IsFaceList mesh → AreParts mesh parts → AreToldPlaces mesh parts places
+places_told : (mesh : FaceList) (parts : PartsView) (places : List ℕ) → IsFaceList mesh → AreParts mesh parts
+    → AreToldPlaces mesh parts places
     → ArePlacesOfComponents mesh (length parts.components) places
 places_told mesh parts places valid are told =
     record {

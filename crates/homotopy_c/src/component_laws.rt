@@ -9,8 +9,8 @@ ghost use Rattle.homotopy_c.specs.declared.codes.TheConstants as codes;
 ghost use Rattle.homotopy_c.specs.declared.outcome.Outcome.{Outcome};
 
 /// `homotopy_components`, which ensures the record that is taken as a premise, answers of orientable closed surfaces alone, with their
-/// components. The numbers of two vertices that faces name are equal exactly where a walk joins the two; that of a vertex which no face names
-/// is the number of components. Where it does not answer, nothing is written.
+/// components. The numbers of two vertices that faces name are equal exactly where a walk joins the two; that of a vertex which no face
+/// names is the number of components. Where it does not answer, nothing is written.
 pub fn components_tell_what_is_joined()
     ensures answers { (mesh : FaceList) (old components : List ComponentNumbers) (before places : List ℕ) (outcome : Outcome)
         → IsComponentsCall (Ok mesh) old components before places outcome → outcome.code ≡ codes.DONE

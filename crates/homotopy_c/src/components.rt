@@ -11,8 +11,8 @@ use std::alloc::Global;
 /// faces each has, and its genus; and for each vertex the place of its component in that order, counted from 0, or how many components
 /// there are, where no face names the vertex. Or what is first wrong.
 ///
-/// The number of the code `DONE` is how many components there are. Where one of the arrays has too little room the code is `SHORT_ROOM`, and
-/// the numbers are the lengths that are wanted of both. There, and where there is no answer, both are left as they were.
+/// The number of the code `DONE` is how many components there are. Where one of the arrays has too little room the code is `SHORT_ROOM`,
+/// and the numbers are the lengths that are wanted of both. There, and where there is no answer, both are left as they were.
 #[unsafe(no_mangle)]
 pub extern "C" fn homotopy_components(
     alloc: Global,
