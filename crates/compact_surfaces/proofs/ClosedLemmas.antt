@@ -1,11 +1,13 @@
 -- What answers for a compact surface is a closed manifold.
-use Rattle.compact_surfaces.proofs.Common.{double_orientable, orientable_there, IsClosedFor, IsCompactSurface, IsCoverBeyond, IsFaultBehind, IsFirstCompactFault, IsKeptClosed, first_faces, CompactFault, Cover, OutOfMemory, few_of_two, no_edge_no_side, double_of, mirror_face, rim_quads, HasBoundary, ◌≡◌, ◌⊎◌, ◌↔◌, Bool, false, ℕ, ◌<◌, ◌≤◌, List, ◌++◌, length, map, take, append_assoc, ap, sym, ◌∙◌, subst, inl, inr, arith, true, both_ways, cases_Bool, IsTrue, Option, MatchOption, Edge, IsTableOf, FaceList, HasFileSize, IsFaceList, is_edge, IsOrientableSurface, IsClosedManifold, IsOrientable, sides_between}
+use Rattle.compact_surfaces.proofs.Common.{double_orientable, orientable_there, IsClosedFor, IsCompactSurface, IsCoverBeyond, IsFaultBehind, IsFirstCompactFault, IsKeptClosed, first_faces, CompactFault, Cover, OutOfMemory, few_of_two, no_edge_no_side, double_of, mirror_face, rim_quads, HasBoundary, ◌≡◌, ◌⊎◌, ◌↔◌, Bool, false, ℕ, ◌<◌, ◌≤◌, List, ◌++◌, length, map, take, append_assoc, ap, sym, ◌∙◌, subst, inl, inr, arith, true, both_ways, cases_Bool, IsTrue, Option, Some, None, MatchOption, Edge, IsTableOf, FaceList, HasFileSize, IsFaceList, is_edge, IsOrientableSurface, IsClosedManifold, IsOrientable, sides_between}
 use Rattle.closed_doubles.proofs.DoubleRings.{double_rings}
 use Rattle.closed_doubles.proofs.SidePlaces.{some_side}
 use Rattle.closed_doubles.proofs.TwoSides.{double_two_sides}
 use Rattle.closed_surfaces.specs.SignedSurfaces.{IsNoSurface, surface_no_memory}
 use Rattle.closed_surfaces.specs.declared.signed_mesh.NoSurface.{NoSurface}
 use Rattle.closed_surfaces.specs.declared.signed_mesh.NoSurface.TheVariants.{Fault, NotOrientable}
+use Rattle.compact_surfaces.specs.Answered.{IsOwnFor}
+use Rattle.compact_surfaces.specs.declared.covered_mesh.TabledMesh.{TabledMesh}
 use Rattle.doubling.proofs.DoubleFaces.{double_size}
 use Rattle.manifold_check.proofs.FaultLemmas.{no_fault}
 use Rattle.std.proofs.Math.Seq.{take-append_seam, take-length}
@@ -61,6 +63,10 @@ cover_fault mesh closed fault is answers fits h =
     ]
 
 -- ---- what is kept
+
+pub closed_by_own : (mesh closed : FaceList) (own : Option TabledMesh) → IsOwnFor mesh closed own → IsClosedFor mesh closed
+closed_by_own mesh closed None own = inr own
+closed_by_own mesh closed (Some kept) own = inl (own.boundary, own.is_double)
 
 first_ones : (mesh closed : FaceList) → IsClosedFor mesh closed → take (length mesh.faces) closed.faces ≡ mesh.faces
 first_ones mesh closed answers =

@@ -58,6 +58,11 @@ IsLimitFault mesh (EdgeSides low high sides) = ⊥
 IsLimitFault mesh (Pinched vertex) = ⊥
 IsLimitFault mesh OutOfMemory = ⊥
 
+-- a condition fails, or the double is beyond a limit: what is wrong before a cover is made
+abbrev pub IsUncoveredFault : FaceList → CompactFault → Type 0
+IsUncoveredFault mesh fault =
+    IsConditionFault mesh fault ⊎ ((limit : DoubleFault) × (fault ≡ Double limit) × IsDoubleFault mesh limit)
+
 -- the condition of the fault is the first that fails, or its limit is the first; want of memory is no fault of the mesh
 abbrev pub IsFirstCompactFault : FaceList → CompactFault → Type 0
 IsFirstCompactFault mesh fault = IsConditionFault mesh fault ⊎ IsLimitFault mesh fault

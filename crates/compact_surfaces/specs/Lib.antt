@@ -1,3 +1,4 @@
+pub mod Answered
 pub mod CompactSurfaces
 pub mod Faults
 pub mod Kept

@@ -1,5 +1,5 @@
 -- Orientable compact surfaces with coherent signs, and why a mesh is none.
-use Rattle.std.specs.Prelude.{◌≡◌, ◌⊎◌}
+use Rattle.std.specs.Prelude.{◌≡◌}
 use Rattle.surf_model.specs.Edges.{IsTableOf}
 use Rattle.surf_model.specs.FaceLists.{FaceList, HasFileSize, IsFaceList}
 use Rattle.surf_model.specs.Surfaces.{IsOrientable}
@@ -7,10 +7,9 @@ use Rattle.closed_surfaces.specs.SignedSurfaces.{IsSigned}
 use Rattle.closed_surfaces.specs.declared.signed_mesh.SignedMesh.{SignedMesh}
 use Rattle.free_forms.specs.OpenSurfaces.{HasBoundary}
 use Rattle.doubling.specs.Doubles.{double_of}
-use Rattle.doubling.specs.declared.fault.DoubleFault.{DoubleFault}
 use Rattle.compact_surfaces.specs.CompactSurfaces.{IsCompactSurface}
-use Rattle.compact_surfaces.specs.Faults.{IsConditionFault, IsDoubleFault}
-use Rattle.compact_surfaces.specs.declared.fault.CompactFault.TheVariants.{Double, OutOfMemory}
+use Rattle.compact_surfaces.specs.Faults.{IsUncoveredFault}
+use Rattle.compact_surfaces.specs.declared.fault.CompactFault.TheVariants.{OutOfMemory}
 use Rattle.compact_surfaces.specs.declared.signed.Bounded.{Bounded}
 use Rattle.compact_surfaces.specs.declared.signed.SignedCompact.{SignedCompact}
 use Rattle.compact_surfaces.specs.declared.signed.SignedCompact.TheVariants as surfaces
@@ -43,8 +42,7 @@ pub record IsOneSided (mesh : FaceList) : Type 0 where
 
 -- a condition fails, or the double is beyond a limit, or else there are no signs
 abbrev pub IsSignedFault : FaceList → SignedFault → Type 0
-IsSignedFault mesh (faults.Compact fault) =
-    IsConditionFault mesh fault ⊎ ((limit : DoubleFault) × (fault ≡ Double limit) × IsDoubleFault mesh limit)
+IsSignedFault mesh (faults.Compact fault) = IsUncoveredFault mesh fault
 IsSignedFault mesh faults.NotOrientable = IsOneSided mesh
 
 -- memory is wanting

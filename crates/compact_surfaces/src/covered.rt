@@ -1,24 +1,18 @@
 //! Closed manifolds without coherent signs, asked by way of their cover.
-ghost use Rattle.std.specs.Prelude.{◌≡◌, ◌⊎◌, ◌<◌, ℕ, length, map, IfOk, IfErr, MatchOption, OnOk};
+ghost use Rattle.std.specs.Prelude.{◌≡◌, ◌<◌, ℕ, length, map, IfOk, IfErr, MatchOption};
 ghost use Rattle.surf_model.specs.Edges.{IsTableOf};
-ghost use Rattle.surf_model.specs.Surfaces.{IsClosedManifold, IsOrientable};
-ghost use Rattle.closed_surfaces.specs.SignedSurfaces.{surface_no_memory};
 ghost use Rattle.walk_translate.specs.Found.{IsFoundOn};
 ghost use Rattle.component_deciding.specs.WordFinders.{mesh_of_finder};
-ghost use Rattle.doubling.specs.DoubleFaults.{IsTooLarge};
-ghost use Rattle.doubling.specs.declared.fault.DoubleFault.{DoubleFault};
-ghost use Rattle.orientation_cover.specs.Turns.{cover_by, lift_by};
+ghost use Rattle.orientation_cover.specs.Turns.{lift_by};
 ghost use Rattle.orientation_cover.specs.Ways.{AreWays};
-ghost use Rattle.surf_model.specs.FaceLists.{HasFileSize};
 ghost use Rattle.surf_model.specs.Walks.{IsWalk, walk_at};
-ghost use Rattle.compact_surfaces.specs.Faults.{IsCoverBeyond};
+ghost use Rattle.compact_surfaces.specs.Answered.{IsCovered};
 ghost use Rattle.walk_classes.specs.Faults.{IsClassFault, IsFirstNoWalk};
 ghost use Rattle.walk_classes.specs.WalkClasses.{AreClasses};
 
-use closed_surfaces::{NoSurface, SignedMesh};
+use crate::covered_mesh::CoveredMesh;
 use component_deciding::WordFinder;
-use doubling::DoubleFault;
-use orientation_cover::{WaysRound, cover, lift, ways_round};
+use orientation_cover::{WaysRound, lift};
 use std::alloc::{AllocError, Global};
 use std::marker::Model;
 use surf_model::{Answer, Faces, Sides, Walk};
@@ -48,22 +42,17 @@ impl Model for Covered {
 }
 
 impl Covered {
-    /// Makes the cover; or there is none, as it would be beyond this limit.
-    pub(crate) fn of(alloc: Global, faces: Faces, sides: Sides) -> Result<Covered, DoubleFault>
-        requires table { IsTableOf faces sides }
-        requires manifold { IsClosedManifold faces }
-        requires twisted { IsOrientable faces → ⊥ }
-        ensures mesh { IfOk result (λ covered. covered ≡ faces) }
-        ensures fault { IfErr result (λ fault. (fault ≡ DoubleFault.OutOfMemory) ⊎ IsCoverBeyond faces fault) }
-        ensures fits { OnOk result ((fault : DoubleFault) → IsCoverBeyond faces fault → ⊥) }
+    /// One of which questions may be asked.
+    pub(crate) fn of(alloc: Global, covered: CoveredMesh) -> Result<Covered, AllocError>
+        requires { IsCovered covered }
+        ensures { IfOk result (λ made. made ≡ covered.mesh.faces) }
     {
-        let ways = ways_round(alloc, &faces, &sides)?;
-        let finder = finder_above(alloc, &faces, &ways)?;
+        let finder = WordFinder::of(alloc, covered.cover, u64::MAX)?;
         Ok(Covered {
             alloc,
-            faces,
-            sides,
-            ways,
+            faces: covered.mesh.faces,
+            sides: covered.mesh.sides,
+            ways: covered.ways,
             finder,
         })
     }
@@ -152,29 +141,4 @@ fn lifts_of(
         lifts.push(above)?;
     }
     Ok(lifts)
-}
-
-/// The words of the cover by ways round the vertices; or the limit that this is beyond.
-fn finder_above(alloc: Global, faces: &Faces, ways: &WaysRound) -> Result<WordFinder, DoubleFault>
-    requires ways { AreWays faces.now ways.now }
-    requires manifold { IsClosedManifold faces.now }
-    ensures cover { IfOk result (λ finder. mesh_of_finder finder ≡ cover_by faces.now ways.now) }
-    ensures fault { IfErr result (λ fault. (fault ≡ DoubleFault.OutOfMemory) ⊎ IsTooLarge (cover_by faces.now ways.now) fault) }
-    ensures fits { OnOk result (HasFileSize (cover_by faces.now ways.now)) }
-{
-    let cover = cover(alloc, faces, ways)?;
-    // The proof reads what holds of every face list.
-    let _ = (faces.len(), cover.len());
-    match SignedMesh::of(alloc, cover) {
-        Ok(mesh) => Ok(WordFinder::of(alloc, mesh, u64::MAX)?),
-        Err(refusal) => Err(wanting(refusal)),
-    }
-}
-
-/// What is told of the cover, an orientable closed surface, where it is refused: that can be for want of memory alone.
-fn wanting(_refusal: NoSurface) -> DoubleFault
-    requires { _refusal ≡ surface_no_memory }
-    ensures { result ≡ DoubleFault.OutOfMemory }
-{
-    DoubleFault::OutOfMemory
 }

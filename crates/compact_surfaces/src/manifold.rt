@@ -1,23 +1,20 @@
 //! Closed manifolds, orientable or not.
-ghost use Rattle.std.specs.Prelude.{◌≡◌, ◌⊎◌, ◌↔◌, IfOk, IfErr, OnOk, true};
+ghost use Rattle.std.specs.Prelude.{◌≡◌, ◌↔◌, IfOk, IfErr, true};
 ghost use Rattle.surf_model.specs.Edges.{IsTableOf};
-ghost use Rattle.surf_model.specs.Surfaces.{IsClosedManifold, IsOrientable};
+ghost use Rattle.surf_model.specs.Surfaces.{IsOrientable};
 ghost use Rattle.closed_walks.specs.FreeHomotopy.{FreelyHomotopic, IsClosedWalk};
 ghost use Rattle.walk_classes.specs.Faults.{IsClassFault};
 ghost use Rattle.walk_classes.specs.WalkClasses.{AreClasses};
 ghost use Rattle.walk_translate.specs.Found.{IsFoundOn};
-ghost use Rattle.doubling.specs.declared.fault.DoubleFault.{DoubleFault};
-ghost use Rattle.compact_surfaces.specs.Faults.{IsCoverBeyond};
+ghost use Rattle.compact_surfaces.specs.Answered.{IsAnswered, mesh_of_answered};
 ghost use Rattle.compact_surfaces.specs.Manifolds.{has_signs, mesh_of_manifold};
 
+use crate::answered::AnsweredManifold;
 use crate::covered::Covered;
-use closed_surfaces::SignedMesh;
 use component_deciding::WordFinder;
-use doubling::DoubleFault;
 use free_loops::FreeAnswer;
-use orientation::{OrientFault, orient};
 use std::alloc::{AllocError, Global};
-use surf_model::{Answer, Faces, Sides, Walk};
+use surf_model::{Answer, Sides, Walk};
 use walk_classes::{ClassFault, classes_by};
 
 /// A closed manifold of which pairs of walks may be asked. Contracts see its mesh.
@@ -30,36 +27,24 @@ pub enum ClosedManifold {
 }
 
 impl ClosedManifold {
-    /// The closed manifold that a mesh is; or it has no coherent signs, and its cover would be beyond this limit.
+    /// One of which questions may be asked, made of what answers for it.
     pub(crate) fn of(
         alloc: Global,
-        faces: Faces,
-        sides: Sides,
-    ) -> Result<ClosedManifold, DoubleFault>
-        requires table { IsTableOf faces sides }
-        requires manifold { IsClosedManifold faces }
-        ensures mesh { IfOk result (λ manifold. mesh_of_manifold manifold ≡ faces) }
+        answered: AnsweredManifold,
+    ) -> Result<ClosedManifold, AllocError>
+        requires { IsAnswered answered }
+        ensures mesh { IfOk result (λ manifold. mesh_of_manifold manifold ≡ mesh_of_answered answered) }
         ensures signs { IfOk result (λ manifold. (has_signs manifold ≡ true) ↔ IsOrientable (mesh_of_manifold manifold)) }
-        ensures fault { IfErr result (λ fault. (fault ≡ DoubleFault.OutOfMemory) ⊎ IsCoverBeyond faces fault) }
-        ensures fits { OnOk result ((fault : DoubleFault) → IsCoverBeyond faces fault → ⊥) }
     {
-        // The proof reads what holds of every face list.
-        let _ = faces.len();
-        match orient(alloc, &faces, &sides) {
-            Ok(signs) => {
-                let mesh = SignedMesh {
-                    faces,
-                    sides,
-                    signs,
-                };
+        match answered {
+            AnsweredManifold::Itself(mesh) => {
                 let finder = WordFinder::of(alloc, mesh, u64::MAX)?;
                 Ok(ClosedManifold::Orientable(finder))
             }
-            Err(OrientFault::NotOrientable { .. }) => {
-                let covered = Covered::of(alloc, faces, sides)?;
+            AnsweredManifold::Covered(mesh) => {
+                let covered = Covered::of(alloc, mesh)?;
                 Ok(ClosedManifold::Covered(covered))
             }
-            Err(OrientFault::OutOfMemory) => Err(DoubleFault::OutOfMemory),
         }
     }
 

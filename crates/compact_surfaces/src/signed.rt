@@ -1,17 +1,11 @@
 //! Orientable compact surfaces with coherent signs, and their doubles where they have boundary.
 ghost use Rattle.std.specs.Prelude.{◌≡◌, ◌⊎◌, IfErr, IfOk, OnOk};
-ghost use Rattle.surf_model.specs.Edges.{IsTableOf};
-ghost use Rattle.surf_model.specs.Surfaces.{IsClosedManifold, IsOrientable};
-ghost use Rattle.closed_surfaces.specs.SignedSurfaces.{IsSigned};
 ghost use Rattle.compact_surfaces.specs.CompactSurfaces.{IsOrientableCompactSurface};
 ghost use Rattle.compact_surfaces.specs.Signed.{IsSignedFault, IsSignedFor, signed_no_memory};
-ghost use Rattle.compact_surfaces.specs.declared.signed.SignedFault.{SignedFault};
 
-use crate::check::has_boundary;
+use crate::answered::{ClosedMesh, closed_for};
 use crate::fault::CompactFault;
-use crate::surface::double_for;
 use closed_surfaces::SignedMesh;
-use orientation::{OrientFault, orient};
 use std::alloc::{AllocError, Global};
 use surf_model::{Faces, Sides};
 
@@ -68,44 +62,15 @@ impl SignedCompact {
         ensures signed { IfOk result (IsSignedFor faces) }
         ensures fault { IfErr result (λ fault. (fault ≡ signed_no_memory) ⊎ IsSignedFault faces fault) }
     {
-        // The proof reads what holds of every face list.
-        let _ = faces.len();
-        let sides = Sides::build(alloc, &faces)?;
-        if !has_boundary(alloc, &faces, &sides)? {
-            let closed = signed_by(alloc, faces, sides)?;
-            return Ok(SignedCompact::Closed(closed));
+        let (own, closed) = closed_for(alloc, faces)?;
+        match (closed, own) {
+            (ClosedMesh::Twisted(_), _) => Err(SignedFault::NotOrientable),
+            (ClosedMesh::Signed(closed), None) => Ok(SignedCompact::Closed(closed)),
+            (ClosedMesh::Signed(double), Some(own)) => Ok(SignedCompact::Bounded(Bounded {
+                faces: own.faces,
+                sides: own.sides,
+                double,
+            })),
         }
-        let double = double_for(alloc, &faces, &sides)?;
-        let _ = double.len();
-        let table = Sides::build(alloc, &double)?;
-        let double = signed_by(alloc, double, table)?;
-        Ok(SignedCompact::Bounded(Bounded {
-            faces,
-            sides,
-            double,
-        }))
-    }
-}
-
-/// A closed manifold with coherent signs; or it has none.
-fn signed_by(alloc: Global, faces: Faces, sides: Sides) -> Result<SignedMesh, SignedFault>
-    requires table { IsTableOf faces sides }
-    requires manifold { IsClosedManifold faces }
-    ensures mesh { IfOk result (λ surface. surface.faces ≡ faces) }
-    ensures signed { IfOk result IsSigned }
-    ensures orientable { OnOk result (IsOrientable faces) }
-    ensures fault { IfErr result (λ fault.
-        (fault ≡ signed_no_memory) ⊎ ((fault ≡ SignedFault.NotOrientable) × (IsOrientable faces → ⊥))) }
-{
-    // The proof reads what holds of every face list.
-    let _ = faces.len();
-    match orient(alloc, &faces, &sides) {
-        Ok(signs) => Ok(SignedMesh {
-            faces,
-            sides,
-            signs,
-        }),
-        Err(OrientFault::NotOrientable { .. }) => Err(SignedFault::NotOrientable),
-        Err(OrientFault::OutOfMemory) => Err(SignedFault::Compact(CompactFault::OutOfMemory)),
     }
 }

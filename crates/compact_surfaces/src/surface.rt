@@ -1,26 +1,25 @@
 //! Compact surfaces, of which pairs of walks may be asked.
 ghost use Rattle.std.specs.Prelude.{◌≡◌, ◌⊎◌, ◌↔◌, ◌<◌, ◌≤◌, ℕ, All, IfErr, IfOk, IsTrue, MatchOption, OnOk, length, true};
 ghost use Rattle.surf_model.specs.Edges.{IsTableOf};
-ghost use Rattle.surf_model.specs.Surfaces.{IsClosedManifold, IsOrientable};
+ghost use Rattle.surf_model.specs.FaceLists.{FaceList};
+ghost use Rattle.surf_model.specs.Surfaces.{IsOrientable};
 ghost use Rattle.closed_surfaces.specs.SignedSurfaces.{IsSigned};
 ghost use Rattle.closed_walks.specs.FreeHomotopy.{FreelyHomotopic, IsClosedWalk};
 ghost use Rattle.walk_classes.specs.Faults.{IsClassFault};
 ghost use Rattle.walk_classes.specs.WalkClasses.{AreClasses};
 ghost use Rattle.surf_model.specs.Walks.{walk_at};
 ghost use Rattle.walk_translate.specs.Found.{IsFoundOn};
-ghost use Rattle.doubling.specs.DoubleFaults.{IsBeyond};
-ghost use Rattle.doubling.specs.Doubles.{double_of};
-ghost use Rattle.compact_surfaces.specs.CompactSurfaces.{IsClosedFor, IsCompactSurface};
-ghost use Rattle.doubling.specs.declared.fault.DoubleFault.{DoubleFault};
-ghost use Rattle.compact_surfaces.specs.Faults.{IsCoverBeyond, IsFirstCompactFault, IsFaultBehind};
+ghost use Rattle.compact_surfaces.specs.Answered.{IsOwnFor};
+ghost use Rattle.compact_surfaces.specs.CompactSurfaces.{IsCompactSurface};
+ghost use Rattle.compact_surfaces.specs.Faults.{IsFirstCompactFault};
 ghost use Rattle.compact_surfaces.specs.Manifolds.{has_signs, mesh_of_manifold};
 
-use crate::check::has_boundary;
+use crate::answered::AnsweredSurface;
+use crate::covered_mesh::TabledMesh;
 use crate::fault::CompactFault;
 use crate::manifold::ClosedManifold;
 use closed_surfaces::SignedMesh;
 use component_deciding::WordFinder;
-use doubling::{DoubleFault, double};
 use free_loops::FreeAnswer;
 use std::alloc::{AllocError, Global};
 use std::marker::Model;
@@ -62,7 +61,9 @@ impl CompactSurface {
         ensures none { OnOk result ((fault : CompactFault) → IsFirstCompactFault faces fault → ⊥) }
     {
         let (vertices, count) = (faces.count(), faces.len());
-        let (own, closed) = closed_for(alloc, faces)?;
+        let answered = AnsweredSurface::of(alloc, faces)?;
+        let own = table_of(answered.own);
+        let closed = ClosedManifold::of(alloc, answered.closed)?;
         Ok(CompactSurface {
             alloc,
             vertices,
@@ -158,58 +159,13 @@ impl CompactSurface {
     }
 }
 
-/// The closed manifold that answers for a compact surface, with the table of the surface where that is another one; or the first condition
-/// that fails.
-fn closed_for(alloc: Global, faces: Faces) -> Result<(Option<Sides>, ClosedManifold), CompactFault>
-    ensures compact { OnOk result (IsCompactSurface faces) }
-    ensures closed { IfOk result (λ made. IsClosedFor faces (mesh_of_manifold made.1)) }
-    ensures own { IfOk result (λ made. MatchOption made.0 (mesh_of_manifold made.1 ≡ faces) (IsTableOf faces)) }
-    ensures signs { IfOk result (λ made. (has_signs made.1 ≡ true) ↔ IsOrientable (mesh_of_manifold made.1)) }
-    ensures fault { IfErr result (λ fault. (fault ≡ CompactFault.OutOfMemory) ⊎ IsFirstCompactFault faces fault) }
-    ensures none { OnOk result ((fault : CompactFault) → IsFirstCompactFault faces fault → ⊥) }
+/// The table of a mesh, where it is kept beside its double.
+fn table_of(own: Option<TabledMesh>) -> Option<Sides>
+    ensures { (mesh closed : FaceList) → IsOwnFor mesh closed own → MatchOption result (closed ≡ mesh) (IsTableOf mesh) }
 {
-    // The proof reads what holds of every face list.
-    let _ = faces.len();
-    let sides = Sides::build(alloc, &faces)?;
-    if !has_boundary(alloc, &faces, &sides)? {
-        let closed = manifold_for(alloc, faces, sides)?;
-        return Ok((None, closed));
-    }
-    let double = double_for(alloc, &faces, &sides)?;
-    // Their memory is for the double.
-    drop(faces);
-    let _ = double.len();
-    let table = Sides::build(alloc, &double)?;
-    let closed = manifold_for(alloc, double, table)?;
-    Ok((Some(sides), closed))
-}
-
-/// The double of a mesh, or the limit that it is beyond.
-pub(crate) fn double_for(alloc: Global, faces: &Faces, sides: &Sides) -> Result<Faces, CompactFault>
-    requires { IsTableOf faces.now sides.now }
-    ensures double { IfOk result (λ double. double ≡ double_of faces.now) }
-    ensures fault { IfErr result (IsFaultBehind (λ limit. CompactFault.Double limit) (IsBeyond faces.now)) }
-{
-    match double(alloc, faces, sides) {
-        Ok(double) => Ok(double),
-        Err(DoubleFault::OutOfMemory) => Err(CompactFault::OutOfMemory),
-        Err(limit) => Err(CompactFault::Double(limit)),
-    }
-}
-
-/// The closed manifold that a mesh is, or the limit that its cover is beyond.
-fn manifold_for(alloc: Global, faces: Faces, sides: Sides) -> Result<ClosedManifold, CompactFault>
-    requires table { IsTableOf faces sides }
-    requires manifold { IsClosedManifold faces }
-    ensures mesh { IfOk result (λ manifold. mesh_of_manifold manifold ≡ faces) }
-    ensures signs { IfOk result (λ manifold. (has_signs manifold ≡ true) ↔ IsOrientable (mesh_of_manifold manifold)) }
-    ensures fault { IfErr result (IsFaultBehind (λ limit. CompactFault.Cover limit) (IsCoverBeyond faces)) }
-    ensures fits { OnOk result ((fault : DoubleFault) → IsCoverBeyond faces fault → ⊥) }
-{
-    match ClosedManifold::of(alloc, faces, sides) {
-        Ok(manifold) => Ok(manifold),
-        Err(DoubleFault::OutOfMemory) => Err(CompactFault::OutOfMemory),
-        Err(limit) => Err(CompactFault::Cover(limit)),
+    match own {
+        Some(mesh) => Some(mesh.sides),
+        None => None,
     }
 }
 

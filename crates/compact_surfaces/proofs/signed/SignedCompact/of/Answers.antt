@@ -1,26 +1,17 @@
-use Rattle.compact_surfaces.proofs.Common.{sym, subst, err_from_is_err_and, IsClosedManifold}
-use Rattle.compact_surfaces.proofs.ClosedLemmas.{closed_manifold, double_manifold, none_told}
-use Rattle.compact_surfaces.proofs.SignedLemmas.{signed_double, twisted_double}
+use Rattle.compact_surfaces.proofs.Common.{inr}
+use Rattle.compact_surfaces.proofs.SignedLemmas.{one_sided, signed_double}
 use Rattle.compact_surfaces.proofs.signed.SignedCompact.of.Goals as goal
 
-pub signed_by-requires-clause-manifold : goal.signed_by-requires-clause-manifold
-signed_by-requires-clause-manifold c =
-    closed_manifold c.args.faces c.in_ok-has_boundary.ensures.compact
-    (none_told c.args.faces c.in_ok-has_boundary.field-0 c.in_ok-has_boundary.ensures.boundary c.if-not-branch.true)
+pub returns-in-Twisted-default-clause-fault : goal.returns-in-Twisted-default-clause-fault
+returns-in-Twisted-default-clause-fault c =
+    let own = rw c.in-Twisted-default.is-0 at c.in_ok-own.ensures.own in
+    let fits = rw c.in-Twisted-default.is-0 at c.in_ok-own.ensures.fits in
+    let closed = rw c.in-Twisted-default.is-0 at c.in_ok-own.ensures.closed in
+    inr (one_sided c.args.faces c.in-Twisted-default.field-0-0.faces c.in_ok-own.own c.in_ok-own.ensures.compact own fits closed.twisted)
 
-pub signed_by-requires-2-clause-manifold : goal.signed_by-requires-2-clause-manifold
-signed_by-requires-2-clause-manifold c =
-    subst IsClosedManifold (sym c.in_ok-double.ensures.double)
-    (double_manifold c.args.faces c.len.ensures.valid c.in_ok-has_boundary.ensures.compact)
-
-pub returns-in_err-double-2-clause-fault : goal.returns-in_err-double-2-clause-fault
-returns-in_err-double-2-clause-fault c =
-    let p = err_from_is_err_and c.from_residual-in_err-double-2.result c.from_residual-in_err-double-2.ensures.1 in
-    rw (p.1, p.2)
-    (twisted_double c.args.faces c.in_ok-double.double c.in_err-double-2.field-0.0 c.len.ensures.valid
-    c.in_ok-has_boundary.ensures.compact c.in_ok-double.ensures.double c.len-2.ensures.small c.in_err-double-2.ensures.fault)
-
-pub returns-clause-surface : goal.returns-clause-surface
-returns-clause-surface c =
-    signed_double c.args.faces c.in_ok-double.double c.in_ok-has_boundary.ensures.compact c.in_ok-double.ensures.double
-    c.in_ok-double-2.ensures.orientable
+pub returns-in-Signed-Some-clause-surface : goal.returns-in-Signed-Some-clause-surface
+returns-in-Signed-Some-clause-surface c =
+    let own = rw (c.in-Signed-Some.is-0, c.in-Signed-Some.is-1) at c.in_ok-own.ensures.own in
+    let closed = rw c.in-Signed-Some.is-0 at c.in_ok-own.ensures.closed in
+    signed_double c.args.faces c.in-Signed-Some.double.faces c.in_ok-own.ensures.compact own.is_double
+    (c.in-Signed-Some.double.signs, closed.coherent)
