@@ -1,10 +1,12 @@
 -- What the forms of two closed walks decide, on the surface from which the polygon of the labelling was cut.
-use Rattle.free_loops.proofs.Common.{IsClosedWalk, FreelyHomotopic, flat_next, Vector, origin, IsCyclicFormOf, OrientedMesh, IsOrientedSurface, quad_path_leads_to_sum, LabellingView, quad_path, IsWordOf, IsFullWheel, IsRotation, ◌≡◌, ◌↔◌, ℕ, Bool, ◌<◌, ◌≤◌, List, [], ◌∷◌, ap, sym, ◌∙◌, subst, arith, ℤ, IsTrue, FaceList, led, Turns, Flat, cut_is_good, HasSphereSplit, IsLabelledByCut}
-use Rattle.free_loops.specs.declared.deciding.FreeAnswer.{FreeAnswer}
-use Rattle.free_loops.specs.declared.deciding.FreeAnswer.TheVariants.{Freely}
+use Rattle.free_loops.proofs.Common.{IsClosedWalk, FreelyHomotopic, flat_next, Vector, origin, IsCyclicFormOf, OrientedMesh, IsOrientedSurface, quad_path_leads_to_sum, LabellingView, quad_path, IsWordOf, IsFullWheel, IsRotation, ◌≡◌, ◌↔◌, ℕ, ◌<◌, ◌≤◌, List, [], ◌∷◌, ap, sym, ◌∙◌, subst, arith, ℤ, FaceList, led, Flat, cut_is_good, HasSphereSplit, IsLabelledByCut}
+use Rattle.free_loops.specs.FreeWords.{DoDecideFree, IsFreeWordOf, IsFreeWordUnder}
+use Rattle.free_loops.specs.declared.word.FreeWord.{FreeWord}
+use Rattle.free_loops.specs.declared.word.FreeWord.TheVariants.{Ring, Point}
+use Rattle.spoke_rings.proofs.LeastStarts.{least_rotations_tell}
+use Rattle.std.specs.Prelude.{MatchOption, Option, None, Some}
 use Rattle.joined_loops.proofs.FlatWalks.{one_sum}
 use Rattle.joined_loops.proofs.FreeWalks.{one_cyclic_form}
-use Rattle.turn_words.specs.declared.word.Word.{Word}
 use Rattle.free_loops.proofs.CutWheelLemmas.{full_wheel}
 use Rattle.free_loops.proofs.FreeWordLemmas.{closed_way, sphere_free, rotations_free}
 use Rattle.free_loops.proofs.PlaneLemmas.{sums_free}
@@ -84,20 +86,17 @@ free_points surface labelling first second o h four closed free =
     (one_sum surface.mesh labelling first second (Flat one.x one.y) (Flat other.x other.y) o.faces (cut_is_good surface labelling o h) four
     closed free (four, quad_path_leads_to_sum surface.mesh labelling first) (four, quad_path_leads_to_sum surface.mesh labelling second))
 
--- words that are one, with four spokes
-pub sums_agree : (surface : OrientedMesh) (labelling : LabellingView) (first second : List ℕ) (one other : Word) → IsOrientedSurface surface
-    → IsLabelledByCut surface labelling → labelling.degree ≡ 4 → IsClosedWalk surface.mesh first → IsClosedWalk surface.mesh second
-    → IsWordOf surface.mesh labelling first one → IsWordOf surface.mesh labelling second other → one ≡ other
-    → FreelyHomotopic surface.mesh first second
-sums_agree surface labelling first second (Turns one) other o h four first_closed second_closed f g same = absurd (omega (arith, f.0))
-sums_agree surface labelling first second (Flat x y) (Turns other) o h four first_closed second_closed f g same =
-    absurd (omega (arith, g.0))
-sums_agree surface labelling first second (Flat x y) (Flat right up) o h four first_closed second_closed f g same =
+-- sums that are one, with four spokes
+sums_agree : (surface : OrientedMesh) (labelling : LabellingView) (first second : List ℕ) (x y right up : ℤ) → IsOrientedSurface surface
+    → IsLabelledByCut surface labelling → IsClosedWalk surface.mesh first → IsClosedWalk surface.mesh second
+    → IsWordOf surface.mesh labelling first (Flat x y) → IsWordOf surface.mesh labelling second (Flat right up)
+    → Flat x y ≡ Flat right up → FreelyHomotopic surface.mesh first second
+sums_agree surface labelling first second x y right up o h first_closed second_closed f g same =
     let one_point : vector x y ≡ point_of surface.mesh labelling first =
     f.1 ∙ sym (quad_path_leads_to_sum surface.mesh labelling first) in
     let other_point : vector right up ≡ point_of surface.mesh labelling second =
     g.1 ∙ sym (quad_path_leads_to_sum surface.mesh labelling second) in
-    points_free surface labelling first second o h four first_closed second_closed
+    points_free surface labelling first second o h f.0 first_closed second_closed
     (sym one_point ∙ same_point x y right up same ∙ other_point)
 
 -- forms of freely homotopic walks
@@ -109,27 +108,32 @@ free_forms surface labelling first second one other o h five closed f g free =
     one_cyclic_form surface.mesh labelling first second one other o.faces (cut_is_good surface labelling o h)
     (labelled_wheel surface labelling o h five) closed free f.leads g.leads f.canonical g.canonical
 
--- so the forms decide, and so do the sums
-pub forms_decide : (surface : OrientedMesh) (labelling : LabellingView) (first second one other : List ℕ) (same : Bool)
-    → IsOrientedSurface surface → IsLabelledByCut surface labelling → 5 ≤ labelling.degree → IsClosedWalk surface.mesh first
-    → IsClosedWalk surface.mesh second → IsCyclicFormOf surface.mesh labelling first one
-    → IsCyclicFormOf surface.mesh labelling second other → IsTrue same ↔ IsRotation one other
-    → IsTrue same ↔ FreelyHomotopic surface.mesh first second
-forms_decide surface labelling first second one other same o h five first_closed second_closed f g told = (
-  (λ yes. forms_free surface labelling first second one other o h first_closed second_closed f g (told.0 yes)),
-  (λ free. told.1 (free_forms surface labelling first second one other o h five first_closed f g free)),
+-- so free words decide
+words_decide : (surface : OrientedMesh) (labelling : LabellingView) (first second : List ℕ) (one other : FreeWord)
+    → IsOrientedSurface surface → IsLabelledByCut surface labelling → IsClosedWalk surface.mesh first → IsClosedWalk surface.mesh second
+    → IsFreeWordOf surface.mesh labelling first one → IsFreeWordOf surface.mesh labelling second other
+    → FreelyHomotopic surface.mesh first second ↔ (one ≡ other)
+words_decide surface labelling first second (Ring one) (Ring other) o h first_closed second_closed f g =
+    let told = least_rotations_tell f.1.form g.1.form one other f.1.is_form.loop.even g.1.is_form.loop.even f.1.least g.1.least in (
+      (λ free. ap Ring (told.1 (free_forms surface labelling first second f.1.form g.1.form o h f.0 first_closed f.1.is_form
+          g.1.is_form free))),
+      (λ same. forms_free surface labelling first second f.1.form g.1.form o h first_closed second_closed f.1.is_form g.1.is_form
+          (told.0 cc)),
+    )
+words_decide surface labelling first second (Point x y) (Point right up) o h first_closed second_closed f g = (
+  (λ free.
+      let same : Flat x y ≡ Flat right up =
+      one_sum surface.mesh labelling first second (Flat x y) (Flat right up) o.faces (cut_is_good surface labelling o h) f.0 first_closed
+      free f g in
+      cc),
+  (λ same. sums_agree surface labelling first second x y right up o h first_closed second_closed f g cc),
 )
+words_decide surface labelling first second (Ring one) (Point x y) o h first_closed second_closed f g = absurd (omega (arith, f.0, g.0))
+words_decide surface labelling first second (Point x y) (Ring other) o h first_closed second_closed f g = absurd (omega (arith, f.0, g.0))
 
-pub sums_decide : (surface : OrientedMesh) (labelling : LabellingView) (first second : List ℕ) (one other : Word) (same : Bool)
-    → IsOrientedSurface surface → IsLabelledByCut surface labelling → labelling.degree ≡ 4 → IsClosedWalk surface.mesh first
-    → IsClosedWalk surface.mesh second → IsWordOf surface.mesh labelling first one → IsWordOf surface.mesh labelling second other
-    → IsTrue same ↔ (one ≡ other) → IsTrue same ↔ FreelyHomotopic surface.mesh first second
-sums_decide surface labelling first second one other same o h four first_closed second_closed f g told = (
-  (λ yes. sums_agree surface labelling first second one other o h four first_closed second_closed f g (told.0 yes)),
-  (λ free. told.1 (one_sum surface.mesh labelling first second one other o.faces (cut_is_good surface labelling o h) four first_closed
-      free f g)),
-)
-
--- the answer that is given of what was found
-pub found_freely : {P : Type 0} (answer : FreeAnswer) → P → answer ≡ Freely → (answer ≡ Freely) ↔ P
-found_freely answer free e = ((λ _. free), (λ _. e))
+pub free_words_decide : (surface : OrientedMesh) (labels : Option LabellingView) → IsOrientedSurface surface
+    → MatchOption labels (HasSphereSplit surface) (IsLabelledByCut surface)
+    → DoDecideFree surface.mesh (IsFreeWordUnder surface.mesh labels)
+free_words_decide surface None o sphere = λ first second one other first_closed second_closed here there.
+    ((λ _. here ∙ sym there), (λ _. sphere_frees surface first second o sphere first_closed second_closed))
+free_words_decide surface (Some labelling) o h = λ first second one other. words_decide surface labelling first second one other o h

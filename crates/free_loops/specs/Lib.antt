@@ -1,1 +1,2 @@
 pub mod CyclicForms
+pub mod FreeWords

@@ -1,12 +1,11 @@
 //! Deciding free homotopy.
-ghost use Rattle.std.specs.Prelude.{◌≡◌, ◌≤◌, ◌↔◌, IfOk, IsTrue, MatchOption};
+ghost use Rattle.std.specs.Prelude.{◌≡◌, ◌↔◌, IfOk, MatchOption};
 ghost use Rattle.closed_walks.specs.FreeHomotopy.{IsClosedWalk, FreelyHomotopic};
 ghost use Rattle.walk_translate.specs.SurfaceLabels.{HasSphereSplit, IsLabelledByCut};
 
-use crate::form::cyclic_form_of;
+use crate::word::{are_same_free_words, free_word};
 use halfedge_map::Surface;
-use labellings::{GoodLabelling, are_same_words, word_of};
-use spoke_rings::is_rotation;
+use labellings::GoodLabelling;
 use std::alloc::{AllocError, Global};
 use surf_model::Walk;
 use walk_translate::label_by_cut;
@@ -22,8 +21,7 @@ pub enum FreeAnswer {
 
 /// Decides whether two closed walks of a surface are freely homotopic.
 ///
-/// On a sphere they always are. On a torus their sums are compared, and on every other surface their cyclic forms, under the
-/// labelling of a polygon into which the surface is cut.
+/// Their free words are compared, under the labelling of a polygon into which the surface is cut.
 pub fn decide_free(
     alloc: Global,
     surface: &Surface,
@@ -54,57 +52,11 @@ pub fn decide_labelled(
     requires second { IsClosedWalk surface.now.mesh second.now }
     ensures { IfOk result (λ answer. (answer ≡ FreeAnswer.Freely) ↔ FreelyHomotopic surface.now.mesh first.now second.now) }
 {
-    // The proof reads what holds of every surface.
-    let _ = surface.faces();
-    let Some(good) = labels else {
-        return Ok(FreeAnswer::Freely);
-    };
-    let same = if good.labelling().degree() == 4 {
-        have_one_sum(alloc, surface, good, first, second)?
-    } else {
-        have_one_form(alloc, surface, good, first, second)?
-    };
-    if same {
+    let one = free_word(alloc, surface, labels, first)?;
+    let other = free_word(alloc, surface, labels, second)?;
+    if are_same_free_words(&one, &other) {
         Ok(FreeAnswer::Freely)
     } else {
         Ok(FreeAnswer::NotFreely)
     }
-}
-
-/// Tells whether two closed walks on a torus lead to one point of the plane.
-fn have_one_sum(
-    alloc: Global,
-    surface: &Surface,
-    good: &GoodLabelling,
-    first: &Walk,
-    second: &Walk,
-) -> Result<bool, AllocError>
-    requires labelled { IsLabelledByCut surface.now good.now }
-    requires four { good.now.degree ≡ 4 }
-    requires first { IsClosedWalk surface.now.mesh first.now }
-    requires second { IsClosedWalk surface.now.mesh second.now }
-    ensures { IfOk result (λ same. IsTrue same ↔ FreelyHomotopic surface.now.mesh first.now second.now) }
-{
-    let one = word_of(alloc, surface.faces(), surface.sides(), good, first)?;
-    let other = word_of(alloc, surface.faces(), surface.sides(), good, second)?;
-    Ok(are_same_words(&one, &other))
-}
-
-/// Tells whether the cyclic forms of two closed walks are one but for where they start.
-fn have_one_form(
-    alloc: Global,
-    surface: &Surface,
-    good: &GoodLabelling,
-    first: &Walk,
-    second: &Walk,
-) -> Result<bool, AllocError>
-    requires labelled { IsLabelledByCut surface.now good.now }
-    requires five { 5 ≤ good.now.degree }
-    requires first { IsClosedWalk surface.now.mesh first.now }
-    requires second { IsClosedWalk surface.now.mesh second.now }
-    ensures { IfOk result (λ same. IsTrue same ↔ FreelyHomotopic surface.now.mesh first.now second.now) }
-{
-    let one = cyclic_form_of(alloc, surface.faces(), surface.sides(), good, first)?;
-    let other = cyclic_form_of(alloc, surface.faces(), surface.sides(), good, second)?;
-    Ok(is_rotation(&one, &other))
 }

@@ -1,5 +1,6 @@
 -- On a full wheel joined lists that are cyclically canonical are rotations of one another.
-use Rattle.joined_loops.proofs.Common.{JoinedBy, Joined, along, upto, upto-length, IsCanonicalRow, along-first, along-round, rotated, rotated-length, rotated-along, along-below, turn_at, place-below, stands-even, IsLoop, IsFullWheel, IsCyclicallyCanonical, spoke_along, stands_before, cyclic_turn, IsRotation, ◌≡◌, ℕ, ◌+◌, ◌-◌, ◌%◌, ◌<◌, ◌≤◌, inl, inr, arith, refl, sym, ◌∙◌, ap, ap₂, subst, zero, suc, true, not, List, [], ◌∷◌, ◌++◌, take, drop, length, reverse, get_or, drop-append_seam, take-append_seam, cases_lt, cases_eq, common_steps, same_number_lists, reverse-reverse, length-reverse, length-append, length-drop, take-append-drop, nil_from_length, ◌==◌, if◌then◌else◌, state, led, HyperState, IsEven, empty_state, hyper_next, BelongsTo, hyper_starts, add, minus, place_round}
+use Rattle.joined_loops.proofs.Common.{JoinedBy, Joined, along, upto, upto-length, IsCanonicalRow, along-first, along-round, rotated, rotated-length, rotated-along, along-below, turn_at, place-below, stands-even, IsLoop, IsFullWheel, IsCyclicallyCanonical, spoke_along, stands_before, cyclic_turn, IsRotation, ◌≡◌, ℕ, ◌+◌, ◌-◌, ◌%◌, ◌<◌, ◌≤◌, inl, inr, arith, refl, sym, ◌∙◌, ap, ap₂, subst, zero, suc, true, not, List, [], ◌∷◌, ◌++◌, length, reverse, get_or, cases_lt, cases_eq, common_steps, same_number_lists, reverse-reverse, length-reverse, length-append, nil_from_length, ◌==◌, if◌then◌else◌, state, led, HyperState, IsEven, empty_state, hyper_next, BelongsTo, hyper_starts, add, minus, place_round}
+use Rattle.spoke_rings.proofs.LeastStarts.{rotation-back}
 use Rattle.joined_loops.proofs.Times.{times, times-some, times-add, times-even, later-rounds}
 use Rattle.joined_loops.proofs.Numbers.{by-round, Reached, start-reached, next-reached, led-reached, one-number, same-turn, less-none}
 use Rattle.joined_loops.proofs.Keeping.{EndsIn, ends-later, begins-ends}
@@ -286,24 +287,6 @@ module _ (places : List ℕ) (full : IsFullWheel places) (a b q : List ℕ) (a_l
 
   pub rotation-of-longer : IsRotation a b
   rotation-of-longer = rotation (settled places full a b q a_loop b_loop a_some b_some a_canonical b_canonical joined longer)
-
--- a rotation the other way
-rotation-back : (a b : List ℕ) → length a % 2 ≡ 0 → IsRotation a b → IsRotation b a
-rotation-back a b even r =
-    let c = r.count in
-    let within = r.within in
-    let long = rotated-length a c r.within in
-    let is = ap length r.is in
-    let two = r.even in
-    let size = length-drop c a in
-    record {
-      count = length a - c;
-      even = omega arith;
-      within = omega arith;
-      is = sym (ap (rotated (length a - c)) r.is ∙ ap (λ n. rotated n (drop c a ++ take c a)) (sym size)
-          ∙ ap₂ (λ x y. x ++ y) (drop-append_seam (drop c a) (take c a)) (take-append_seam (drop c a) (take c a))
-          ∙ take-append-drop c a);
-    }
 
 -- the turns of a list with spokes
 turns-of : (places a : List ℕ) → IsCyclicallyCanonical places a → 0 < length a →

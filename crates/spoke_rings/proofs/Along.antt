@@ -33,7 +33,7 @@ rotated c s = drop c s ++ take c s
 pub rotated-length : (s : List ℕ) (c : ℕ) → c ≤ length s → length (rotated c s) ≡ length s
 rotated-length s c within = grind (arith, common_steps)
 
-rotated-at : (s : List ℕ) (c k : ℕ) → c ≤ length s → k < length s → get_or (rotated c s) k 0 ≡ spoke_along s (k + c)
+pub rotated-at : (s : List ℕ) (c k : ℕ) → c ≤ length s → k < length s → get_or (rotated c s) k 0 ≡ spoke_along s (k + c)
 rotated-at s c k within below = grind (arith, common_steps, along-first, along-second)
 
 pub rotated-along : (s : List ℕ) (c : ℕ) → c ≤ length s → 0 < length s → (k : ℕ) → spoke_along (rotated c s) k ≡ spoke_along s (k + c)

@@ -24,7 +24,7 @@ pub data Compared (f g : ℕ → ℕ) (n : ℕ) : Type 0 where
   first : Greater f g → Compared f g n
   second : Greater g f → Compared f g n
 
-compared : (f g : ℕ → ℕ) (n : ℕ) → Compared f g n
+pub compared : (f g : ℕ → ℕ) (n : ℕ) → Compared f g n
 compared f g zero = equal (λ k below. absurd (omega arith))
 compared f g (suc n) = elim (compared f g n) [
   | first a ↦ first a

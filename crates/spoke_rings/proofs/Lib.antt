@@ -1,7 +1,7 @@
 pub mod Common
 pub mod Along
 pub mod Least
-pub mod Comparing
+pub mod LeastStarts
 pub mod Leading
 pub mod Places
 pub mod Pushing

@@ -1,4 +1,4 @@
-use Rattle.spoke_rings.proofs.Common.{◌≡◌, length, ◌∙◌, ◌-◌, arith, add, place_round}
+use Rattle.spoke_rings.proofs.Common.{◌≡◌, length, ◌∙◌, arith, add, place_round}
 use Rattle.spoke_rings.proofs.Places.{moved-on, moved-round}
 use Rattle.spoke_rings.proofs.ring.moved.Goals as goal
 use Rattle.spoke_rings.proofs.ring.moved.Goals.{Joined-place-room}

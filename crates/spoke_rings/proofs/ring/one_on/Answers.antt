@@ -1,4 +1,4 @@
-use Rattle.spoke_rings.proofs.Common.{arith, ◌-◌}
+use Rattle.spoke_rings.proofs.Common.{arith}
 use Rattle.spoke_rings.proofs.Places.{one-back}
 use Rattle.spoke_rings.proofs.ring.one_on.Goals as goal
 

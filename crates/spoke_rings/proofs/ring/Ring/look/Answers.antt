@@ -1,4 +1,4 @@
-use Rattle.spoke_rings.proofs.Common.{arith, ◌-◌}
+use Rattle.spoke_rings.proofs.Common.{arith}
 use Rattle.spoke_rings.proofs.Reducing.{fall-is, not-fall, fine-other}
 use Rattle.spoke_rings.proofs.ring.Ring.look.Goals as goal
 
