@@ -1,6 +1,6 @@
 -- What proofs of this crate cite of its definitions and of other crates, passed on from one place (by tools/imports). Declares nothing.
 pub use Rattle.closed_walks.specs.FreeHomotopy.{FreeStep, FreelyHomotopic, FreelyLeads, IsClosedWalk, Moved, Rotated, after_all_free, after_free}
-pub use Rattle.component_deciding.specs.ComponentWords.{AreLabelledApart, IsOwnLabelled, IsWordAmong, IsWordAt, SeveralView, labelled_at, unboxed}
+pub use Rattle.component_deciding.specs.ComponentWords.{AreLabelledApart, IsFreeAmong, IsFreeUnder, IsOwnLabelled, IsToldAt, IsWordAmong, SeveralView, labelled_at, place_of_walk, unboxed}
 pub use Rattle.component_deciding.specs.OwnVertices.{AreOwnNumbers, IsApart, IsOwnWalk, own_mesh, own_walk}
 unfoldable pub use Rattle.component_deciding.specs.OwnVertices.{own_number}
 pub use Rattle.component_deciding.specs.declared.apart.Apart.{Apart}
@@ -16,7 +16,7 @@ pub use Rattle.renaming.proofs.RenamedMoves.{homotopic_renamed}
 pub use Rattle.renaming.proofs.RenamedSides.{led_back, list_restored, total_renamed, valid_renamed}
 pub use Rattle.renaming.proofs.RenamedWalks.{ends_renamed, joined_renamed, restored, walk_renamed}
 pub use Rattle.renaming.specs.Renamings.{IsRenamed}
-pub use Rattle.std.proofs.Common.{Bool, Global, List, Vec, ap, arith, cond, eqb, false, get_or, get_or-set_other, get_or-set_same, inl, inr, length, length-set, map, refl, set, slice_index, subst, suc, sym, take, true, zero, ℕ, [], ◌&&◌, ◌++◌, ◌+◌, ◌<◌, ◌↔◌, ◌∙◌, ◌∷◌, ◌≡◌, ◌≢◌, ◌≤◌}
+pub use Rattle.std.proofs.Common.{Bool, Global, List, Vec, ap, ap₂, arith, cond, eqb, false, get_or, get_or-set_other, get_or-set_same, inl, inr, length, length-set, map, refl, set, slice_index, subst, suc, sym, take, true, zero, ℕ, [], ◌&&◌, ◌++◌, ◌+◌, ◌<◌, ◌↔◌, ◌∙◌, ◌∷◌, ◌≡◌, ◌≢◌, ◌≤◌}
 pub use Rattle.std.proofs.lemmas.Bool.{and_right, both_ways, cases_Bool, cases_lt, eq-eqb, eqb-true, ne_eqb}
 pub use Rattle.std.proofs.lemmas.List.{get_or-map, get_or_append_left, get_or_default, get_or_push, get_or_read, length-append, length-map, length_push, map-append, map_more, take_all, take_more}
 pub use Rattle.std.proofs.lemmas.List.Elements.{All-push, All-weaker, filter_agree}
@@ -24,7 +24,7 @@ pub use Rattle.std.proofs.lemmas.List.Sorted.{All-permutation, Contains-permutat
 pub use Rattle.std.proofs.lemmas.Result.{IfOk-weaker}
 pub use Rattle.std.specs.Global.{Box}
 pub use Rattle.std.specs.List.{range_with_len}
-pub use Rattle.std.specs.Prelude.{All, Contains, IfSome, MatchOption, None, Option, Some}
+pub use Rattle.std.specs.Prelude.{All, Contains, Err, IfOk, IfSome, MatchOption, None, Ok, Option, Result, Some}
 pub use Rattle.surf_model.proofs.EdgeLemmas.{corner_used, used_below}
 pub use Rattle.surf_model.proofs.FilterLemmas.{map_agree}
 pub use Rattle.surf_model.specs.Building.{IsCounted}
@@ -40,4 +40,4 @@ pub use Rattle.surf_model.specs.Walks.{AreWalkPair, HaveCommonEnds, IsWalk, dart
 pub use Rattle.surf_model.specs.declared.decisions.Answer.{Answer}
 pub use Rattle.surf_model.specs.declared.names.VertexName.{VertexName}
 pub use Rattle.walk_translate.specs.Found.{DoDecide, IsFoundOn, IsWordFound}
-pub use Rattle.walk_translate.specs.LabelledSurfaces.{IsWordUnder, LabelledView}
+pub use Rattle.walk_translate.specs.LabelledSurfaces.{IsLabelledSurface, IsWordUnder, LabelledView}

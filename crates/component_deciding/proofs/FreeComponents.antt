@@ -1,5 +1,5 @@
 -- Free homotopy of closed walks on a mesh, and on a component over its own vertices.
-use Rattle.component_deciding.proofs.Common.{FreeStep, FreelyHomotopic, FreelyLeads, IsClosedWalk, Moved, Rotated, after_all_free, after_free, IsApart, IsOwnWalk, own_mesh, own_number, own_walk, Apart, IsOfComponent, piece_of_parts, walk_alone, walk_same_place, walk_whole, homotopic_alike, homotopic_renamed, led_back, valid_renamed, ends_renamed, restored, walk_renamed, IsRenamed, ◌≡◌, ◌↔◌, ℕ, ◌<◌, List, [], ◌∷◌, ◌++◌, length, get_or, map, refl, ap, sym, ◌∙◌, subst, arith, map-append, Some, used_below, component_at, component_mesh, FaceList, IsFaceList, HasGenus, Homotopic, AreJoinedByWalk, IsWalk, AreWalkPair, darts}
+use Rattle.component_deciding.proofs.Common.{FreeStep, FreelyHomotopic, FreelyLeads, IsClosedWalk, Moved, Rotated, after_all_free, after_free, IsApart, own_mesh, own_number, own_walk, Apart, IsOfComponent, piece_of_parts, walk_alone, walk_same_place, walk_whole, homotopic_alike, homotopic_renamed, led_back, valid_renamed, ends_renamed, restored, walk_renamed, IsRenamed, ◌≡◌, ◌↔◌, ℕ, ◌<◌, List, [], ◌∷◌, ◌++◌, length, get_or, map, refl, ap, sym, ◌∙◌, subst, arith, map-append, Some, used_below, component_at, component_mesh, FaceList, IsFaceList, HasGenus, Homotopic, AreJoinedByWalk, IsWalk, AreWalkPair, darts}
 use Rattle.closed_walks.proofs.FreeStepLemmas.{on, parts_turn, step_keeps}
 use Rattle.closed_walks.proofs.MovedSteps.{freely}
 use Rattle.free_loops.proofs.ClosedLoopLemmas.{common_ends, way_ends}
@@ -218,13 +218,3 @@ module _ (apart : Apart) (k : ℕ) (is : IsApart apart) (l : k < length apart.pa
       (on mesh (u ∷ (way ++ again)) (v ∷ (again ++ way)) (v ∷ others) (parts_turn mesh u v way again (way_ends mesh u v way out.1))
       (on_sphere sphere v (again ++ way) others there.place (way_on mesh v u v again way returns out.1)
       (closed_way mesh v others there.closed)))
-
-  -- so what is told of two closed walks over the component's own vertices holds of them
-  pub told_there : (first second one other : List ℕ) (alone_mesh : FaceList) (Said : Type 0) → StartsIn apart k first
-      → StartsIn apart k second → IsOwnWalk apart k first one → IsOwnWalk apart k second other → alone_mesh ≡ own_mesh alone
-      → Said ↔ FreelyHomotopic alone_mesh one other → Said ↔ FreelyHomotopic mesh first second
-  told_there first second one other alone_mesh Said here there own_one own_other e told =
-      let free = own_free first second here there in
-      let at : Said ↔ FreelyHomotopic (own_mesh alone) (own_walk alone first) (own_walk alone second) =
-      rw (e, own_one.by_number, own_other.by_number) at told in
-      ((λ said. free.1 (at.0 said)), (λ leads. at.1 (free.0 leads)))

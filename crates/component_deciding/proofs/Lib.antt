@@ -6,3 +6,4 @@ pub mod OrderLemmas
 pub mod SphereLemmas
 pub mod WordLemmas
 pub mod FreeComponents
+pub mod FreeTold

@@ -1,9 +1,10 @@
 -- What words of walks decide, on a connected surface and among several components.
-use Rattle.component_deciding.proofs.Common.{AreLabelledApart, IsOwnLabelled, IsWordAmong, IsWordAt, SeveralView, labelled_at, unboxed, IsApart, IsOwnWalk, own_mesh, own_walk, Apart, ◌≡◌, ◌≢◌, ◌↔◌, inl, inr, ℕ, zero, suc, ◌<◌, eqb, List, [], ◌∷◌, ◌++◌, length, get_or, set, get_or-set_same, get_or-set_other, sym, ap, ◌∙◌, refl, subst, length-set, both_ways, cases_Bool, eq-eqb, eqb-true, Box, IfSome, MatchOption, None, Option, Some, component_mesh, FaceList, HasGenus, Homotopic, IsWalk, AreWalkPair, Answer, DoDecide, IsFoundOn, IsWordFound, IsWordUnder, LabelledView}
+use Rattle.component_deciding.proofs.Common.{AreLabelledApart, IsOwnLabelled, IsFreeAmong, IsFreeUnder, IsToldAt, IsWordAmong, SeveralView, place_of_walk, labelled_at, unboxed, IsApart, IsOwnWalk, own_mesh, own_walk, Apart, ◌≡◌, ◌≢◌, ◌↔◌, inl, inr, ℕ, zero, suc, ◌<◌, eqb, List, [], ◌∷◌, ◌++◌, length, get_or, set, get_or-set_same, get_or-set_other, sym, ap, ◌∙◌, refl, subst, length-set, both_ways, cases_Bool, eq-eqb, eqb-true, Box, IfSome, MatchOption, None, Option, Some, component_mesh, FaceList, HasGenus, Homotopic, IsWalk, AreWalkPair, DoDecide, IsWordFound, IsWordUnder, LabelledView}
 use Rattle.turn_words.specs.declared.word.Word.{Word}
 use Rattle.turn_words.specs.declared.word.Word.TheVariants.{Turns}
 use Rattle.walk_translate.proofs.DecidingLemmas.{under_decide}
-use Rattle.surf_model.specs.declared.decisions.Answer.TheVariants as answers
+use Rattle.component_deciding.specs.declared.free.PlacedWord.{PlacedWord}
+use Rattle.free_loops.specs.declared.word.FreeWord.TheVariants.{Ring}
 use Rattle.component_deciding.proofs.ComponentLemmas.{IsNumbered}
 use Rattle.component_deciding.proofs.OwnSurfaces.{own_homotopic, own_walks, walk_back}
 use Rattle.component_deciding.proofs.SphereLemmas.{homotopic_on_sphere}
@@ -46,7 +47,7 @@ among_decide several h = λ first second one other walks here there.
     let same : get_or apart.parts.places (get_or second 0 0) 0 ≡ k =
     ap (λ (v : ℕ). get_or apart.parts.places v 0) (sym walks.ends.starts) in
     at_decide apart k (labelled_at several k) first second one other h.apart within (h.labelled k within) walks refl here
-    (subst (λ (p : ℕ). IsWordAt several p second other) same there)
+    (subst (λ (p : ℕ). IsToldAt several p second (other ≡ Turns []) (λ labelled own. IsWordUnder labelled own other)) same there)
 
 -- ---- one component more is labelled
 
@@ -57,42 +58,57 @@ pub record IsLabelledMore (place : ℕ) (several next : SeveralView) : Type 0 wh
   pub stay : (labelled : LabelledView) → labelled_at several place ≡ Some labelled → labelled_at next place ≡ Some labelled
   pub others : (k : ℕ) → k ≢ place → labelled_at next k ≡ labelled_at several k
 
--- the word of a walk in a component with these labels, or with none
-abbrev HasWord : Apart → Option LabelledView → ℕ → List ℕ → Word → Type 0
-HasWord apart found k walk word =
-    MatchOption found (HasGenus (component_mesh apart.mesh.faces apart.parts k) 0 × (word ≡ Turns []))
-    (λ labelled. IsWordUnder labelled (own_walk (component_mesh apart.mesh.faces apart.parts k) walk) word)
+-- what is told of a walk in a component with these labels, or with none
+abbrev pub Tells : Apart → Option LabelledView → ℕ → List ℕ → Type 0 → (LabelledView → List ℕ → Type 0) → Type 0
+Tells apart found k walk OnSphere Under =
+    MatchOption found (HasGenus (component_mesh apart.mesh.faces apart.parts k) 0 × OnSphere)
+    (λ labelled. Under labelled (own_walk (component_mesh apart.mesh.faces apart.parts k) walk))
 
--- no walk of a component without labels has a word, unless it is a sphere
-word_stays : (apart : Apart) (k : ℕ) (before after : Option LabelledView) (walk : List ℕ) (word : Word)
-    → (HasGenus (component_mesh apart.mesh.faces apart.parts k) 0 → ⊥)
+-- nothing is told of a walk of a component without labels, unless it is a sphere
+told_stays : (apart : Apart) (k : ℕ) (before after : Option LabelledView) (walk : List ℕ) (OnSphere : Type 0)
+    (Under : LabelledView → List ℕ → Type 0) → (HasGenus (component_mesh apart.mesh.faces apart.parts k) 0 → ⊥)
     → ((labelled : LabelledView) → before ≡ Some labelled → after ≡ Some labelled)
-    → HasWord apart before k walk word → HasWord apart after k walk word
-word_stays apart k None after walk word not stay is = absurd (not is.0)
-word_stays apart k (Some labelled) after walk word not stay is =
-    subst (λ (o : Option LabelledView). HasWord apart o k walk word) (sym (stay labelled refl)) is
+    → Tells apart before k walk OnSphere Under → Tells apart after k walk OnSphere Under
+told_stays apart k None after walk OnSphere Under not stay is = absurd (not is.0)
+told_stays apart k (Some labelled) after walk OnSphere Under not stay is =
+    subst (λ (o : Option LabelledView). Tells apart o k walk OnSphere Under) (sym (stay labelled refl)) is
 
--- so words stay where one component more is labelled
-pub words_stay : (several next : SeveralView) (place : ℕ) (walk : List ℕ) (word : Word) → IsLabelledMore place several next
-    → (HasGenus (component_mesh several.apart.mesh.faces several.apart.parts place) 0 → ⊥) → IsWordAmong several walk word
-    → IsWordAmong next walk word
-words_stay several next place walk word more not is =
+-- so what is told stays where one component more is labelled
+stays_at : (several next : SeveralView) (place k : ℕ) (walk : List ℕ) (OnSphere : Type 0) (Under : LabelledView → List ℕ → Type 0)
+    → IsLabelledMore place several next → (HasGenus (component_mesh several.apart.mesh.faces several.apart.parts place) 0 → ⊥)
+    → IsToldAt several k walk OnSphere Under → IsToldAt next k walk OnSphere Under
+stays_at several next place k walk OnSphere Under more not is =
     let apart : Apart = several.apart in
-    let v : ℕ = get_or walk 0 0 in
-    let k : ℕ = get_or apart.parts.places v 0 in
-    let there : HasWord apart (labelled_at next k) k walk word = elim (cases_Bool (eqb k place)) [
+    let there : Tells apart (labelled_at next k) k walk OnSphere Under = elim (cases_Bool (eqb k place)) [
       | inl same ↦
           (let here : place ≡ k = sym (eqb-true k place same) in
-          word_stays apart k (labelled_at several k) (labelled_at next k) walk word
+          told_stays apart k (labelled_at several k) (labelled_at next k) walk OnSphere Under
           (subst (λ (p : ℕ). HasGenus (component_mesh apart.mesh.faces apart.parts p) 0 → ⊥) here not)
           (subst (λ (p : ℕ). (labelled : LabelledView) → labelled_at several p ≡ Some labelled → labelled_at next p ≡ Some labelled) here
           more.stay) is)
       | inr differ ↦
-          subst (λ (o : Option LabelledView). HasWord apart o k walk word)
+          subst (λ (o : Option LabelledView). Tells apart o k walk OnSphere Under)
           (sym (more.others k (λ e. both_ways (eqb k place) differ (eq-eqb k place e)))) is
     ] in
-    subst (λ (a : Apart). HasWord a (labelled_at next (get_or a.parts.places v 0)) (get_or a.parts.places v 0) walk word)
-    (sym more.same) there
+    subst (λ (a : Apart). Tells a (labelled_at next k) k walk OnSphere Under) (sym more.same) there
+
+pub words_stay : (several next : SeveralView) (place : ℕ) (walk : List ℕ) (word : Word) → IsLabelledMore place several next
+    → (HasGenus (component_mesh several.apart.mesh.faces several.apart.parts place) 0 → ⊥) → IsWordAmong several walk word
+    → IsWordAmong next walk word
+words_stay several next place walk word more not is =
+    let told = stays_at several next place (place_of_walk several walk) walk (word ≡ Turns [])
+    (λ labelled own. IsWordUnder labelled own word) more not is in
+    subst (λ (p : ℕ). IsToldAt next p walk (word ≡ Turns []) (λ labelled own. IsWordUnder labelled own word))
+    (ap (λ (a : Apart). get_or a.parts.places (get_or walk 0 0) 0) (sym more.same)) told
+
+pub free_words_stay : (several next : SeveralView) (place : ℕ) (walk : List ℕ) (placed : PlacedWord) → IsLabelledMore place several next
+    → (HasGenus (component_mesh several.apart.mesh.faces several.apart.parts place) 0 → ⊥) → IsFreeAmong several walk placed
+    → IsFreeAmong next walk placed
+free_words_stay several next place walk placed more not is = record {
+  place = is.place ∙ ap (λ (a : Apart). get_or a.parts.places (get_or walk 0 0) 0) (sym more.same);
+  word = stays_at several next place placed.place walk (placed.word ≡ Ring [])
+      (λ labelled own. IsFreeUnder labelled own placed.word) more not is.word;
+}
 
 -- the labels of a component are those of its own mesh
 pub own_labels : (several : SeveralView) (k : ℕ) (labelled : LabelledView) → AreLabelledApart several
@@ -100,11 +116,12 @@ pub own_labels : (several : SeveralView) (k : ℕ) (labelled : LabelledView) →
 own_labels several k labelled is l there =
     subst (λ (o : Option LabelledView). IfSome o (IsOwnLabelled several.apart k)) there (is.labelled k l)
 
--- on a sphere the word of no turns is that of a walk
-on_sphere : (apart : Apart) (k : ℕ) (found : Option LabelledView) (walk : List ℕ) (word : Word) → IfSome found (IsOwnLabelled apart k)
-    → HasGenus (component_mesh apart.mesh.faces apart.parts k) 0 → word ≡ Turns [] → HasWord apart found k walk word
-on_sphere apart k None walk word none sphere e = (sphere, e)
-on_sphere apart k (Some labelled) walk word h sphere e = absurd (h.no_sphere sphere)
+-- on a sphere there are no labels
+pub on_sphere : (apart : Apart) (k : ℕ) (found : Option LabelledView) (walk : List ℕ) (OnSphere : Type 0)
+    (Under : LabelledView → List ℕ → Type 0) → IfSome found (IsOwnLabelled apart k)
+    → HasGenus (component_mesh apart.mesh.faces apart.parts k) 0 → OnSphere → Tells apart found k walk OnSphere Under
+on_sphere apart k None walk OnSphere Under none sphere told = (sphere, told)
+on_sphere apart k (Some labelled) walk OnSphere Under h sphere told = absurd (h.no_sphere sphere)
 
 pub sphere_found : (several : SeveralView) (k : ℕ) (walk : List ℕ) (found : Option Word) → AreLabelledApart several
     → k < length several.apart.parts.components → get_or several.apart.parts.places (get_or walk 0 0) 0 ≡ k
@@ -114,8 +131,9 @@ pub sphere_found : (several : SeveralView) (k : ℕ) (walk : List ℕ) (found : 
 sphere_found several k walk None is l at sphere none = none
 sphere_found several k walk (Some word) is l at sphere told = (
   told.0,
-  subst (λ (p : ℕ). IsWordAt several p walk word) (sym at)
-      (on_sphere several.apart k (labelled_at several k) walk word (is.labelled k l) sphere told.1),
+  subst (λ (p : ℕ). IsToldAt several p walk (word ≡ Turns []) (λ labelled own. IsWordUnder labelled own word)) (sym at)
+      (on_sphere several.apart k (labelled_at several k) walk (word ≡ Turns []) (λ labelled own. IsWordUnder labelled own word)
+      (is.labelled k l) sphere told.1),
 )
 
 -- what is found of a walk over its own vertices is found of it
@@ -143,7 +161,7 @@ word_found several k labelled walk own (Some word) is l at here there found =
     let under : IsWordUnder labelled (own_walk alone walk) word =
     subst (λ (w : List ℕ). IsWordUnder labelled w word) here.by_number found.1 in (
       walk_back mesh apart.parts apart.own k walk (numbered apart k is.apart l) here.there home,
-      subst (λ (p : ℕ). IsWordAt several p walk word) (sym at)
+      subst (λ (p : ℕ). IsToldAt several p walk (word ≡ Turns []) (λ labelled own. IsWordUnder labelled own word)) (sym at)
           (subst (λ (o : Option LabelledView). MatchOption o (HasGenus alone 0 × (word ≡ Turns []))
           (λ labels. IsWordUnder labels (own_walk alone walk) word)) (sym there) under),
     )

@@ -5,7 +5,7 @@
 //! numbered anew: so what it costs hangs on its own size, and not on that of the whole mesh. Who asks in the `order` that a decider tells
 //! has none labelled twice. Each answer is proved to be that of the whole mesh, in any order; that no component is labelled twice is
 //! meant, and no clause says so. A `WordFinder` keeps the labels of all that it was asked about, and gives the word of one walk, by which
-//! walks are told apart without comparing them pair by pair; it decides on a pair too.
+//! walks are told apart without comparing them pair by pair; it gives the free word of a closed walk too, and decides on pairs.
 //!
 //!     let mut decider = PairDecider::of(alloc, mesh, darts)?;
 //!     let answer = decider.answer_if_pair(&first, &second)?;
@@ -21,6 +21,7 @@ mod several;
 mod several_words;
 mod word_finder;
 
+pub use free::PlacedWord;
 pub use order::Placed;
 pub use pair_decider::PairDecider;
 pub use several::Several;

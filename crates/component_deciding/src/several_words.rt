@@ -1,18 +1,20 @@
 //! The words of walks on a surface of several components.
-ghost use Rattle.std.specs.Prelude.{◌≡◌, ◌↔◌, ℕ, List, length, slice_index_or, IfOk, None};
+ghost use Rattle.std.specs.Prelude.{◌≡◌, ℕ, List, length, slice_index_or, IfOk, None};
 ghost use Rattle.closed_surfaces.specs.SignedSurfaces.{IsSigned};
-ghost use Rattle.closed_walks.specs.FreeHomotopy.{FreelyHomotopic, IsClosedWalk};
-ghost use Rattle.component_deciding.specs.ComponentWords.{IsWordAmong};
+ghost use Rattle.closed_walks.specs.FreeHomotopy.{IsClosedWalk};
+ghost use Rattle.component_deciding.specs.ComponentWords.{IsFreeAmong, IsWordAmong};
+ghost use Rattle.component_deciding.specs.declared.free.PlacedWord.{PlacedWord};
+ghost use Rattle.free_loops.specs.FreeWords.{DoDecideFree};
 ghost use Rattle.surf_model.specs.ComponentParts.{AreParts};
 ghost use Rattle.surf_model.specs.Edges.{IsTableOf};
 ghost use Rattle.turn_words.specs.declared.word.Word.{Word};
 ghost use Rattle.walk_translate.specs.Found.{DoDecide, IsWordFound};
 
 use crate::apart::Apart;
-use crate::free::decide_free_on;
+use crate::free::{PlacedWord, free_word_on};
 use crate::own_mesh::{own_labelled, own_walk};
 use closed_surfaces::SignedMesh;
-use free_loops::FreeAnswer;
+use free_loops::FreeWord;
 use manifold_check::Parts;
 use std::alloc::{AllocError, Global};
 use std::marker::Model;
@@ -60,6 +62,7 @@ impl SeveralWords {
         ensures table { IsTableOf self.now.apart.mesh.faces result.now }
         // What holds of the words of every surface.
         ensures decide { DoDecide self.now.apart.mesh.faces (IsWordAmong self.now) }
+        ensures free { DoDecideFree self.now.apart.mesh.faces (IsFreeAmong self.now) }
     {
         &self.apart.mesh.sides
     }
@@ -90,40 +93,29 @@ impl SeveralWords {
         found
     }
 
-    /// Whether two closed walks are freely homotopic. Walks of two components are not, and those of one that is a sphere are; another
-    /// component is labelled, if it has no labels yet.
-    pub(crate) fn decide_free(
-        &mut self,
-        first: &Walk,
-        second: &Walk,
-    ) -> Result<FreeAnswer, AllocError>
-        requires first { IsClosedWalk self.old.apart.mesh.faces first.now }
-        requires second { IsClosedWalk self.old.apart.mesh.faces second.now }
+    /// The free word of a closed walk, with the place of its component, which is labelled where it is no sphere, and has no labels yet.
+    pub(crate) fn free_word(&mut self, walk: &Walk) -> Result<PlacedWord, AllocError>
+        requires { IsClosedWalk self.old.apart.mesh.faces walk.now }
         ensures same { self.new.apart ≡ self.old.apart }
-        ensures answer { IfOk result (λ answer. (answer ≡ FreeAnswer.Freely)
-            ↔ FreelyHomotopic self.old.apart.mesh.faces first.now second.now) }
+        ensures kept { (other : List ℕ) (placed : PlacedWord) → IsFreeAmong self.old other placed → IsFreeAmong self.new other placed }
+        ensures word { IfOk result (IsFreeAmong self.new walk.now) }
     {
-        let place = self.apart.parts.part_of(first.at(0));
-        if self.apart.parts.part_of(second.at(0)) != place {
-            return Ok(FreeAnswer::NotFreely);
-        }
+        let place = self.apart.parts.part_of(walk.at(0));
         if self.apart.is_sphere(place) {
-            return Ok(FreeAnswer::Freely);
+            let word = FreeWord::on_sphere(self.apart.alloc);
+            return Ok(PlacedWord { place, word });
         }
-        let Some(one) = own_walk(&self.apart, place, first)? else {
-            unreachable!()
-        };
-        let Some(other) = own_walk(&self.apart, place, second)? else {
+        let Some(own) = own_walk(&self.apart, place, walk)? else {
             unreachable!()
         };
         if let Some(labelled) = &self.labelled[place as usize] {
-            return decide_free_on(labelled, &one, &other);
+            return free_word_on(labelled, place, &own);
         }
         let labelled = own_labelled(&self.apart, place)?;
-        let answer = decide_free_on(&labelled, &one, &other);
+        let found = free_word_on(&labelled, place, &own);
         let kept = Box::new(self.apart.alloc, labelled)?;
         self.labelled[place as usize] = Some(kept);
-        answer
+        found
     }
 }
 

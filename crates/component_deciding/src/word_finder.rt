@@ -3,12 +3,14 @@
 ghost use Rattle.std.specs.Prelude.{◌≡◌, ◌↔◌, ℕ, List, IfOk};
 ghost use Rattle.closed_surfaces.specs.SignedSurfaces.{IsSigned};
 ghost use Rattle.closed_walks.specs.FreeHomotopy.{FreelyHomotopic, IsClosedWalk};
-ghost use Rattle.component_deciding.specs.WordFinders.{IsWordIn, mesh_of_finder};
+ghost use Rattle.component_deciding.specs.WordFinders.{IsFreeIn, IsWordIn, mesh_of_finder};
+ghost use Rattle.component_deciding.specs.declared.free.PlacedWord.{PlacedWord};
+ghost use Rattle.free_loops.specs.FreeWords.{DoDecideFree};
 ghost use Rattle.surf_model.specs.Edges.{IsTableOf};
 ghost use Rattle.turn_words.specs.declared.word.Word.{Word};
 ghost use Rattle.walk_translate.specs.Found.{DoDecide, IsFoundOn, IsWordFound};
 
-use crate::free::decide_free_on;
+use crate::free::{PlacedWord, free_word_on};
 use crate::several_words::SeveralWords;
 use closed_surfaces::{SignedMesh, connected};
 use free_loops::FreeAnswer;
@@ -51,9 +53,14 @@ impl WordFinder {
         ensures table { IsTableOf (mesh_of_finder self.now) result.now }
         // What holds of the words that every finder gives.
         ensures decide { DoDecide (mesh_of_finder self.now) (IsWordIn self.now) }
+        ensures free { DoDecideFree (mesh_of_finder self.now) (IsFreeIn self.now) }
     {
         match self {
-            WordFinder::Whole(labelled) => labelled.sides(),
+            WordFinder::Whole(labelled) => {
+                // The proof reads what holds of every labelled surface.
+                let _ = labelled.labels();
+                labelled.sides()
+            }
             WordFinder::Several(several) => several.sides(),
         }
     }
@@ -97,7 +104,20 @@ impl WordFinder {
         }
     }
 
-    /// Whether two closed walks are freely homotopic.
+    /// The free word of a closed walk, with the place of its component. Free words that were given before stay those of their walks.
+    pub fn free_word(&mut self, walk: &Walk) -> Result<PlacedWord, AllocError>
+        requires { IsClosedWalk (mesh_of_finder self.old) walk.now }
+        ensures same { mesh_of_finder self.new ≡ mesh_of_finder self.old }
+        ensures kept { (other : List ℕ) (placed : PlacedWord) → IsFreeIn self.old other placed → IsFreeIn self.new other placed }
+        ensures word { IfOk result (IsFreeIn self.new walk.now) }
+    {
+        match self {
+            WordFinder::Whole(labelled) => free_word_on(labelled, 0, walk),
+            WordFinder::Several(several) => several.free_word(walk),
+        }
+    }
+
+    /// Decides by their free words whether two closed walks are freely homotopic.
     pub fn decide_free(&mut self, first: &Walk, second: &Walk) -> Result<FreeAnswer, AllocError>
         requires first { IsClosedWalk (mesh_of_finder self.old) first.now }
         requires second { IsClosedWalk (mesh_of_finder self.old) second.now }
@@ -105,9 +125,14 @@ impl WordFinder {
         ensures answer { IfOk result (λ answer. (answer ≡ FreeAnswer.Freely)
             ↔ FreelyHomotopic (mesh_of_finder self.old) first.now second.now) }
     {
-        match self {
-            WordFinder::Whole(labelled) => decide_free_on(labelled, first, second),
-            WordFinder::Several(several) => several.decide_free(first, second),
+        let one = self.free_word(first)?;
+        let other = self.free_word(second)?;
+        // The proof reads what holds of every free word.
+        let _ = self.sides();
+        if one.is_same(&other) {
+            Ok(FreeAnswer::Freely)
+        } else {
+            Ok(FreeAnswer::NotFreely)
         }
     }
 }

@@ -27,7 +27,7 @@ abbrev pub IsFreeWordUnder : FaceList → Option LabellingView → List ℕ → 
 IsFreeWordUnder mesh labels walk word = MatchOption labels (word ≡ Ring []) (λ labelling. IsFreeWordOf mesh labelling walk word)
 
 -- free words decide: two closed walks are freely homotopic exactly where their free words are one
-abbrev pub DoDecideFree : FaceList → (List ℕ → FreeWord → Type 0) → Type 0
-DoDecideFree mesh IsWord =
-    (first second : List ℕ) (one other : FreeWord) → IsClosedWalk mesh first → IsClosedWalk mesh second → IsWord first one
+abbrev pub DoDecideFree : {Word : Type 0} → FaceList → (List ℕ → Word → Type 0) → Type 0
+DoDecideFree {Word} mesh IsWord =
+    (first second : List ℕ) (one other : Word) → IsClosedWalk mesh first → IsClosedWalk mesh second → IsWord first one
     → IsWord second other → FreelyHomotopic mesh first second ↔ (one ≡ other)

@@ -46,6 +46,16 @@ pub enum FreeWord {
     Point { x: i64, y: i64 },
 }
 
+impl FreeWord {
+    /// That of each closed walk on a sphere. It takes no memory.
+    pub fn on_sphere(alloc: Global) -> FreeWord
+        ensures { result ≡ FreeWord.Ring [] }
+    {
+        let spokes = Vec::new(alloc);
+        FreeWord::Ring(FreeRing { spokes })
+    }
+}
+
 /// The free word of a closed walk of a labelled surface; a sphere has no labels. Two closed walks are freely homotopic exactly where
 /// their free words are one.
 pub fn free_word(
@@ -63,9 +73,7 @@ pub fn free_word(
     // The proof reads what holds of every surface.
     let _ = surface.faces();
     match labels {
-        None => Ok(FreeWord::Ring(FreeRing {
-            spokes: Vec::new(alloc),
-        })),
+        None => Ok(FreeWord::on_sphere(alloc)),
         Some(good) => free_word_of(alloc, surface, good, walk),
     }
 }
