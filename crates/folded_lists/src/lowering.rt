@@ -12,6 +12,7 @@ pub fn lower(alloc: Global, faces: &Faces, list: &MoveList) -> Result<MoveList, 
     ensures leads { IfOk result (LeadsBelow faces.now list.now) }
     ensures lifts { IfOk result (LeadsBelowLifts faces.now list.now) }
     ensures many { IfOk result (λ below. length below.moves ≡ length list.now.moves) }
+    ensures peak { IfOk result (λ below. below.peak ≡ list.now.peak) }
 {
     // The proof reads what holds of every face list.
     let _ = faces.len();

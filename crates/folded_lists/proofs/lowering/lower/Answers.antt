@@ -1,4 +1,4 @@
-use Rattle.folded_lists.proofs.Common.{lower_move, ◌≡◌, ◌∙◌, length, arith, get_or_from_slice_get}
+use Rattle.folded_lists.proofs.Common.{lower_move, ◌≡◌, ◌∙◌, length, arith, get_or_from_slice_get, ap, PeakedMoves}
 use Rattle.folded_lists.proofs.LoweredLemmas.{all_lowered, leads_below, leads_below_lifts, length-lower_list, lower_list, lowered_more}
 use Rattle.folded_lists.proofs.lowering.lower.Goals as goal
 
@@ -22,3 +22,6 @@ returns-clause-lifts c = leads_below_lifts c.args.faces.now c.args.list.now c.lo
 
 pub returns-clause-many : goal.returns-clause-many
 returns-clause-many c = length-lower_list c.args.faces.now c.args.list.now c.loop-k.below (below_is c)
+
+pub returns-clause-peak : goal.returns-clause-peak
+returns-clause-peak c = ap (λ (l : PeakedMoves). l.peak) c.loop-k.invariant
