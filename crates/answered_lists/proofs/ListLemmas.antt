@@ -1,7 +1,7 @@
 -- What is found above a mesh, on its double or its cover, is found on the mesh.
 use Rattle.std.proofs.Common.{◌≡◌, ◌≤◌, ◌∙◌, ◌-◌, false, List, ℕ, Option, Some, None, sym, subst, ap, arith}
 use Rattle.std.specs.Option.{option_map}
-use Rattle.answered_lists.specs.AnsweredLists.{own_mesh}
+use Rattle.answered_lists.specs.AnsweredLists.{mesh_given}
 use Rattle.certify_commands.proofs.Certifying.{convinces_decides}
 use Rattle.certify_commands.specs.Certify.{IsWithinLimits, certify_limits, limit_word}
 use Rattle.commands.proofs.LimitLemmas.{fitting}
@@ -72,7 +72,8 @@ module _ (kept : CoveredMesh) (first second one two : List ℕ) (covered : IsCov
   as_long : (walk lift : List ℕ) → lift ≡ lift_by kept.mesh.faces kept.ways walk → darts lift ≡ darts walk
   as_long walk lift e =
       ap darts e
-      ∙ ap (λ (n : ℕ). n - 1) (length-lifted (turns_by kept.mesh.faces (told_by kept.mesh.faces kept.ways)) kept.mesh.faces.count false walk)
+      ∙ ap (λ (n : ℕ). n - 1)
+      (length-lifted (turns_by kept.mesh.faces (told_by kept.mesh.faces kept.ways)) kept.mesh.faces.count false walk)
 
   pub limits_above : IsWithinLimits kept.cover.faces first second → IsWithinLimits kept.cover.faces one two
   limits_above within = record {
@@ -109,8 +110,8 @@ module _ (kept : CoveredMesh) (first second one two : List ℕ) (covered : IsCov
 
 -- ---- the double
 
-pub pair_on_closed : (closed : FaceList) (own : Option TabledMesh) (first second : List ℕ) → IsOwnFor (own_mesh closed own) closed own
-    → AreWalkPair (own_mesh closed own) first second → AreWalkPair closed first second
+pub pair_on_closed : (closed : FaceList) (own : Option TabledMesh) (first second : List ℕ) → IsOwnFor (mesh_given closed own) closed own
+    → AreWalkPair (mesh_given closed own) first second → AreWalkPair closed first second
 pair_on_closed closed None first second own are = are
 pair_on_closed closed (Some kept) first second own are =
     subst (λ (m : FaceList). AreWalkPair m first second) (sym own.is_double) (record {
@@ -119,8 +120,8 @@ pair_on_closed closed (Some kept) first second own are =
       ends = are.ends;
     })
 
-pub none_on_closed : (closed : FaceList) (own : Option TabledMesh) (first second : List ℕ) → IsOwnFor (own_mesh closed own) closed own
-    → AreWalkPair (own_mesh closed own) first second → (Homotopic closed first second → ⊥) → Homotopic (own_mesh closed own) first second
+pub none_on_closed : (closed : FaceList) (own : Option TabledMesh) (first second : List ℕ) → IsOwnFor (mesh_given closed own) closed own
+    → AreWalkPair (mesh_given closed own) first second → (Homotopic closed first second → ⊥) → Homotopic (mesh_given closed own) first second
     → ⊥
 none_on_closed closed None first second own are none h = none h
 none_on_closed closed (Some kept) first second own are none h =
@@ -138,10 +139,10 @@ folded_on_some closed kept first second list below own are found leads low = (
 )
 
 pub folded_on_own : (closed : FaceList) (own : Option TabledMesh) (kept : TabledMesh) (first second : List ℕ) (list below : PeakedMoves)
-    → own ≡ Some kept → IsOwnFor (own_mesh closed own) closed own → AreWalkPair (own_mesh closed own) first second
+    → own ≡ Some kept → IsOwnFor (mesh_given closed own) closed own → AreWalkPair (mesh_given closed own) first second
     → LeadsAtPeak closed first list second × (list.peak ≤ MOST_SHOWN_PEAK) → LeadsFolded kept.faces first list below
-    → below.peak ≤ list.peak → LeadsAtPeak (own_mesh closed own) first below second × (below.peak ≤ MOST_SHOWN_PEAK)
+    → below.peak ≤ list.peak → LeadsAtPeak (mesh_given closed own) first below second × (below.peak ≤ MOST_SHOWN_PEAK)
 folded_on_own closed own kept first second list below e is are found leads low =
-    subst (λ (o : Option TabledMesh). LeadsAtPeak (own_mesh closed o) first below second × (below.peak ≤ MOST_SHOWN_PEAK)) (sym e)
-    (folded_on_some closed kept first second list below (subst (λ (o : Option TabledMesh). IsOwnFor (own_mesh closed o) closed o) e is)
-    (subst (λ (o : Option TabledMesh). AreWalkPair (own_mesh closed o) first second) e are) found leads low)
+    subst (λ (o : Option TabledMesh). LeadsAtPeak (mesh_given closed o) first below second × (below.peak ≤ MOST_SHOWN_PEAK)) (sym e)
+    (folded_on_some closed kept first second list below (subst (λ (o : Option TabledMesh). IsOwnFor (mesh_given closed o) closed o) e is)
+    (subst (λ (o : Option TabledMesh). AreWalkPair (mesh_given closed o) first second) e are) found leads low)

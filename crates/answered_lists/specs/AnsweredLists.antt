@@ -20,13 +20,13 @@ mesh_answering (answers.Itself kept) = kept.faces
 mesh_answering (answers.Covered kept) = kept.cover.faces
 
 -- the mesh that is kept with its table, or else the closed manifold
-abbrev pub own_mesh : FaceList → Option TabledMesh → FaceList
-own_mesh closed None = closed
-own_mesh closed (Some own) = own.faces
+abbrev pub mesh_given : FaceList → Option TabledMesh → FaceList
+mesh_given closed None = closed
+mesh_given closed (Some own) = own.faces
 
 -- the mesh of a surface
 abbrev pub mesh_of_surface : AnsweredSurface → FaceList
-mesh_of_surface surface = own_mesh (mesh_of_answered surface.closed) surface.own
+mesh_of_surface surface = mesh_given (mesh_of_answered surface.closed) surface.own
 
 -- the surface is what answers for its mesh
 abbrev pub AnswersForItsMesh : AnsweredSurface → Type 0

@@ -17,7 +17,7 @@ ghost use Rattle.surf_model.specs.declared.limits.TheConstants.{MOST_PEAK};
 ghost use Rattle.certify_commands.specs.Certify.{IsWithinLimits, certify_limits};
 ghost use Rattle.closed_surfaces.specs.SignedSurfaces.{IsSigned};
 ghost use Rattle.commands.specs.Limits.{first_over};
-ghost use Rattle.compact_surfaces.specs.Answered.{IsAnswered, IsCovered, mesh_of_answered};
+ghost use Rattle.compact_surfaces.specs.Answered.{IsAnsweredManifold, IsCovered, mesh_of_answered};
 ghost use Rattle.doubling.specs.Doubles.{double_of};
 ghost use Rattle.folded_lists.specs.FoldedLists.{LeadsFolded};
 ghost use Rattle.answered_lists.specs.AnsweredLists.{AnswersForItsMesh, IsListFault, IsListFound, mesh_answering, mesh_of_surface};
@@ -53,9 +53,9 @@ impl From<AllocError> for ListFault {
     }
 }
 
-/// A list of moves that leads on a compact surface from the first of two walks with common ends to the second, or `None` where they are not
-/// homotopic. It takes the time and the memory of `find_certificate` on the surface that answers, and for a surface with boundary its double
-/// a second time.
+/// A list of moves that leads on a compact surface from the first of two walks with common ends to the second, or `None` where they are
+/// not homotopic. It takes the time and the memory of `find_certificate` on the surface that answers, and for a surface with boundary its
+/// double a second time.
 pub fn list_if_homotopic(
     alloc: Global,
     surface: AnsweredSurface,
@@ -100,7 +100,7 @@ fn list_on_closed(
     first: &Walk,
     second: &Walk,
 ) -> Result<Option<MoveList>, AllocError>
-    requires answered { IsAnswered closed }
+    requires answered { IsAnsweredManifold closed }
     requires walks { AreWalkPair (mesh_of_answered closed) first.now second.now }
     requires limits { IsWithinLimits (mesh_answering closed) first.now second.now }
     ensures { IfOk result (IsListFound (mesh_of_answered closed) first.now second.now) }

@@ -17,7 +17,7 @@ use Rattle.compact_surfaces.specs.declared.covered_mesh.CoveredMesh.{CoveredMesh
 use Rattle.compact_surfaces.specs.declared.covered_mesh.TabledMesh.{TabledMesh}
 
 -- a closed manifold with its table, of which no signs are coherent
-pub record IsTwisted (kept : TabledMesh) : Type 0 where
+pub record IsUnsigned (kept : TabledMesh) : Type 0 where
   pub valid : IsFaceList kept.faces
   pub table : IsTableOf kept.faces kept.sides
   pub manifold : IsClosedManifold kept.faces
@@ -25,7 +25,7 @@ pub record IsTwisted (kept : TabledMesh) : Type 0 where
 
 -- such a manifold with its orientation cover, by ways round its vertices
 pub record IsCovered (kept : CoveredMesh) : Type 0 where
-  pub twisted : IsTwisted kept.mesh
+  pub twisted : IsUnsigned kept.mesh
   pub ways : AreWays kept.mesh.faces kept.ways
   pub is_cover : kept.cover.faces ≡ cover_by kept.mesh.faces kept.ways
   pub signed : IsSigned kept.cover
@@ -33,7 +33,7 @@ pub record IsCovered (kept : CoveredMesh) : Type 0 where
 -- a closed manifold, with signs where it has some
 abbrev pub IsClosedMesh : ClosedMesh → Type 0
 IsClosedMesh (closed_meshes.Signed kept) = IsSigned kept
-IsClosedMesh (closed_meshes.Twisted kept) = IsTwisted kept
+IsClosedMesh (closed_meshes.Twisted kept) = IsUnsigned kept
 
 -- its mesh
 abbrev pub mesh_of_closed : ClosedMesh → FaceList
@@ -41,9 +41,9 @@ mesh_of_closed (closed_meshes.Signed kept) = kept.faces
 mesh_of_closed (closed_meshes.Twisted kept) = kept.faces
 
 -- a closed manifold that answers for itself, or by its cover
-abbrev pub IsAnswered : AnsweredManifold → Type 0
-IsAnswered (answers.Itself kept) = IsSigned kept
-IsAnswered (answers.Covered kept) = IsCovered kept
+abbrev pub IsAnsweredManifold : AnsweredManifold → Type 0
+IsAnsweredManifold (answers.Itself kept) = IsSigned kept
+IsAnsweredManifold (answers.Covered kept) = IsCovered kept
 
 -- its mesh
 abbrev pub mesh_of_answered : AnsweredManifold → FaceList
@@ -66,4 +66,4 @@ IsOwnFor mesh closed (Some own) = IsOwn mesh closed own
 -- what answers for a compact surface
 pub record IsAnsweredBy (mesh : FaceList) (kept : AnsweredSurface) : Type 0 where
   pub own : IsOwnFor mesh (mesh_of_answered kept.closed) kept.own
-  pub answered : IsAnswered kept.closed
+  pub answered : IsAnsweredManifold kept.closed

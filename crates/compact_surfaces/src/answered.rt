@@ -6,7 +6,7 @@ ghost use Rattle.surf_model.specs.Surfaces.{IsClosedManifold};
 ghost use Rattle.doubling.specs.DoubleFaults.{IsBeyond};
 ghost use Rattle.doubling.specs.Doubles.{double_of};
 ghost use Rattle.doubling.specs.declared.fault.DoubleFault.{DoubleFault};
-ghost use Rattle.compact_surfaces.specs.Answered.{IsAnswered, IsAnsweredBy, IsClosedMesh, IsOwnFor, mesh_of_answered, mesh_of_closed};
+ghost use Rattle.compact_surfaces.specs.Answered.{IsAnsweredManifold, IsAnsweredBy, IsClosedMesh, IsOwnFor, mesh_of_answered, mesh_of_closed};
 ghost use Rattle.compact_surfaces.specs.CompactSurfaces.{IsCompactSurface};
 ghost use Rattle.compact_surfaces.specs.Faults.{IsCoverBeyond, IsFirstCompactFault, IsFaultBehind, IsUncoveredFault};
 ghost use Rattle.compact_surfaces.specs.declared.fault.CompactFault.{CompactFault};
@@ -63,7 +63,7 @@ impl AnsweredSurface {
 fn answered(alloc: Global, closed: ClosedMesh) -> Result<AnsweredManifold, CompactFault>
     requires { IsClosedMesh closed }
     ensures mesh { IfOk result (λ kept. mesh_of_answered kept ≡ mesh_of_closed closed) }
-    ensures answered { IfOk result IsAnswered }
+    ensures answered { IfOk result IsAnsweredManifold }
     ensures fault { IfErr result (IsFaultBehind (λ limit. CompactFault.Cover limit) (IsCoverBeyond (mesh_of_closed closed))) }
     ensures fits { OnOk result ((fault : DoubleFault) → IsCoverBeyond (mesh_of_closed closed) fault → ⊥) }
 {

@@ -2,7 +2,7 @@
 ghost use Rattle.std.specs.Prelude.{◌≡◌, IfOk, IfErr, OnOk};
 ghost use Rattle.closed_surfaces.specs.SignedSurfaces.{surface_no_memory};
 ghost use Rattle.doubling.specs.declared.fault.DoubleFault.{DoubleFault};
-ghost use Rattle.compact_surfaces.specs.Answered.{IsCovered, IsTwisted};
+ghost use Rattle.compact_surfaces.specs.Answered.{IsCovered, IsUnsigned};
 ghost use Rattle.compact_surfaces.specs.Faults.{IsCoverBeyond, IsFaultBehind};
 ghost use Rattle.doubling.specs.DoubleFaults.{IsTooLarge};
 ghost use Rattle.orientation_cover.specs.Turns.{cover_by};
@@ -33,7 +33,7 @@ pub struct CoveredMesh {
 impl CoveredMesh {
     /// Makes the cover; or there is none, as it would be beyond this limit.
     pub(crate) fn of(alloc: Global, mesh: TabledMesh) -> Result<CoveredMesh, CompactFault>
-        requires { IsTwisted mesh }
+        requires { IsUnsigned mesh }
         ensures mesh { IfOk result (λ covered. covered.mesh ≡ mesh) }
         ensures covered { IfOk result IsCovered }
         ensures fault { IfErr result (IsFaultBehind (λ limit. CompactFault.Cover limit) (IsCoverBeyond mesh.faces)) }

@@ -6,7 +6,7 @@ ghost use Rattle.closed_walks.specs.FreeHomotopy.{FreelyHomotopic, IsClosedWalk}
 ghost use Rattle.walk_classes.specs.Faults.{IsClassFault};
 ghost use Rattle.walk_classes.specs.WalkClasses.{AreClasses};
 ghost use Rattle.walk_translate.specs.Found.{IsFoundOn};
-ghost use Rattle.compact_surfaces.specs.Answered.{IsAnswered, mesh_of_answered};
+ghost use Rattle.compact_surfaces.specs.Answered.{IsAnsweredManifold, mesh_of_answered};
 ghost use Rattle.compact_surfaces.specs.Manifolds.{has_signs, mesh_of_manifold};
 
 use crate::answered::AnsweredManifold;
@@ -32,7 +32,7 @@ impl ClosedManifold {
         alloc: Global,
         answered: AnsweredManifold,
     ) -> Result<ClosedManifold, AllocError>
-        requires { IsAnswered answered }
+        requires { IsAnsweredManifold answered }
         ensures mesh { IfOk result (λ manifold. mesh_of_manifold manifold ≡ mesh_of_answered answered) }
         ensures signs { IfOk result (λ manifold. (has_signs manifold ≡ true) ↔ IsOrientable (mesh_of_manifold manifold)) }
     {
