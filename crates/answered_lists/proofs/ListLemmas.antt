@@ -121,7 +121,8 @@ pair_on_closed closed (Some kept) first second own are =
     })
 
 pub none_on_closed : (closed : FaceList) (own : Option TabledMesh) (first second : List ℕ) → IsOwnFor (mesh_given closed own) closed own
-    → AreWalkPair (mesh_given closed own) first second → (Homotopic closed first second → ⊥) → Homotopic (mesh_given closed own) first second
+    → AreWalkPair (mesh_given closed own) first second → (Homotopic closed first second → ⊥)
+    → Homotopic (mesh_given closed own) first second
     → ⊥
 none_on_closed closed None first second own are none h = none h
 none_on_closed closed (Some kept) first second own are none h =

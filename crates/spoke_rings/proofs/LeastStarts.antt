@@ -134,7 +134,8 @@ leads-rotation x start rival same even c ended =
           let half : r.count ≡ 2 * (r.count / 2) = omega arith in
           let less = before.less in
           let long = rotated-length x start within in
-          let inside : before.place < length x = inside_of (rotated start x) before.place (length x) (get_or other before.place 0) long less in
+          let inside : before.place < length x =
+          inside_of (rotated start x) before.place (length x) (get_or other before.place 0) long less in
           let at : (k : ℕ) → k < length x → get_or other k 0 ≡ from f (2 * (r.count / 2)) k =
           λ k l. (let e : k + r.count ≡ 2 * (r.count / 2) + k = omega arith in
           ap (λ (s : List ℕ). get_or s k 0) r.is ∙ rotated-at x r.count k r.within l ∙ ap f e) in
