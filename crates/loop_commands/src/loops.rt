@@ -27,7 +27,7 @@ pub fn loops<S: Shelf>(alloc: Global, shelf: &mut S, mesh: &str, walks: &str) ->
     Ok(reply_on(decision))
 }
 
-/// Whether two closed walks of a surface are freely homotopic. Only their component is labelled.
+/// Whether two closed walks of a surface are freely homotopic. Only the components of the two are labelled.
 fn decide_on(
     alloc: Global,
     surface: SignedMesh,
